@@ -1,0 +1,4 @@
+pub mod Signed
+pub mod Shapes
+pub mod Determined
+pub mod Unique

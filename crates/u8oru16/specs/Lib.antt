@@ -1,0 +1,4 @@
+pub mod Signed
+pub mod Value
+pub mod Negated
+pub mod Answers

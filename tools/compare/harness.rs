@@ -1,0 +1,340 @@
+//! Answers cases with the bought Rust itself, so that our own program can be held to what it does and not to what we think it
+//! does. README.md fixes the lines. `build` puts this file beside u8oru16.rs and registers.rs.
+
+use std::io::{self, BufRead, BufReader, BufWriter, Write};
+use std::panic::{self, AssertUnwindSafe};
+use std::process::ExitCode;
+
+// The bought files lean on these macros of their own program's root, which is not among the sources. Only `xor!` takes part in an
+// answer (V of `shl_u8` and `rol_u8`); the colours belong to Display, which no case calls.
+macro_rules! xor {
+    ($a:expr, $b:expr) => {
+        $a != $b
+    };
+}
+macro_rules! green {
+    ($text:literal) => {
+        $text
+    };
+}
+macro_rules! blue {
+    ($text:literal) => {
+        $text
+    };
+}
+
+// The fields of CCInfo are private, and a child module may read them: `build` appends `probe!();` to its copy of registers.rs.
+macro_rules! probe {
+    () => {
+        pub mod probe {
+            pub fn info(bit: super::CCBit) -> (u8, char, &'static str) {
+                let info = bit.info();
+                (info.mask, info.short, info.name)
+            }
+        }
+    };
+}
+
+mod registers;
+mod u8oru16;
+
+use registers::{reg_size, CCBit, CCBits, Name, Set};
+use u8oru16::u8u16;
+
+const FLAGS: [CCBit; 8] = [CCBit::C, CCBit::V, CCBit::Z, CCBit::N, CCBit::I, CCBit::H, CCBit::F, CCBit::E];
+const REGISTERS: [Name; 10] =
+    [Name::A, Name::B, Name::D, Name::X, Name::Y, Name::U, Name::S, Name::PC, Name::DP, Name::CC];
+
+/// What is wrong with a line. A case outside the table is an error of whoever made it and gets no answer that could be compared.
+type Malformed = &'static str;
+/// The three words after the answer's number.
+type Answer = Result<[u16; 3], Malformed>;
+
+/// The words of a case, taken one after the other in the order of the table.
+struct Words {
+    words: [u16; 4],
+    taken: usize,
+}
+
+impl Words {
+    fn word(&mut self) -> u16 {
+        self.taken += 1;
+        self.words[self.taken - 1]
+    }
+    fn byte(&mut self) -> Result<u8, Malformed> { u8::try_from(self.word()).map_err(|_| "a byte above FF") }
+    fn truth(&mut self) -> Result<bool, Malformed> {
+        match self.word() {
+            0 => Ok(false),
+            1 => Ok(true),
+            _ => Err("a bool that is neither 0 nor 1"),
+        }
+    }
+    fn value(&mut self) -> Result<u8u16, Malformed> {
+        match self.word() {
+            1 => Ok(u8u16::u8(self.byte()?)),
+            2 => Ok(u8u16::u16(self.word())),
+            _ => Err("a size that is neither 1 nor 2"),
+        }
+    }
+    fn cc(&mut self) -> Result<CCBits, Malformed> { Ok(CCBits { reg: self.byte()? }) }
+    fn flag(&mut self) -> Result<CCBit, Malformed> {
+        FLAGS.get(self.word() as usize).copied().ok_or("a flag above 7")
+    }
+    fn register(&mut self) -> Result<Name, Malformed> { register(self.word()) }
+    fn set(&mut self) -> Set { seeded(self.word()) }
+    /// What a line does not use is 0000: anything else there means that its maker and this table disagree.
+    fn rest_is_zero(&self) -> bool { self.words[self.taken..].iter().all(|&word| word == 0) }
+}
+
+fn register(number: u16) -> Result<Name, Malformed> {
+    REGISTERS.get(number as usize).copied().ok_or("a register above 9")
+}
+
+/// Each register gets a number of its own, so that a read of the wrong one shows.
+fn seeded(n: u16) -> Set {
+    let (a, b) = ((n % 256) as u8, (n / 256) as u8);
+    Set {
+        a,
+        b,
+        d: 256 * a as u16 + b as u16,
+        x: n.wrapping_add(1),
+        y: n.wrapping_add(2),
+        u: n.wrapping_add(3),
+        s: n.wrapping_add(4),
+        pc: n.wrapping_add(5),
+        dp: (n.wrapping_add(6) % 256) as u8,
+        cc: CCBits { reg: (n.wrapping_add(7) % 256) as u8 },
+    }
+}
+
+fn sized(v: u8u16) -> [u16; 3] { flagged((v, false)) }
+
+/// The enum is taken apart by hand: `size` and `u16` are themselves among the functions compared.
+fn flagged((v, flag): (u8u16, bool)) -> [u16; 3] {
+    match v {
+        u8u16::u8(b) => [1, b as u16, flag as u16],
+        u8u16::u16(n) => [2, n, flag as u16],
+    }
+}
+
+fn single(n: impl Into<u16>) -> Answer { Ok([n.into(), 0, 0]) }
+
+/// The bytes of a name are asked for one by one: a word holds no text.
+fn letter(name: &str, index: u16) -> u16 { name.as_bytes().get(index as usize).copied().unwrap_or(0) as u16 }
+
+fn on_byte(w: &mut Words, f: fn(&mut CCBits, u8) -> u8) -> Answer {
+    let (mut cc, a) = (w.cc()?, w.byte()?);
+    Ok([f(&mut cc, a) as u16, cc.reg as u16, 0])
+}
+
+fn on_bytes<R: Into<u16>>(w: &mut Words, f: fn(&mut CCBits, u8, u8) -> R) -> Answer {
+    let (mut cc, a, b) = (w.cc()?, w.byte()?, w.byte()?);
+    Ok([f(&mut cc, a, b).into(), cc.reg as u16, 0])
+}
+
+fn on_bytes_with_carry(w: &mut Words, f: fn(&mut CCBits, u8, u8, bool) -> u8) -> Answer {
+    let (mut cc, a, b, carry) = (w.cc()?, w.byte()?, w.byte()?, w.truth()?);
+    Ok([f(&mut cc, a, b, carry) as u16, cc.reg as u16, 0])
+}
+
+fn on_words(w: &mut Words, f: fn(&mut CCBits, u16, u16) -> u16) -> Answer {
+    let (mut cc, a, b) = (w.cc()?, w.word(), w.word());
+    Ok([f(&mut cc, a, b), cc.reg as u16, 0])
+}
+
+fn changed(w: &mut Words, f: impl Fn(&mut CCBits, &mut Words) -> Result<(), Malformed>) -> Answer {
+    let mut cc = w.cc()?;
+    f(&mut cc, w)?;
+    single(cc.reg)
+}
+
+/// The call that a case asks for. A panic of the Rust passes through: `respond` knows which of them are refusals.
+fn call(function: u16, w: &mut Words) -> Answer {
+    match function {
+        0x00 => {
+            let (lsb, wide, msb) = (w.byte()?, w.truth()?, w.byte()?);
+            Ok(sized(u8u16::new(lsb, wide.then_some(msb))))
+        }
+        0x01 => single(w.value()?.size()),
+        0x02 => Ok(sized(u8u16::from_u16_shrink(w.word()))),
+        0x03 => single(w.value()?.is_u8()),
+        0x04 => single(w.value()?.u16()),
+        0x05 => single(w.value()?.u8()),
+        0x06 => single(w.value()?.lsb()),
+        0x07 => Ok(w.value()?.msb().map_or([0, 0, 0], |high| [1, high as u16, 0])),
+        0x08 => {
+            let (v, length, fill) = (w.value()?, w.word() as usize, w.byte()?);
+            let mut bytes = [0; 4];
+            let buffer = bytes.get_mut(..length).ok_or("a buffer of more than 4 bytes")?;
+            buffer.fill(fill);
+            let count = v.get_as_bytes(buffer) as u16;
+            Ok([count, u16::from_be_bytes([bytes[0], bytes[1]]), u16::from_be_bytes([bytes[2], bytes[3]])])
+        }
+        0x09 => single(w.value()?.i16() as u16),
+        0x0A => Ok(sized(w.value()?.twos_complement())),
+        0x0B => Ok(flagged(w.value()?.overflowing_negate())),
+        0x0C => {
+            let (v, negative) = (w.value()?, w.truth()?);
+            Ok(flagged(v.force_signed(negative)))
+        }
+        0x0D => Ok(sized(w.value()?.sign_extended())),
+        0x0E..=0x10 => {
+            let (left, right) = (w.value()?, w.value()?);
+            Ok(sized(match function {
+                0x0E => left.signed_offset(right),
+                0x0F => left.div(right),
+                _ => left.modulo(right),
+            }))
+        }
+        0x20 => {
+            let (bit, index) = (w.flag()?, w.word());
+            let (mask, short, name) = registers::probe::info(bit);
+            Ok([mask as u16, short as u16, letter(name, index)])
+        }
+        0x21 => changed(w, |cc, w| Ok(cc.set(w.flag()?, w.truth()?))),
+        0x22 => {
+            let (cc, bit) = (w.cc()?, w.flag()?);
+            single(cc.is_set(bit))
+        }
+        0x23 => changed(w, |cc, w| Ok(cc.set_from_byte(w.byte()?))),
+        0x24 => changed(w, |cc, w| Ok(cc.or_with_byte(w.byte()?))),
+        0x25 => single(w.cc()?.get_as_byte()),
+        0x26 => changed(w, |cc, _| Ok(cc.reset())),
+        0x27 => on_bytes_with_carry(w, CCBits::add_u8),
+        0x28 => on_words(w, CCBits::add_u16),
+        0x29 => on_bytes_with_carry(w, CCBits::sub_u8),
+        0x2A => on_words(w, CCBits::sub_u16),
+        0x2B => on_byte(w, CCBits::dec_u8),
+        0x2C => on_byte(w, CCBits::inc_u8),
+        0x2D => on_bytes(w, CCBits::and_u8),
+        0x2E => on_words(w, CCBits::and_u16),
+        0x2F => on_bytes(w, CCBits::or_u8),
+        0x30 => on_bytes(w, CCBits::xor_u8),
+        0x31 => on_byte(w, CCBits::com_u8),
+        0x32 => on_byte(w, CCBits::neg_u8),
+        0x33 => on_bytes(w, |cc, a, b| {
+            cc.cmp_u8(a, b);
+            0u16
+        }),
+        0x34 => on_words(w, |cc, a, b| {
+            cc.cmp_u16(a, b);
+            0
+        }),
+        0x35 => on_byte(w, CCBits::shl_u8),
+        0x36 => {
+            let (mut cc, a, keep) = (w.cc()?, w.byte()?, w.truth()?);
+            Ok([cc.shr_u8(a, keep) as u16, cc.reg as u16, 0])
+        }
+        0x37 => on_byte(w, CCBits::rol_u8),
+        0x38 => on_byte(w, CCBits::ror_u8),
+        0x39 => on_bytes(w, CCBits::mul),
+        0x3A => single(reg_size(w.register()?)),
+        0x3B => {
+            let (name, index) = (w.register()?, w.word());
+            single(letter(name.to_str(), index))
+        }
+        0x3C => {
+            let (read, mut set) = (w.register()?, w.set());
+            set.reset();
+            Ok(sized(set.get_register(read)))
+        }
+        0x3D => {
+            let (both, v, mut set) = (w.word(), w.value()?, w.set());
+            let (written, read) = (register(both / 16)?, register(both % 16)?);
+            set.set_register(written, v);
+            Ok(sized(set.get_register(read)))
+        }
+        _ => Err("a function that the table does not have"),
+    }
+}
+
+/// Document 01's number for a panic that it makes a refusal. Function and message both have to fit: a panic of this program, or
+/// one that document 01 does not know, is not to pass for a refusal.
+fn refusal(function: u16, message: &str) -> Option<u16> {
+    match function {
+        0x0F if message == "attempt to divide by zero" => Some(13),
+        0x10 if message == "attempt to calculate the remainder with a divisor of zero" => Some(13),
+        0x0E if message == "assertion failed: !self.is_u8()" => Some(14),
+        0x08 if message.starts_with("index out of bounds") => Some(15),
+        _ => None,
+    }
+}
+
+/// Capitals alone: a line has one spelling, so that the two programs cannot differ in what they let pass.
+fn hexadecimal(text: &[u8]) -> Option<u16> {
+    text.iter().try_fold(0, |n, &digit| match digit {
+        b'0'..=b'9' => Some(n << 4 | (digit - b'0') as u16),
+        b'A'..=b'F' => Some(n << 4 | (digit - b'A' + 10) as u16),
+        _ => None,
+    })
+}
+
+fn parse(line: &[u8]) -> Option<(u16, Words)> {
+    if line.len() != 23 || line[22] != b'\n' {
+        return None;
+    }
+    let mut words = [0; 4];
+    for (word, text) in words.iter_mut().zip(line[2..22].chunks(5)) {
+        if text[0] != b' ' {
+            return None;
+        }
+        *word = hexadecimal(&text[1..])?;
+    }
+    Some((hexadecimal(&line[..2])?, Words { words, taken: 0 }))
+}
+
+fn respond(line: &[u8]) -> Result<[u16; 4], String> {
+    let (function, mut words) = parse(line).ok_or("not a case's shape")?;
+    match panic::catch_unwind(AssertUnwindSafe(|| call(function, &mut words))) {
+        Ok(Ok(_)) if !words.rest_is_zero() => Err("a word that the function does not use is not 0000".into()),
+        Ok(Ok([a, b, c])) => Ok([0, a, b, c]),
+        Ok(Err(why)) => Err(why.into()),
+        Err(payload) => {
+            let message = match (payload.downcast_ref::<&str>(), payload.downcast_ref::<String>()) {
+                (Some(text), _) => text,
+                (_, Some(text)) => text.as_str(),
+                _ => "with no message",
+            };
+            refusal(function, message).map(|number| [number, 0, 0, 0]).ok_or_else(|| format!("panic: {message}"))
+        }
+    }
+}
+
+/// Written by hand: `write!` in a debug build takes longer than the calls themselves.
+fn print(out: &mut impl Write, words: [u16; 4]) -> io::Result<()> {
+    let mut line = *b"0000 0000 0000 0000\n";
+    for (word, text) in words.into_iter().zip(line.chunks_mut(5)) {
+        for (place, digit) in text[..4].iter_mut().enumerate() {
+            *digit = b"0123456789ABCDEF"[(word >> (12 - 4 * place) & 15) as usize];
+        }
+    }
+    out.write_all(&line)
+}
+
+fn run() -> Result<(), String> {
+    let mut input = BufReader::with_capacity(1 << 20, io::stdin().lock());
+    let mut out = BufWriter::with_capacity(1 << 20, io::stdout().lock());
+    let (mut line, mut number) = (Vec::with_capacity(32), 0u64);
+    loop {
+        line.clear();
+        if input.read_until(b'\n', &mut line).map_err(|e| e.to_string())? == 0 {
+            return out.flush().map_err(|e| e.to_string());
+        }
+        number += 1;
+        let words = respond(&line)
+            .map_err(|why| format!("line {number}: {}: {why}", String::from_utf8_lossy(&line).trim_end()))?;
+        print(&mut out, words).map_err(|e| e.to_string())?;
+    }
+}
+
+fn main() -> ExitCode {
+    // Refusals come by the thousand; what they say is in the payload that `respond` reads.
+    panic::set_hook(Box::new(|_| {}));
+    match run() {
+        Ok(()) => ExitCode::SUCCESS,
+        Err(why) => {
+            eprintln!("harness: {why}");
+            ExitCode::FAILURE
+        }
+    }
+}
