@@ -1,0 +1,24 @@
+use borrow.Author.Needs.{needs}
+use Rattle.registers.proofs.Pages.{add-page}
+use Rattle.registers.specs.Page.{out8}
+use mathlib.Core.Path.{ap}
+use Rattle.registers.proofs.CCBits.add_u8.Statement.{statement}
+use Rattle.registers.proofs.CCBits.add_u8.Tie as tie
+
+returns : tie.Need-returns
+returns c =
+    let x = c .before .before .before .before .before .before .args in
+    rw (
+      c .set3 .ensures,
+      c .before .set-zn-8 .ensures,
+      c .before .before .set2 .ensures,
+      c .before .before .before .add-v .ensures,
+      c .before .before .before .before .set .ensures,
+      c .before .before .before .before .before .carry-in .ensures,
+    )
+    (ap (out8 (x .self)) (add-page (x .self) (x .a) (x .b) (search needs) (search needs) (x .flags) (x .with-carry)))
+
+pub add-u8-spec : {M : Type 1} → statement M
+add-u8-spec =
+    tie.close
+    (tie.spec (search needs) (search needs) (search needs) (search needs) (search needs) (search needs) (search needs) (search needs) (search needs) (search needs) (search needs) (search needs) (search needs) (search needs) (search needs) returns)

@@ -1,0 +1,6 @@
+pub mod ConditionCodes
+pub mod Page
+pub mod Manual
+pub mod Bought
+pub mod Settings
+pub mod RegisterSet

@@ -1,0 +1,71 @@
+-- The registers: names, sizes, reading and writing by name. D is 256·A + B.
+-- Assumes nothing.
+use Prim.Native.Nat.{ℕ, _+_, _*_, _/_, _%_}
+use Prim.Native.String.{String}
+use lib.ListN.{length}
+use Rattle.u8oru16.specs.Value.{valueOf, lowByte}
+use Rattle.u8oru16.specs.declared.u8u16.{u8u16}
+use Rattle.u8oru16.specs.declared.u8u16.the-variants.{u8, u16}
+use Rattle.registers.specs.ConditionCodes.{ascii, padded}
+use Rattle.registers.specs.declared.Letters.{Letters}
+use Rattle.registers.specs.declared.Name.{Name}
+use Rattle.registers.specs.declared.Name.the-variants.{A, B, D, X, Y, U, S, PC, DP, CC}
+use Rattle.registers.specs.declared.Set.{Set}
+
+abbrev pub sizeOf : Name → ℕ
+sizeOf A = 1
+sizeOf B = 1
+sizeOf D = 2
+sizeOf X = 2
+sizeOf Y = 2
+sizeOf U = 2
+sizeOf S = 2
+sizeOf PC = 2
+sizeOf DP = 1
+sizeOf CC = 1
+
+abbrev letters : String → Letters
+letters name = record { bytes = padded 2 name; len = length (ascii name) }
+
+abbrev pub textOf : Name → Letters
+textOf A = letters "A"
+textOf B = letters "B"
+textOf D = letters "D"
+textOf X = letters "X"
+textOf Y = letters "Y"
+textOf U = letters "U"
+textOf S = letters "S"
+textOf PC = letters "PC"
+textOf DP = letters "DP"
+textOf CC = letters "CC"
+
+-- IRQ and FIRQ masked, all else 0
+abbrev pub afterReset : Set
+afterReset = record { x = 0; y = 0; u = 0; s = 0; pc = 0; a = 0; b = 0; dp = 0; cc = record { reg = 0x50 } }
+
+abbrev pub read : Set → Name → u8u16
+read r A = u8 (r .a)
+read r B = u8 (r .b)
+read r D = u16 (256 * r .a + r .b)
+read r X = u16 (r .x)
+read r Y = u16 (r .y)
+read r U = u16 (r .u)
+read r S = u16 (r .s)
+read r PC = u16 (r .pc)
+read r DP = u8 (r .dp)
+read r CC = u8 (r .cc .reg)
+
+-- a byte register takes the low byte of a word, a word register a byte with zeros above it
+abbrev pub written : Set → Name → u8u16 → Set
+written r A v = record { x = r .x; y = r .y; u = r .u; s = r .s; pc = r .pc; a = lowByte v; b = r .b; dp = r .dp; cc = r .cc }
+written r B v = record { x = r .x; y = r .y; u = r .u; s = r .s; pc = r .pc; a = r .a; b = lowByte v; dp = r .dp; cc = r .cc }
+written r D v =
+    record { x = r .x; y = r .y; u = r .u; s = r .s; pc = r .pc; a = valueOf v / 256; b = valueOf v % 256; dp = r .dp; cc = r .cc }
+written r X v = record { x = valueOf v; y = r .y; u = r .u; s = r .s; pc = r .pc; a = r .a; b = r .b; dp = r .dp; cc = r .cc }
+written r Y v = record { x = r .x; y = valueOf v; u = r .u; s = r .s; pc = r .pc; a = r .a; b = r .b; dp = r .dp; cc = r .cc }
+written r U v = record { x = r .x; y = r .y; u = valueOf v; s = r .s; pc = r .pc; a = r .a; b = r .b; dp = r .dp; cc = r .cc }
+written r S v = record { x = r .x; y = r .y; u = r .u; s = valueOf v; pc = r .pc; a = r .a; b = r .b; dp = r .dp; cc = r .cc }
+written r PC v = record { x = r .x; y = r .y; u = r .u; s = r .s; pc = valueOf v; a = r .a; b = r .b; dp = r .dp; cc = r .cc }
+written r DP v = record { x = r .x; y = r .y; u = r .u; s = r .s; pc = r .pc; a = r .a; b = r .b; dp = lowByte v; cc = r .cc }
+written r CC v =
+    record { x = r .x; y = r .y; u = r .u; s = r .s; pc = r .pc; a = r .a; b = r .b; dp = r .dp; cc = record { reg = lowByte v } }

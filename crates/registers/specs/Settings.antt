@@ -1,0 +1,54 @@
+-- The two flag settings, and where they part (document 01, section Flags).
+-- Assumes nothing.
+use Prim.Native.Nat.{ℕ, _+_, _-_, _%_, _≤_}
+use mathlib.Core.Path.{_≡_}
+use mathlib.Core.Bool.{Bool, true, _||_}
+use mathlib.Core.Logic.{_≢_, _↔_}
+use lib.Dec.{eqb}
+use Rattle.u8oru16.specs.Signed.{sumOut, diffOut}
+use Rattle.registers.specs.ConditionCodes.{flag}
+use Rattle.registers.specs.Page.{Operation, ADC, SBC, DEC, INC, Page, codes}
+use Rattle.registers.specs.Manual.{manual}
+use Rattle.registers.specs.Bought.{bought}
+use Rattle.registers.specs.declared.CCBit.{CCBit}
+use Rattle.registers.specs.declared.CCBit.the-variants.{C, «V»}
+use Rattle.registers.specs.declared.CCBits.{CCBits}
+use Rattle.registers.specs.declared.Flags.{Flags}
+use Rattle.registers.specs.declared.Flags.the-variants.{Bought, Manual}
+
+-- what an operation gives with flags by the manual and as bought
+abbrev pub by : Flags → Operation → CCBits → ℕ → ℕ → Page
+by Manual = manual
+by Bought = bought
+
+-- the inputs at which the settings part: with the first operand a and the second b
+pub data Parts (cc : CCBits) (a b : ℕ) : Operation → Type 0 where
+  dec-00 : a ≡ 0x00 → Parts cc a b DEC
+  dec-80 : a ≡ 0x80 → Parts cc a b DEC
+  inc-7F : a ≡ 0x7F → Parts cc a b INC
+  inc-FF : a ≡ 0xFF → Parts cc a b INC
+  adc : flag C cc ≡ true → a ≡ 0x7F → 0x80 ≤ b → Parts cc a b ADC
+  sbc : flag C cc ≡ true → a ≡ 0x80 → 0x80 ≤ b → Parts cc a b SBC
+
+-- two pages differ exactly in the case named, and then in V alone
+pub record DifferInV (cc : CCBits) (p q : Page) (Case : Type 0) : Type 0 where
+  pub value : p .value ≡ q .value
+  pub others : (f : CCBit) → f ≢ «V» → flag f (codes cc (p .flags)) ≡ flag f (codes cc (q .flags))
+  pub exactly : (flag «V» (codes cc (p .flags)) ≢ flag «V» (codes cc (q .flags))) ↔ Case
+
+-- V in each setting, for the code: after a sum, a difference, DEC and INC
+abbrev pub addV : Flags → ℕ → ℕ → ℕ → Bool
+addV Manual a b c = sumOut 0x80 a b c
+addV Bought a b c = sumOut 0x80 a c 0 || sumOut 0x80 ((a + c) % 256) b 0
+
+abbrev pub subV : Flags → ℕ → ℕ → ℕ → Bool
+subV Manual a b c = diffOut 0x80 a b c
+subV Bought a b c = diffOut 0x80 a c 0 || diffOut 0x80 ((a + 256 - c) % 256) b 0
+
+abbrev pub decV : Flags → ℕ → Bool
+decV Manual a = eqb a 0x80
+decV Bought a = eqb a 0
+
+abbrev pub incV : Flags → ℕ → Bool
+incV Manual a = eqb a 0x7F
+incV Bought a = eqb a 0xFF
