@@ -4,3 +4,6 @@ pub mod Reading
 pub mod Bits
 pub mod Pages
 pub mod Shifts
+pub mod Overflow
+pub mod Lines
+pub mod Parting

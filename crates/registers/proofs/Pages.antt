@@ -2,14 +2,14 @@
 -- Assumes nothing.
 use mathlib.Core.Path.{_≡_, refl, sym, ap, _∙_}
 use mathlib.Core.Bool.{Bool, true, false, not, _&&_, _||_, true≢false}
-use mathlib.Core.List.{[], _∷_}
+use mathlib.Core.List.{List, [], _∷_, _++_}
 use Prim.Native.Nat.{ℕ, _+_, _-_, _*_, _/_, _%_, _≤_, _<_}
 use native.Mathlib.Nat.{mod-add-mod, mod-add-div'}
 use native.Mathlib.Omega.{arith}
 use lib.Dec.{eqb, leb, ltb}
 use borrow.Author.Tests.{leb-true, leb-false, ltb-true, ltb-false, le-leb, lt-leb, lt-ltb, le-ltb, eq-eqb, ne-eqb}
 use Rattle.registers.specs.ConditionCodes.{digit, bitAt, flag}
-use Rattle.registers.specs.Page.{Operation, DEC, INC, _:=_, Page, carryIn, adding, subtracting}
+use Rattle.registers.specs.Page.{DEC, INC, Line, _:=_, Page, negativeAndZero, carryIn, adding, subtracting}
 use Rattle.registers.specs.Bought.{add-u8, sub-u8}
 use Rattle.registers.specs.Settings.{by, addV, subV, decV, incV}
 use Rattle.registers.specs.declared.CCBit.the-variants.{C, «V», Z, N, H}
@@ -18,24 +18,23 @@ use Rattle.registers.specs.declared.Flags.{Flags}
 use Rattle.registers.specs.declared.Flags.the-variants.{Bought, Manual}
 use Rattle.registers.proofs.Bits.{high-bit}
 
-abbrev pub addPage : Flags → ℕ → ℕ → ℕ → Page
-addPage s a b c =
+-- a sum and a difference of bytes with the carry c, V being v
+abbrev pub sumLines : ℕ → ℕ → ℕ → List Line
+sumLines a b c =
     let r = (a + b + c) % 256 in
-    record {
-      value = r;
-      flags =
-          (H := leb 16 (a % 16 + b % 16 + c))
-          ∷ (N := leb 0x80 r)
-          ∷ (Z := eqb r 0)
-          ∷ («V» := addV s a b c)
-          ∷ (C := leb 256 (a + b + c))
-          ∷ [];
-    }
+    (H := leb 16 (a % 16 + b % 16 + c)) ∷ (N := leb 0x80 r) ∷ (Z := eqb r 0) ∷ []
 
-abbrev pub subPage : Flags → ℕ → ℕ → ℕ → Page
-subPage s a b c =
+abbrev pub sumPage : ℕ → ℕ → ℕ → Bool → Page
+sumPage a b c v = record { value = (a + b + c) % 256; flags = sumLines a b c ++ ((«V» := v) ∷ (C := leb 256 (a + b + c)) ∷ []) }
+
+abbrev pub differencePage : ℕ → ℕ → ℕ → Bool → Page
+differencePage a b c v =
     let r = (a + 256 - (b + c)) % 256 in
-    record { value = r; flags = (N := leb 0x80 r) ∷ (Z := eqb r 0) ∷ («V» := subV s a b c) ∷ (C := ltb a (b + c)) ∷ [] }
+    record { value = r; flags = negativeAndZero 0x80 r ++ ((«V» := v) ∷ (C := ltb a (b + c)) ∷ []) }
+
+-- DEC and INC: the sum with k, which is 255 or 1
+abbrev pub stepPage : ℕ → ℕ → Bool → Page
+stepPage k a v = let r = (a + k) % 256 in record { value = r; flags = negativeAndZero 0x80 r ++ ((«V» := v) ∷ []) }
 
 pub digit-le : (v : Bool) → digit v ≤ 1
 digit-le true = omega arith
@@ -58,7 +57,7 @@ module _ (a b c : ℕ) (la : a < 256) (lb : b < 256) (lc : c ≤ 1) where
       (λ e. le-leb 256 (a + b + c) (omega (arith, leb-true 256 ((a + c) % 256 + b) e)))
       (λ e f. lt-leb 256 (a + b + c) (omega (arith, leb-false 256 (a + c) e, leb-false 256 ((a + c) % 256 + b) f)))
 
-  add-bought : add-u8 a b c ≡ addPage Bought a b c
+  add-bought : add-u8 a b c ≡ sumPage a b c (addV Bought a b c)
   add-bought =
       rw (add-result, add-carry, high-bit 4 (a % 16 + b % 16 + c) (omega arith), high-bit 7 ((a + b + c) % 256) (omega arith))
 
@@ -74,25 +73,21 @@ module _ (a b c : ℕ) (la : a < 256) (lb : b < 256) (lc : c ≤ 1) where
       (λ e. lt-ltb a (b + c) (omega (arith, ltb-true ((a + 256 - c) % 256) b e)))
       (λ e f. le-ltb a (b + c) (omega (arith, ltb-false a c e, ltb-false ((a + 256 - c) % 256) b f)))
 
-  sub-bought : sub-u8 a b c ≡ subPage Bought a b c
+  sub-bought : sub-u8 a b c ≡ differencePage a b c (subV Bought a b c)
   sub-bought = rw (sub-result, sub-borrow, high-bit 7 ((a + 256 - (b + c)) % 256) (omega arith))
 
 module _ (cc : CCBits) (a b : ℕ) (la : a < 256) (lb : b < 256) where
-  pub add-page : (s : Flags) (w : Bool) → addPage s a b (carryIn w cc) ≡ by s (adding w) cc a b
+  pub add-page : (s : Flags) (w : Bool) → sumPage a b (carryIn w cc) (addV s a b (carryIn w cc)) ≡ by s (adding w) cc a b
   add-page Manual true = refl
   add-page Manual false = refl
   add-page Bought true = sym (add-bought a b (carryIn true cc) la lb (digit-le (flag C cc)))
   add-page Bought false = sym (add-bought a b 0 la lb (omega arith))
 
-  pub sub-page : (s : Flags) (w : Bool) → subPage s a b (carryIn w cc) ≡ by s (subtracting w) cc a b
+  pub sub-page : (s : Flags) (w : Bool) → differencePage a b (carryIn w cc) (subV s a b (carryIn w cc)) ≡ by s (subtracting w) cc a b
   sub-page Manual true = refl
   sub-page Manual false = refl
   sub-page Bought true = sym (sub-bought a b (carryIn true cc) la lb (digit-le (flag C cc)))
   sub-page Bought false = sym (sub-bought a b 0 la lb (omega arith))
-
--- DEC and INC: the sum with k, which is 255 or 1
-abbrev pub stepPage : ℕ → ℕ → Bool → Page
-stepPage k a v = let r = (a + k) % 256 in record { value = r; flags = (N := leb 0x80 r) ∷ (Z := eqb r 0) ∷ («V» := v) ∷ [] }
 
 dec-borrow : (a : ℕ) → ltb a 1 ≡ eqb a 0
 dec-borrow a = go (ltb a 1) refl

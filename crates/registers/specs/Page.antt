@@ -1,10 +1,10 @@
 -- What an instruction's page says: the result, and a line for each flag that it sets or clears. A flag with no line stays.
 -- Assumes nothing.
 use Prim.Native.Nat.{ℕ}
-use mathlib.Core.Bool.{Bool, true, false, _&&_}
+use mathlib.Core.Bool.{Bool, true, false, not, _&&_}
 use mathlib.Core.List.{List, [], _∷_}
 use lib.Dec.{eqb, leb}
-use Rattle.registers.specs.ConditionCodes.{digit, put, flag}
+use Rattle.registers.specs.ConditionCodes.{place, digit, put, flag}
 use Rattle.registers.specs.declared.CCBit.{CCBit}
 use Rattle.registers.specs.declared.CCBit.the-variants.{C, Z, N}
 use Rattle.registers.specs.declared.CCBits.{CCBits}
@@ -14,6 +14,29 @@ use Rattle.registers.specs.declared.Out16.{Out16}
 -- the operations of this crate, by the manual's mnemonics; AND16 is AND on words, which the manual does not have
 pub data Operation : Type 0 where
   ADD ADC ADDD SUB SBC SUBD DEC INC AND AND16 OR EOR COM NEG ASL LSR ASR ROL ROR MUL : Operation
+
+-- operands and results are below 256, or below 65,536
+abbrev pub top : Operation → ℕ
+top ADD = 256
+top ADC = 256
+top ADDD = 65536
+top SUB = 256
+top SBC = 256
+top SUBD = 65536
+top DEC = 256
+top INC = 256
+top AND = 256
+top AND16 = 65536
+top OR = 256
+top EOR = 256
+top COM = 256
+top NEG = 256
+top ASL = 256
+top LSR = 256
+top ASR = 256
+top ROL = 256
+top ROR = 256
+top MUL = 256
 
 -- a flag and its new state
 infix 4 _:=_
@@ -28,6 +51,11 @@ pub record Page : Type 0 where
 abbrev pub codes : CCBits → List Line → CCBits
 codes cc [] = cc
 codes cc ((f := v) ∷ rest) = put f v (codes cc rest)
+
+-- a flag with no line
+abbrev pub absent : CCBit → List Line → Bool
+absent f [] = true
+absent f ((g := v) ∷ rest) = not (eqb (place f) (place g)) && absent f rest
 
 -- the result and the register, of a byte and of a word
 abbrev pub out8 : CCBits → Page → Out8

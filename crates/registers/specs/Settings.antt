@@ -1,13 +1,13 @@
 -- The two flag settings, and where they part (document 01, section Flags).
 -- Assumes nothing.
-use Prim.Native.Nat.{ℕ, _+_, _-_, _%_, _≤_}
+use Prim.Native.Nat.{ℕ, _+_, _-_, _%_, _≤_, _<_}
 use mathlib.Core.Path.{_≡_}
 use mathlib.Core.Bool.{Bool, true, _||_}
 use mathlib.Core.Logic.{_≢_, _↔_}
 use lib.Dec.{eqb}
 use Rattle.u8oru16.specs.Signed.{sumOut, diffOut}
 use Rattle.registers.specs.ConditionCodes.{flag}
-use Rattle.registers.specs.Page.{Operation, ADC, SBC, DEC, INC, Page, codes}
+use Rattle.registers.specs.Page.{Operation, ADC, SBC, DEC, INC, top, Page, codes}
 use Rattle.registers.specs.Manual.{manual}
 use Rattle.registers.specs.Bought.{bought}
 use Rattle.registers.specs.declared.CCBit.{CCBit}
@@ -35,6 +35,10 @@ pub record DifferInV (cc : CCBits) (p q : Page) (Case : Type 0) : Type 0 where
   pub value : p .value ≡ q .value
   pub others : (f : CCBit) → f ≢ «V» → flag f (codes cc (p .flags)) ≡ flag f (codes cc (q .flags))
   pub exactly : (flag «V» (codes cc (p .flags)) ≢ flag «V» (codes cc (q .flags))) ↔ Case
+
+-- the law: as bought and by the manual agree in the result and in every flag but V, and part in V exactly at those inputs
+abbrev pub SettingsPart : Type 0
+SettingsPart = (o : Operation) (cc : CCBits) (a b : ℕ) → a < top o → b < top o → DifferInV cc (bought o cc a b) (manual o cc a b) (Parts cc a b o)
 
 -- V in each setting, for the code: after a sum, a difference, DEC and INC
 abbrev pub addV : Flags → ℕ → ℕ → ℕ → Bool
