@@ -7,3 +7,6 @@ pub mod Shifts
 pub mod Overflow
 pub mod Lines
 pub mod Parting
+pub mod Laws
+pub mod Registers
+pub mod Unique

@@ -69,3 +69,16 @@ written r PC v = record { x = r .x; y = r .y; u = r .u; s = r .s; pc = valueOf v
 written r DP v = record { x = r .x; y = r .y; u = r .u; s = r .s; pc = r .pc; a = r .a; b = r .b; dp = lowByte v; cc = r .cc }
 written r CC v =
     record { x = r .x; y = r .y; u = r .u; s = r .s; pc = r .pc; a = r .a; b = r .b; dp = r .dp; cc = record { reg = lowByte v } }
+
+-- what a register holds of a value: the low byte, or the number as a word
+abbrev pub inSize : Name → u8u16 → u8u16
+inSize A v = u8 (lowByte v)
+inSize B v = u8 (lowByte v)
+inSize D v = u16 (valueOf v)
+inSize X v = u16 (valueOf v)
+inSize Y v = u16 (valueOf v)
+inSize U v = u16 (valueOf v)
+inSize S v = u16 (valueOf v)
+inSize PC v = u16 (valueOf v)
+inSize DP v = u8 (lowByte v)
+inSize CC v = u8 (lowByte v)

@@ -1,0 +1,48 @@
+-- The table of checked examples that are proved, and what it is for a row to hold.
+-- Assumes nothing.
+use Prim.Native.Nat.{ℕ}
+use mathlib.Core.Path.{_≡_}
+use mathlib.Core.List.{List, [], _∷_}
+use mathlib.Core.Bool.{true, false}
+use Rattle.registers.specs.ConditionCodes.{flag}
+use Rattle.registers.specs.Page.{Operation, ADC, SBC, DEC, INC, MUL, Line, _:=_, Page, codes}
+use Rattle.registers.specs.Settings.{by}
+use Rattle.registers.specs.declared.CCBit.the-variants.{C, «V»}
+use Rattle.registers.specs.declared.CCBits.{CCBits}
+use Rattle.registers.specs.declared.Flags.{Flags}
+use Rattle.registers.specs.declared.Flags.the-variants.{Bought, Manual}
+
+pub data Row : Type 0 where
+  -- an operation on a and b: the result, flags as bought, flags by the manual; whatever the condition codes were
+  of : Operation → ℕ → ℕ → ℕ → List Line → List Line → Row
+  -- the same with the carry, or the borrow, set
+  carrying : Operation → ℕ → ℕ → ℕ → List Line → List Line → Row
+
+-- each flag named is as its line says
+abbrev pub Shown : CCBits → List Line → Type 0
+Shown cc [] = Unit
+Shown cc ((f := v) ∷ rest) = (flag f cc ≡ v) × Shown cc rest
+
+abbrev pub Gives : Flags → Operation → CCBits → ℕ → ℕ → ℕ → List Line → Type 0
+Gives s o cc a b r lines = let p = by s o cc a b in (p .value ≡ r) × Shown (codes cc (p .flags)) lines
+
+abbrev pub Holds : Row → Type 0
+Holds (of o a b r bought manual) = (cc : CCBits) → Gives Bought o cc a b r bought × Gives Manual o cc a b r manual
+Holds (carrying o a b r bought manual) =
+    (cc : CCBits) → flag C cc ≡ true → Gives Bought o cc a b r bought × Gives Manual o cc a b r manual
+
+abbrev pub Every : List Row → Type 0
+Every [] = Unit
+Every (x ∷ xs) = Holds x × Every xs
+
+-- document 01, "Checked examples", the rows marked P
+abbrev pub rows : List Row
+rows =
+    of DEC 0x00 0 0xFF ((«V» := true) ∷ []) ((«V» := false) ∷ [])
+    ∷ of DEC 0x80 0 0x7F ((«V» := false) ∷ []) ((«V» := true) ∷ [])
+    ∷ of INC 0x7F 0 0x80 ((«V» := false) ∷ []) ((«V» := true) ∷ [])
+    ∷ of INC 0xFF 0 0x00 ((«V» := true) ∷ []) ((«V» := false) ∷ [])
+    ∷ carrying ADC 0x7F 0xFF 0x7F ((C := true) ∷ («V» := true) ∷ []) ((C := true) ∷ («V» := false) ∷ [])
+    ∷ carrying SBC 0x80 0xFF 0x80 ((C := true) ∷ («V» := true) ∷ []) ((C := true) ∷ («V» := false) ∷ [])
+    ∷ of MUL 0x10 0x08 0x0080 ((C := true) ∷ []) ((C := true) ∷ [])
+    ∷ []
