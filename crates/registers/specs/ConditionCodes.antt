@@ -58,8 +58,11 @@ ascii (letter then rest) = code letter ∷ ascii rest
 abbrev pub padded : ℕ → String → List ℕ
 padded n text = ascii text ++ replicate (n - length (ascii text)) 0
 
+abbrev pub infoWith : ℕ → ℕ → List ℕ → ℕ → CCInfo
+infoWith mask letter name n = record { mask = mask; short = letter; name = name; len = n }
+
 abbrev info : ℕ → Char → String → CCInfo
-info mask letter name = record { mask = mask; short = code letter; name = padded 11 name; len = length (ascii name) }
+info mask letter name = infoWith mask (code letter) (padded 11 name) (length (ascii name))
 
 -- the mask, the letter and the name of each flag
 abbrev pub infoOf : CCBit → CCInfo

@@ -28,7 +28,7 @@ difference h a b c =
     record { value = r; flags = negativeAndZero h r ++ ((«V» := diffOut h a b c) ∷ (C := ltb a (b + c)) ∷ []) }
 
 -- N and Z by the result, V always cleared
-abbrev logical : ℕ → ℕ → Page
+abbrev pub logical : ℕ → ℕ → Page
 logical h r = record { value = r; flags = negativeAndZero h r ++ ((«V» := false) ∷ []) }
 
 abbrev pub manual : Operation → CCBits → ℕ → ℕ → Page

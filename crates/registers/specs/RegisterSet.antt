@@ -2,6 +2,7 @@
 -- Assumes nothing.
 use Prim.Native.Nat.{ℕ, _+_, _*_, _/_, _%_}
 use Prim.Native.String.{String}
+use mathlib.Core.List.{List}
 use lib.ListN.{length}
 use Rattle.u8oru16.specs.Value.{valueOf, lowByte}
 use Rattle.u8oru16.specs.declared.u8u16.{u8u16}
@@ -24,8 +25,11 @@ sizeOf PC = 2
 sizeOf DP = 1
 sizeOf CC = 1
 
+abbrev pub lettersWith : List ℕ → ℕ → Letters
+lettersWith bytes n = record { bytes = bytes; len = n }
+
 abbrev letters : String → Letters
-letters name = record { bytes = padded 2 name; len = length (ascii name) }
+letters name = lettersWith (padded 2 name) (length (ascii name))
 
 abbrev pub textOf : Name → Letters
 textOf A = letters "A"

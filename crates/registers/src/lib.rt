@@ -4,11 +4,11 @@ ghost use mathlib.Core.Path.{_≡_};
 ghost use Prim.Native.Nat.{_+_, _%_, _^_};
 ghost use lib.Bits.{bitOr};
 ghost use Rattle.u8oru16.specs.Signed.{sumOut, diffOut};
-ghost use Rattle.registers.specs.ConditionCodes.{place, infoOf, coded, put, flag};
+ghost use Rattle.registers.specs.ConditionCodes.{place, infoWith, infoOf, coded, put, flag};
 ghost use Rattle.registers.specs.Page.{ADDD, SUB, SUBD, DEC, INC, AND, AND16, OR, EOR, COM, NEG, ASL, ROL, ROR, MUL, out8, out16, codes, adding, subtracting, shifting, carryIn, negativeAndZero};
-ghost use Rattle.registers.specs.Manual.{manual};
+ghost use Rattle.registers.specs.Manual.{logical, manual};
 ghost use Rattle.registers.specs.Settings.{by, addV, subV, decV, incV};
-ghost use Rattle.registers.specs.RegisterSet.{sizeOf, textOf, afterReset, written, read};
+ghost use Rattle.registers.specs.RegisterSet.{sizeOf, lettersWith, textOf, afterReset, written, read};
 use u8oru16::OptionU8;
 use u8oru16::u8u16;
 
@@ -165,59 +165,30 @@ fn inc_v(flags: Flags, val: u8) -> bool
     }
 }
 
+fn info_of(mask: u8, short: u8, name: [u8; 11], len: usize) -> CCInfo
+    ensures { λ r. ⌜ r ≡ infoWith mask short name len ⌝ }
+{
+    CCInfo {
+        mask,
+        short,
+        name,
+        len,
+    }
+}
+
 impl CCBit {
     pub fn info(self) -> CCInfo
         ensures { λ r. ⌜ r ≡ infoOf self ⌝ }
     {
         match self {
-            CCBit::C => CCInfo {
-                mask: 0x01,
-                short: b'C',
-                name: *b"carry\0\0\0\0\0\0",
-                len: 5,
-            },
-            CCBit::V => CCInfo {
-                mask: 0x02,
-                short: b'V',
-                name: *b"overflow\0\0\0",
-                len: 8,
-            },
-            CCBit::Z => CCInfo {
-                mask: 0x04,
-                short: b'Z',
-                name: *b"zero\0\0\0\0\0\0\0",
-                len: 4,
-            },
-            CCBit::N => CCInfo {
-                mask: 0x08,
-                short: b'N',
-                name: *b"negative\0\0\0",
-                len: 8,
-            },
-            CCBit::I => CCInfo {
-                mask: 0x10,
-                short: b'I',
-                name: *b"IRQ mask\0\0\0",
-                len: 8,
-            },
-            CCBit::H => CCInfo {
-                mask: 0x20,
-                short: b'H',
-                name: *b"half carry\0",
-                len: 10,
-            },
-            CCBit::F => CCInfo {
-                mask: 0x40,
-                short: b'F',
-                name: *b"FIRQ mask\0\0",
-                len: 9,
-            },
-            CCBit::E => CCInfo {
-                mask: 0x80,
-                short: b'E',
-                name: *b"entire flag",
-                len: 11,
-            },
+            CCBit::C => info_of(0x01, b'C', *b"carry\0\0\0\0\0\0", 5),
+            CCBit::V => info_of(0x02, b'V', *b"overflow\0\0\0", 8),
+            CCBit::Z => info_of(0x04, b'Z', *b"zero\0\0\0\0\0\0\0", 4),
+            CCBit::N => info_of(0x08, b'N', *b"negative\0\0\0", 8),
+            CCBit::I => info_of(0x10, b'I', *b"IRQ mask\0\0\0", 8),
+            CCBit::H => info_of(0x20, b'H', *b"half carry\0", 10),
+            CCBit::F => info_of(0x40, b'F', *b"FIRQ mask\0\0", 9),
+            CCBit::E => info_of(0x80, b'E', *b"entire flag", 11),
         }
     }
 }
@@ -365,14 +336,20 @@ impl CCBits {
         }
     }
 
-    pub fn and_u8(self, val1: u8, val2: u8) -> Out8
-        ensures { λ r. ⌜ r ≡ out8 self (manual AND self val1 val2) ⌝ }
+    // A result with V cleared.
+    fn logic_u8(self, result: u8) -> Out8
+        ensures { λ r. ⌜ r ≡ out8 self (logical 0x80 result) ⌝ }
     {
-        let result = val1 & val2;
         Out8 {
             cc: self.set(CCBit::V, false).set_zn_8(result),
             value: result,
         }
+    }
+
+    pub fn and_u8(self, val1: u8, val2: u8) -> Out8
+        ensures { λ r. ⌜ r ≡ out8 self (manual AND self val1 val2) ⌝ }
+    {
+        self.logic_u8(val1 & val2)
     }
 
     pub fn and_u16(self, val1: u16, val2: u16) -> Out16
@@ -388,21 +365,13 @@ impl CCBits {
     pub fn or_u8(self, val1: u8, val2: u8) -> Out8
         ensures { λ r. ⌜ r ≡ out8 self (manual OR self val1 val2) ⌝ }
     {
-        let result = val1 | val2;
-        Out8 {
-            cc: self.set(CCBit::V, false).set_zn_8(result),
-            value: result,
-        }
+        self.logic_u8(val1 | val2)
     }
 
     pub fn xor_u8(self, val1: u8, val2: u8) -> Out8
         ensures { λ r. ⌜ r ≡ out8 self (manual EOR self val1 val2) ⌝ }
     {
-        let result = val1 ^ val2;
-        Out8 {
-            cc: self.set(CCBit::V, false).set_zn_8(result),
-            value: result,
-        }
+        self.logic_u8(val1 ^ val2)
     }
 
     pub fn com_u8(self, val: u8) -> Out8
@@ -527,51 +496,27 @@ pub struct Letters {
     pub len: usize,
 }
 
+fn letters_of(bytes: [u8; 2], len: usize) -> Letters
+    ensures { λ r. ⌜ r ≡ lettersWith bytes len ⌝ }
+{
+    Letters { bytes, len }
+}
+
 impl Name {
     pub fn to_str(self) -> Letters
         ensures { λ r. ⌜ r ≡ textOf self ⌝ }
     {
         match self {
-            Name::A => Letters {
-                bytes: *b"A\0",
-                len: 1,
-            },
-            Name::B => Letters {
-                bytes: *b"B\0",
-                len: 1,
-            },
-            Name::D => Letters {
-                bytes: *b"D\0",
-                len: 1,
-            },
-            Name::X => Letters {
-                bytes: *b"X\0",
-                len: 1,
-            },
-            Name::Y => Letters {
-                bytes: *b"Y\0",
-                len: 1,
-            },
-            Name::U => Letters {
-                bytes: *b"U\0",
-                len: 1,
-            },
-            Name::S => Letters {
-                bytes: *b"S\0",
-                len: 1,
-            },
-            Name::PC => Letters {
-                bytes: *b"PC",
-                len: 2,
-            },
-            Name::DP => Letters {
-                bytes: *b"DP",
-                len: 2,
-            },
-            Name::CC => Letters {
-                bytes: *b"CC",
-                len: 2,
-            },
+            Name::A => letters_of(*b"A\0", 1),
+            Name::B => letters_of(*b"B\0", 1),
+            Name::D => letters_of(*b"D\0", 1),
+            Name::X => letters_of(*b"X\0", 1),
+            Name::Y => letters_of(*b"Y\0", 1),
+            Name::U => letters_of(*b"U\0", 1),
+            Name::S => letters_of(*b"S\0", 1),
+            Name::PC => letters_of(*b"PC", 2),
+            Name::DP => letters_of(*b"DP", 2),
+            Name::CC => letters_of(*b"CC", 2),
         }
     }
 }

@@ -1,3 +1,5 @@
+-- `add_v` meets its contract.
+-- Assumes nothing.
 use borrow.Author.Needs.{needs}
 use Rattle.registers.proofs.add_v.Statement.{statement}
 use Rattle.registers.proofs.add_v.Tie as tie

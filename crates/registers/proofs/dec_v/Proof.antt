@@ -1,3 +1,5 @@
+-- `dec_v` meets its contract.
+-- Assumes nothing.
 use borrow.Author.Needs.{needs}
 use Rattle.registers.proofs.dec_v.Statement.{statement}
 use Rattle.registers.proofs.dec_v.Tie as tie

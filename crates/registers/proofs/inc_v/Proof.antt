@@ -1,3 +1,5 @@
+-- `inc_v` meets its contract.
+-- Assumes nothing.
 use borrow.Author.Needs.{needs}
 use Rattle.registers.proofs.inc_v.Statement.{statement}
 use Rattle.registers.proofs.inc_v.Tie as tie

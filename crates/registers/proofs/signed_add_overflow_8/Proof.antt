@@ -1,3 +1,5 @@
+-- `signed_add_overflow_8` meets its contract.
+-- Assumes nothing.
 use borrow.Author.Needs.{needs}
 use Rattle.registers.proofs.Whole.{lifted-sum}
 use mathlib.Core.Path.{refl, sym}

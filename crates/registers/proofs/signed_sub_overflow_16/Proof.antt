@@ -1,3 +1,5 @@
+-- `signed_sub_overflow_16` meets its contract.
+-- Assumes nothing.
 use borrow.Author.Needs.{needs}
 use Prim.Native.Nat.{_+_, _%_}
 use Rattle.registers.proofs.Whole.{lifted-diff}

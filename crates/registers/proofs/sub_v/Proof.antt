@@ -1,3 +1,5 @@
+-- `sub_v` meets its contract.
+-- Assumes nothing.
 use borrow.Author.Needs.{needs}
 use Rattle.registers.proofs.sub_v.Statement.{statement}
 use Rattle.registers.proofs.sub_v.Tie as tie

@@ -1,3 +1,5 @@
+-- `add_u8` meets its contract.
+-- Assumes nothing.
 use borrow.Author.Needs.{needs}
 use Rattle.registers.proofs.Pages.{add-page}
 use Rattle.registers.specs.Page.{out8}

@@ -1,3 +1,5 @@
+-- `and_u16` meets its contract.
+-- Assumes nothing.
 use borrow.Author.Needs.{needs}
 use Rattle.registers.proofs.CCBits.and_u16.Statement.{statement}
 use Rattle.registers.proofs.CCBits.and_u16.Tie as tie

@@ -1,3 +1,5 @@
+-- `mul` meets its contract.
+-- Assumes nothing.
 use borrow.Author.Needs.{needs}
 use Rattle.registers.proofs.Bits.{product}
 use Rattle.registers.proofs.Masks.{test-mask}

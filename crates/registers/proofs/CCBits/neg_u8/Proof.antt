@@ -1,3 +1,5 @@
+-- `neg_u8` meets its contract.
+-- Assumes nothing.
 use borrow.Author.Needs.{needs}
 use Rattle.registers.proofs.CCBits.neg_u8.Statement.{statement}
 use Rattle.registers.proofs.CCBits.neg_u8.Tie as tie

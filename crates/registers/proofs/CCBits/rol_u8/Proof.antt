@@ -1,3 +1,5 @@
+-- `rol_u8` meets its contract.
+-- Assumes nothing.
 use borrow.Author.Needs.{needs}
 use Rattle.registers.proofs.Shifts.{rol-page}
 use Rattle.registers.specs.Page.{out8}

@@ -1,3 +1,5 @@
+-- `set_zn_8` meets its contract.
+-- Assumes nothing.
 use borrow.Author.Needs.{needs}
 use Rattle.registers.proofs.CCBits.set_zn_8.Statement.{statement}
 use Rattle.registers.proofs.CCBits.set_zn_8.Tie as tie

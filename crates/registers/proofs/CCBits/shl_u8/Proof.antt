@@ -1,3 +1,5 @@
+-- `shl_u8` meets its contract.
+-- Assumes nothing.
 use borrow.Author.Needs.{needs}
 use Rattle.registers.proofs.Shifts.{asl-page}
 use Rattle.registers.specs.Page.{out8}

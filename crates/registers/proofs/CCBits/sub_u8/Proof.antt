@@ -1,3 +1,5 @@
+-- `sub_u8` meets its contract.
+-- Assumes nothing.
 use borrow.Author.Needs.{needs}
 use Rattle.registers.proofs.Pages.{digit-le, sub-page}
 use Rattle.registers.specs.Page.{out8}

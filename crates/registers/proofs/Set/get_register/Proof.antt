@@ -1,3 +1,5 @@
+-- `get_register` meets its contract.
+-- Assumes nothing.
 use borrow.Author.Needs.{needs}
 use Rattle.registers.proofs.Set.get_register.Statement.{statement}
 use Rattle.registers.proofs.Set.get_register.Tie as tie

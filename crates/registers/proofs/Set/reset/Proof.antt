@@ -1,3 +1,5 @@
+-- `reset` meets its contract.
+-- Assumes nothing.
 use borrow.Author.Needs.{needs}
 use Rattle.registers.proofs.Set.reset.Statement.{statement}
 use Rattle.registers.proofs.Set.reset.Tie as tie

@@ -1,3 +1,5 @@
+-- `set_register` meets its contract.
+-- Assumes nothing.
 use borrow.Author.Needs.{needs}
 use Rattle.registers.proofs.Set.set_register.Statement.{statement}
 use Rattle.registers.proofs.Set.set_register.Tie as tie

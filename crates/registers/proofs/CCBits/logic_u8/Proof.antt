@@ -1,0 +1,13 @@
+-- `logic_u8` meets its contract.
+-- Assumes nothing.
+use borrow.Author.Needs.{needs}
+use Rattle.registers.proofs.CCBits.logic_u8.Statement.{statement}
+use Rattle.registers.proofs.CCBits.logic_u8.Tie as tie
+
+returns : tie.Need-returns
+returns c = rw (c .set-zn-8 .ensures, c .before .set .ensures)
+
+pub logic-u8-spec : {M : Type 1} → statement M
+logic-u8-spec =
+    tie.close
+    (tie.spec (search needs) (search needs) returns)
