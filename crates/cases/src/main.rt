@@ -1,0 +1,91 @@
+// Answers the case lines of standard input with this repository's functions (tools/compare/README.md has the lines and the table).
+mod arithmetic;
+mod case;
+mod codes;
+mod operands;
+mod register_set;
+mod table;
+mod text;
+mod values;
+
+ghost use Prim.Native.Nat.{_+_, _≤_, _<_};
+ghost use lib.ListN.{length};
+ghost use Rattle.io.specs.Counts.{Counts};
+use case::Case;
+use case::Reply;
+use libc::STDIN_FILENO;
+use libc::STDOUT_FILENO;
+use text::BLOCK;
+use text::LINE;
+use text::Lines;
+use text::ROOM;
+use text::Reading;
+
+// `table` has refused every number that is no function's, so the last arm here and in each group is the last that is left.
+fn answer(case: Case) -> Reply {
+    if !table::fits(case) {
+        return Reply::BadCase;
+    }
+    let function = case.function;
+    match function {
+        0x00..=0x10 => values::answer(case),
+        0x20..=0x26 => codes::answer(case),
+        0x27..=0x39 => arithmetic::answer(case),
+        _ => register_set::answer(case),
+    }
+}
+
+fn reply(lines: &Lines, at: usize) -> Reply
+    requires { ⌜ at + 23 ≤ 23552 ⌝ }
+{
+    match text::case_at(lines, at) {
+        Reading::Case(case) => answer(case),
+        Reading::Malformed => Reply::BadCase,
+    }
+}
+
+// Answers line i, and returns where the next answer goes.
+fn answer_line(lines: &Lines, i: usize, out: &mut [u8], end: usize) -> usize
+    requires { ⌜ (i < 1024) × (end + 20 ≤ length (now out)) ⌝ }
+    ensures { λ r. ⌜ r ≤ end + 20 ⌝ }
+{
+    match reply(lines, i * LINE) {
+        Reply::Done(words) => text::put_words(out, end, words),
+        Reply::BadCase => text::put_bad_case(out, end),
+    }
+}
+
+// Answers the first n bytes of a block, and returns how many bytes the answers take. What is left after the last whole line is one
+// bad case.
+fn answer_block(lines: &Lines, n: usize, out: &mut [u8]) -> usize
+    requires { ⌜ (n ≤ 23552) × (20480 ≤ length (now out)) ⌝ }
+    ensures { λ r. ⌜ Counts r (now (out .exit)) ⌝ }
+{
+    let mut end = 0;
+    let mut i = 0;
+    while i < n / LINE {
+        end = answer_line(lines, i, out, end);
+        i += 1;
+    }
+    if n % LINE != 0 {
+        end = text::put_bad_case(out, end);
+    }
+    end
+}
+
+// Reads a block of lines, writes their answers, and says whether there may be more.
+fn answer_some() -> bool {
+    let mut lines = [0u8; BLOCK];
+    let n = io::read_full(STDIN_FILENO, &mut lines);
+    let mut out = [0u8; ROOM];
+    let end = answer_block(&lines, n, &mut out);
+    io::write_all(STDOUT_FILENO, &out[..end]) && n == BLOCK
+}
+
+// A proved loop has to end, and nothing says that the input does: the turns count down from a number that no run uses up.
+fn main() {
+    let mut turns = u64::MAX;
+    while turns > 0 && answer_some() {
+        turns -= 1;
+    }
+}

@@ -1,0 +1,100 @@
+// What a word of a case stands for. Each function here takes every word; `table` has refused those that are out of range.
+ghost use Prim.Native.Nat.{_≤_};
+use registers::CCBit;
+use registers::CCBits;
+use registers::Name;
+use registers::Set;
+use u8oru16::u8u16;
+
+pub fn is_byte(w: u16) -> bool {
+    w < 0x100
+}
+
+pub fn byte(w: u16) -> u8 {
+    (w % 0x100) as u8
+}
+
+pub fn is_truth(w: u16) -> bool {
+    w < 2
+}
+
+pub fn truth(w: u16) -> bool {
+    w == 1
+}
+
+pub fn is_value(size: u16, number: u16) -> bool {
+    (size == 2) | ((size == 1) & is_byte(number))
+}
+
+pub fn value(size: u16, number: u16) -> u8u16 {
+    if size == 1 {
+        u8u16::u8(byte(number))
+    } else {
+        u8u16::u16(number)
+    }
+}
+
+pub fn is_length(w: u16) -> bool {
+    w <= 4
+}
+
+pub fn length(w: u16) -> usize
+    ensures { λ r. ⌜ r ≤ 4 ⌝ }
+{
+    (w % 5) as usize
+}
+
+pub fn codes(w: u16) -> CCBits {
+    CCBits { reg: byte(w) }
+}
+
+pub fn is_flag(w: u16) -> bool {
+    w < 8
+}
+
+pub fn flag(w: u16) -> CCBit {
+    match w {
+        0 => CCBit::C,
+        1 => CCBit::V,
+        2 => CCBit::Z,
+        3 => CCBit::N,
+        4 => CCBit::I,
+        5 => CCBit::H,
+        6 => CCBit::F,
+        _ => CCBit::E,
+    }
+}
+
+pub fn is_register(w: u16) -> bool {
+    w < 10
+}
+
+pub fn register(w: u16) -> Name {
+    match w {
+        0 => Name::A,
+        1 => Name::B,
+        2 => Name::D,
+        3 => Name::X,
+        4 => Name::Y,
+        5 => Name::U,
+        6 => Name::S,
+        7 => Name::PC,
+        8 => Name::DP,
+        _ => Name::CC,
+    }
+}
+
+// The registers that a seed stands for. D is not stored: the seed's is 256 A + B.
+pub fn seeded(n: u16) -> Set {
+    Set {
+        x: std::num::wrapping_add_u16(n, 1),
+        y: std::num::wrapping_add_u16(n, 2),
+        u: std::num::wrapping_add_u16(n, 3),
+        s: std::num::wrapping_add_u16(n, 4),
+        pc: std::num::wrapping_add_u16(n, 5),
+        a: byte(n),
+        b: (n / 0x100) as u8,
+        dp: byte(std::num::wrapping_add_u16(n, 6)),
+        cc: codes(std::num::wrapping_add_u16(n, 7)),
+    }
+}
