@@ -1,31 +1,24 @@
 //! Answers cases with the bought Rust itself, so that our own program can be held to what it does and not to what we think it
-//! does. README.md fixes the lines. `build` puts this file beside u8oru16.rs and registers.rs.
+//! does. README.md fixes the lines. `build` puts this file and core_stubs.rs beside the bought ones.
 
 use std::io::{self, BufRead, BufReader, BufWriter, Write};
 use std::panic::{self, AssertUnwindSafe};
 use std::process::ExitCode;
+use std::sync::{mpsc, Arc, Mutex, RwLock};
 
-// The bought files lean on these macros of their own program's root, which is not among the sources. Only `xor!` takes part in an
-// answer (V of `shl_u8` and `rol_u8`); the colours belong to Display, which no case calls.
-macro_rules! xor {
-    ($a:expr, $b:expr) => {
-        $a != $b
-    };
-}
-macro_rules! green {
-    ($text:literal) => {
-        $text
-    };
-}
-macro_rules! blue {
-    ($text:literal) => {
-        $text
-    };
-}
+// hex.rs and pia.rs name these two crates; the few items that they take from them are at this root, from core_stubs.rs.
+extern crate self as minifb;
+extern crate self as regex;
 
-// The fields of CCInfo are private, and a child module may read them: `build` appends `probe!();` to its copy of registers.rs.
+#[macro_use]
+#[allow(dead_code)]
+mod core_stubs;
+use core_stubs::*;
+
+// A child module may read CCInfo's private fields and call Core's private methods: `build` appends `probe!(NAME);` to its copies of
+// registers.rs and runtime.rs.
 macro_rules! probe {
-    () => {
+    (registers) => {
         pub mod probe {
             pub fn info(bit: super::CCBit) -> (u8, char, &'static str) {
                 let info = bit.info();
@@ -33,22 +26,66 @@ macro_rules! probe {
             }
         }
     };
+    (runtime) => {
+        pub mod probe {
+            use super::{instructions::Instance, registers::Set, Core, Error};
+
+            pub fn process_addressing_mode(core: &Core, inst: &mut Instance, ctx: &mut Set) -> Result<(), Error> {
+                core.process_addressing_mode(inst, ctx)
+            }
+        }
+    };
 }
 
+#[allow(dead_code)]
+mod core;
+mod hex;
+#[allow(dead_code)]
+mod memory;
+#[allow(dead_code)]
+mod pia;
 mod registers;
+#[allow(dead_code)]
+mod runtime;
 mod u8oru16;
 
+use self::core::Core;
+use instructions::{AddressingMode, Detail, Instance};
+use memory::AccessType;
 use registers::{reg_size, CCBit, CCBits, Name, Set};
 use u8oru16::u8u16;
 
 const FLAGS: [CCBit; 8] = [CCBit::C, CCBit::V, CCBit::Z, CCBit::N, CCBit::I, CCBit::H, CCBit::F, CCBit::E];
 const REGISTERS: [Name; 10] =
     [Name::A, Name::B, Name::D, Name::X, Name::Y, Name::U, Name::S, Name::PC, Name::DP, Name::CC];
+const ACCESSES: [AccessType; 5] =
+    [AccessType::Program, AccessType::UserStack, AccessType::SystemStack, AccessType::Generic, AccessType::System];
+const MODES: [AddressingMode; 6] = [
+    AddressingMode::Inherent,
+    AddressingMode::Immediate,
+    AddressingMode::Direct,
+    AddressingMode::Indexed,
+    AddressingMode::Extended,
+    AddressingMode::Relative,
+];
 
 /// What is wrong with a line. A case outside the table is an error of whoever made it and gets no answer that could be compared.
 type Malformed = &'static str;
 /// The three words after the answer's number.
-type Answer = Result<[u16; 3], Malformed>;
+type Answer = Result<[u16; 3], Stop>;
+
+/// Why a call that came back has no words.
+enum Stop {
+    Malformed(Malformed),
+    /// The error that the Rust returned: `returned` knows which of them are refusals.
+    Error(Error),
+}
+impl From<Malformed> for Stop {
+    fn from(why: Malformed) -> Self { Stop::Malformed(why) }
+}
+impl From<Error> for Stop {
+    fn from(error: Error) -> Self { Stop::Error(error) }
+}
 
 /// The words of a case, taken one after the other in the order of the table.
 struct Words {
@@ -61,7 +98,7 @@ impl Words {
         self.taken += 1;
         self.words[self.taken - 1]
     }
-    fn byte(&mut self) -> Result<u8, Malformed> { u8::try_from(self.word()).map_err(|_| "a byte above FF") }
+    fn byte(&mut self) -> Result<u8, Malformed> { byte(self.word()) }
     fn truth(&mut self) -> Result<bool, Malformed> {
         match self.word() {
             0 => Ok(false),
@@ -70,11 +107,8 @@ impl Words {
         }
     }
     fn value(&mut self) -> Result<u8u16, Malformed> {
-        match self.word() {
-            1 => Ok(u8u16::u8(self.byte()?)),
-            2 => Ok(u8u16::u16(self.word())),
-            _ => Err("a size that is neither 1 nor 2"),
-        }
+        let (size, number) = (self.word(), self.word());
+        value(size, number)
     }
     fn cc(&mut self) -> Result<CCBits, Malformed> { Ok(CCBits { reg: self.byte()? }) }
     fn flag(&mut self) -> Result<CCBit, Malformed> {
@@ -85,6 +119,16 @@ impl Words {
     /// What a line does not use is 0000: anything else there means that its maker and this table disagree.
     fn rest_is_zero(&self) -> bool { self.words[self.taken..].iter().all(|&word| word == 0) }
 }
+
+fn value(size: u16, number: u16) -> Result<u8u16, Malformed> {
+    match size {
+        1 => Ok(u8u16::u8(byte(number)?)),
+        2 => Ok(u8u16::u16(number)),
+        _ => Err("a size that is neither 1 nor 2"),
+    }
+}
+
+fn byte(number: u16) -> Result<u8, Malformed> { u8::try_from(number).map_err(|_| "a byte above FF") }
 
 fn register(number: u16) -> Result<Name, Malformed> {
     REGISTERS.get(number as usize).copied().ok_or("a register above 9")
@@ -148,8 +192,65 @@ fn changed(w: &mut Words, f: impl Fn(&mut CCBits, &mut Words) -> Result<(), Malf
     single(cc.reg)
 }
 
-/// The call that a case asks for. A panic of the Rust passes through: `respond` knows which of them are refusals.
-fn call(function: u16, w: &mut Words) -> Answer {
+/// The bought processor with its memory, for 40 to 43. One serves all cases, since to lay out 65,536 bytes takes longer than to
+/// answer: `settle` puts back what a case has changed.
+struct Bench {
+    core: Core,
+    /// The instruction of 43. It stands here so that after a panic it tells how far the Rust had come.
+    inst: Instance,
+}
+
+/// What the memory holds at a place when a case starts.
+fn pattern(place: u16) -> u8 {
+    let place = place as u32;
+    ((167 * place + 59 * (place / 256) + 13) % 256) as u8
+}
+
+/// Where the map has an address, apart from FF00-FFDF.
+fn place(address: u16) -> u16 { if address >= 0xFFE0 { address - 0x4000 } else { address } }
+
+impl Bench {
+    fn new() -> Self {
+        let ram = Arc::new(RwLock::new((0..=0xFFFF).map(pattern).collect()));
+        let pia1 = Arc::new(Mutex::new(pia::Pia1::new(mpsc::channel().0)));
+        let pia0 = Arc::new(Mutex::new(pia::Pia0::new(pia1.clone())));
+        let (sam, vdg) = (Arc::new(Mutex::new(sam::Sam)), Arc::new(Mutex::new(vdg::Vdg)));
+        let core = Core::new(ram, sam, vdg, pia0, pia1, 0xFFFF, None);
+        Bench { inst: Instance::new(&core.reg, None), core }
+    }
+    /// Two bytes of the memory itself, at an address or where the map has it.
+    fn raw(&self, address: u16, place: fn(u16) -> u16) -> u16 {
+        let byte = |address| self.core.raw_ram[place(address) as usize];
+        u16::from_be_bytes([byte(address), address.checked_add(1).map_or(0, byte)])
+    }
+    /// Logs the instruction's bytes as accesses, to be judged and put back as the others are, and puts its operand there.
+    fn lay_out(&mut self, pc: u16, opcode_size: u16, operand: [u8; 3]) {
+        let bytes = std::iter::repeat(None).take(opcode_size as usize).chain(operand.map(Some));
+        for (address, byte) in (pc..=0xFFFF).zip(bytes) {
+            self.core.debug_check_for_watch_hit(address);
+            if let Some(byte) = byte {
+                self.core.raw_ram[place(address) as usize] = byte;
+            }
+        }
+    }
+    /// Makes the memory the pattern again, and tells whether the case stayed off FF00-FFDF.
+    fn settle(&mut self) -> bool {
+        let log = self.core.watch_hits.get_mut();
+        for &address in log.iter() {
+            for place in [address, place(address)] {
+                self.core.raw_ram[place as usize] = pattern(place);
+            }
+        }
+        let inside = !log.iter().any(|address| (0xFF00..=0xFFDF).contains(address));
+        log.clear();
+        inside
+    }
+    /// A byte that changed without an access in the log would have made every later answer doubtful.
+    fn is_settled(&self) -> bool { (0..=0xFFFF).all(|place| self.core.raw_ram[place as usize] == pattern(place)) }
+}
+
+/// The call that a case asks for. A panic of the Rust passes through: `panicked` knows which of them are refusals.
+fn call(function: u16, w: &mut Words, bench: &mut Bench) -> Answer {
     match function {
         0x00 => {
             let (lsb, wide, msb) = (w.byte()?, w.truth()?, w.byte()?);
@@ -244,18 +345,66 @@ fn call(function: u16, w: &mut Words) -> Answer {
             set.set_register(written, v);
             Ok(sized(set.get_register(read)))
         }
-        _ => Err("a function that the table does not have"),
+        0x40 => single(bench.core._read_u8(AccessType::Program, w.word(), None)?),
+        0x41 => single(bench.core._read_u16(AccessType::Program, w.word(), None)?),
+        0x42 => {
+            let (ram_top, address, number, kind) = (w.word(), w.word(), w.word(), w.word());
+            let access = *ACCESSES.get(kind as usize / 16).ok_or("an access above 4")?;
+            let data = value(kind % 16, number)?;
+            bench.core.ram_top = ram_top;
+            bench.core._write_u8u16(access, address, data)?;
+            Ok([bench.raw(address, |address| address), bench.raw(address, place), 0])
+        }
+        0x43 => {
+            let (first, pc, rest, mut ctx) = (w.word(), w.word(), w.word(), w.set());
+            let mode = *MODES.get(first as usize / 4096).ok_or("a mode above 5")?;
+            let (wide, long) = (first & 2048 != 0, first & 1024 != 0);
+            if wide && !matches!(mode, AddressingMode::Immediate | AddressingMode::Relative) {
+                return Err("a wide operand in a mode that has none".into());
+            }
+            let opcode_size = 1 + long as u16;
+            let [second, third] = rest.to_be_bytes();
+            bench.lay_out(pc, opcode_size, [byte(first % 1024)?, second, third]);
+            ctx.pc = pc;
+            let Bench { core, inst } = bench;
+            core.reg = ctx;
+            *inst = Instance::new(&ctx, None);
+            (inst.size, inst.opsize) = (opcode_size, opcode_size);
+            inst.flavor.mode = mode;
+            // The Rust takes the operand's width from here for immediate and relative, and looks at it for no other mode.
+            inst.flavor.detail = Detail { sz: opcode_size + 1 + wide as u16, clk: 0 };
+            runtime::probe::process_addressing_mode(core, inst, &mut ctx)?;
+            let digest = [(1u16, ctx.x), (3, ctx.y), (5, ctx.u), (7, ctx.s)]
+                .iter()
+                .fold(0u16, |sum, (factor, register)| sum.wrapping_add(register.wrapping_mul(*factor)));
+            Ok([inst.ea, inst.size, digest])
+        }
+        _ => Err("a function that the table does not have".into()),
+    }
+}
+
+/// Document 01's number for an error that it makes a refusal.
+fn returned(function: u16, error: &Error) -> Option<u16> {
+    match error.kind {
+        ErrorKind::Syntax if function == 0x43 => Some(5),
+        ErrorKind::Runtime if function == 0x43 && error.msg.starts_with("Instruction overflow") => Some(4),
+        _ => None,
     }
 }
 
 /// Document 01's number for a panic that it makes a refusal. Function and message both have to fit: a panic of this program, or
 /// one that document 01 does not know, is not to pass for a refusal.
-fn refusal(function: u16, message: &str) -> Option<u16> {
+fn panicked(function: u16, message: &str, inst: &Instance) -> Option<u16> {
     match function {
         0x0F if message == "attempt to divide by zero" => Some(13),
         0x10 if message == "attempt to calculate the remainder with a divisor of zero" => Some(13),
         0x0E if message == "assertion failed: !self.is_u8()" => Some(14),
         0x08 if message.starts_with("index out of bounds") => Some(15),
+        0x41 | 0x42 if message == "attempt to add with overflow" => Some(6),
+        // The Rust follows a pointer only once it has the pointer's address: before that it was at the instruction's own bytes.
+        0x43 if message == "attempt to add with overflow" => {
+            Some(if inst.flavor.mode == AddressingMode::Indexed && inst.ea == 0xFFFF { 6 } else { 4 })
+        }
         _ => None,
     }
 }
@@ -283,21 +432,27 @@ fn parse(line: &[u8]) -> Option<(u16, Words)> {
     Some((hexadecimal(&line[..2])?, Words { words, taken: 0 }))
 }
 
-fn respond(line: &[u8]) -> Result<[u16; 4], String> {
+fn respond(line: &[u8], bench: &mut Bench) -> Result<[u16; 4], String> {
     let (function, mut words) = parse(line).ok_or("not a case's shape")?;
-    match panic::catch_unwind(AssertUnwindSafe(|| call(function, &mut words))) {
-        Ok(Ok(_)) if !words.rest_is_zero() => Err("a word that the function does not use is not 0000".into()),
-        Ok(Ok([a, b, c])) => Ok([0, a, b, c]),
-        Ok(Err(why)) => Err(why.into()),
+    let outcome = panic::catch_unwind(AssertUnwindSafe(|| call(function, &mut words, bench)));
+    if !bench.settle() {
+        return Err("an access at FF00-FFDF, outside the comparison".into());
+    }
+    let (number, why) = match outcome {
+        Ok(Ok(_)) if !words.rest_is_zero() => return Err("a word that the function does not use is not 0000".into()),
+        Ok(Ok([a, b, c])) => return Ok([0, a, b, c]),
+        Ok(Err(Stop::Malformed(why))) => return Err(why.into()),
+        Ok(Err(Stop::Error(error))) => (returned(function, &error), format!("error: {error}")),
         Err(payload) => {
             let message = match (payload.downcast_ref::<&str>(), payload.downcast_ref::<String>()) {
                 (Some(text), _) => text,
                 (_, Some(text)) => text.as_str(),
                 _ => "with no message",
             };
-            refusal(function, message).map(|number| [number, 0, 0, 0]).ok_or_else(|| format!("panic: {message}"))
+            (panicked(function, message, &bench.inst), format!("panic: {message}"))
         }
-    }
+    };
+    number.map(|number| [number, 0, 0, 0]).ok_or(why)
 }
 
 /// Written by hand: `write!` in a debug build takes longer than the calls themselves.
@@ -315,13 +470,15 @@ fn run() -> Result<(), String> {
     let mut input = BufReader::with_capacity(1 << 20, io::stdin().lock());
     let mut out = BufWriter::with_capacity(1 << 20, io::stdout().lock());
     let (mut line, mut number) = (Vec::with_capacity(32), 0u64);
+    let mut bench = Bench::new();
     loop {
         line.clear();
         if input.read_until(b'\n', &mut line).map_err(|e| e.to_string())? == 0 {
-            return out.flush().map_err(|e| e.to_string());
+            out.flush().map_err(|e| e.to_string())?;
+            return if bench.is_settled() { Ok(()) } else { Err("a case changed memory that it did not access".into()) };
         }
         number += 1;
-        let words = respond(&line)
+        let words = respond(&line, &mut bench)
             .map_err(|why| format!("line {number}: {}: {why}", String::from_utf8_lossy(&line).trim_end()))?;
         print(&mut out, words).map_err(|e| e.to_string())?;
     }

@@ -1,0 +1,16 @@
+-- `decrement` meets its contract.
+-- Assumes nothing.
+use borrow.Author.Needs.{needs}
+use Rattle.addressing.proofs.Sums.{lowered}
+use Rattle.addressing.proofs.decrement.Statement.{statement}
+use Rattle.addressing.proofs.decrement.Tie as tie
+
+returns : tie.Need-returns
+returns c =
+    let x = c .before .before .before .args in
+    rw (c .set-register .ensures, lowered _ _ _ (search needs) (search needs) (search needs) (c .before .wrapping-sub-u16 .ensures), c .before .before .index .ensures)
+
+pub decrement-spec : {M : Type 1} → statement M
+decrement-spec =
+    tie.close
+    (tie.spec (search needs) (search needs) (search needs) returns)

@@ -1,0 +1,3 @@
+pub mod PostByte
+pub mod Decode
+pub mod Resolve

@@ -1,0 +1,4 @@
+pub mod Ranges
+pub mod Folds
+pub mod Calling
+pub mod Unique

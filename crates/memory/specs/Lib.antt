@@ -1,0 +1,4 @@
+pub mod Answers
+pub mod Map
+pub mod Writes
+pub mod Calls
