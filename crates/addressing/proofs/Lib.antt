@@ -1,2 +1,4 @@
 pub mod PostBytes
 pub mod Sums
+pub mod Refused
+pub mod Unique

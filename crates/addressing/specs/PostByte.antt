@@ -1,7 +1,7 @@
 -- The post-byte of indexed addressing (manual, table "Indexed Addressing Mode"; document 01, section Addressing).
 -- Assumes nothing.
 use Prim.Native.Nat.{ℕ, _+_, _/_, _%_}
-use mathlib.Core.Bool.{Bool, cond, _&&_}
+use mathlib.Core.Bool.{Bool, true, false, cond, _&&_}
 use lib.Bits.{bitAnd}
 use lib.Dec.{eqb, ltb}
 use Rattle.registers.specs.ConditionCodes.{bitAt}
@@ -39,6 +39,23 @@ formOfLow post low =
 
 unfoldable pub formOf : ℕ → Form
 formOf post = formOfLow post (bitAnd post 0x8F)
+
+abbrev pub isRefused : Form → Bool
+isRefused Offset5 = false
+isRefused Increment1 = false
+isRefused Increment2 = false
+isRefused Decrement1 = false
+isRefused Decrement2 = false
+isRefused NoOffset = false
+isRefused OffsetB = false
+isRefused OffsetA = false
+isRefused Offset8 = false
+isRefused Offset16 = false
+isRefused OffsetD = false
+isRefused Program8 = false
+isRefused Program16 = false
+isRefused Address = false
+isRefused Refused = true
 
 -- bits 5 and 6 name X, Y, U, S
 abbrev named : ℕ → Name

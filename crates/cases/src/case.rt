@@ -57,6 +57,10 @@ pub fn flagged(v: u8u16, flag: bool) -> Reply {
     }
 }
 
+pub fn pair(high: u8, low: u8) -> u16 {
+    high as u16 * 0x100 + low as u16
+}
+
 // The byte at an index of a name, of which the first `len` bytes count: 00 past its end. Nothing says here that `len` lies within
 // the name, so both are tested.
 pub fn letter_at(name: &[u8], len: usize, index: u16) -> u16 {

@@ -1,7 +1,9 @@
 // Answers the case lines of standard input with this repository's functions (tools/compare/README.md has the lines and the table).
+mod addresses;
 mod arithmetic;
 mod case;
 mod codes;
+mod machine_memory;
 mod operands;
 mod register_set;
 mod table;
@@ -15,6 +17,8 @@ use case::Case;
 use case::Reply;
 use libc::STDIN_FILENO;
 use libc::STDOUT_FILENO;
+use machine_memory::BYTES;
+use machine_memory::Memory;
 use text::BLOCK;
 use text::LINE;
 use text::Lines;
@@ -22,7 +26,7 @@ use text::ROOM;
 use text::Reading;
 
 // `table` has refused every number that is no function's, so the last arm here and in each group is the last that is left.
-fn answer(case: Case) -> Reply {
+fn answer(case: Case, mem: &mut Memory) -> Reply {
     if !table::fits(case) {
         return Reply::BadCase;
     }
@@ -31,25 +35,27 @@ fn answer(case: Case) -> Reply {
         0x00..=0x10 => values::answer(case),
         0x20..=0x26 => codes::answer(case),
         0x27..=0x39 => arithmetic::answer(case),
-        _ => register_set::answer(case),
+        0x3A..=0x3D => register_set::answer(case),
+        0x40..=0x42 => machine_memory::answer(case, mem),
+        _ => addresses::answer(case, mem),
     }
 }
 
-fn reply(lines: &Lines, at: usize) -> Reply
+fn reply(lines: &Lines, at: usize, mem: &mut Memory) -> Reply
     requires { ⌜ at + 23 ≤ 23552 ⌝ }
 {
     match text::case_at(lines, at) {
-        Reading::Case(case) => answer(case),
+        Reading::Case(case) => answer(case, mem),
         Reading::Malformed => Reply::BadCase,
     }
 }
 
 // Answers line i, and returns where the next answer goes.
-fn answer_line(lines: &Lines, i: usize, out: &mut [u8], end: usize) -> usize
+fn answer_line(lines: &Lines, i: usize, mem: &mut Memory, out: &mut [u8], end: usize) -> usize
     requires { ⌜ (i < 1024) × (end + 20 ≤ length (now out)) ⌝ }
     ensures { λ r. ⌜ r ≤ end + 20 ⌝ }
 {
-    match reply(lines, i * LINE) {
+    match reply(lines, i * LINE, mem) {
         Reply::Done(words) => text::put_words(out, end, words),
         Reply::BadCase => text::put_bad_case(out, end),
     }
@@ -57,14 +63,14 @@ fn answer_line(lines: &Lines, i: usize, out: &mut [u8], end: usize) -> usize
 
 // Answers the first n bytes of a block, and returns how many bytes the answers take. What is left after the last whole line is one
 // bad case.
-fn answer_block(lines: &Lines, n: usize, out: &mut [u8]) -> usize
+fn answer_block(lines: &Lines, n: usize, mem: &mut Memory, out: &mut [u8]) -> usize
     requires { ⌜ (n ≤ 23552) × (20480 ≤ length (now out)) ⌝ }
     ensures { λ r. ⌜ Counts r (now (out .exit)) ⌝ }
 {
     let mut end = 0;
     let mut i = 0;
     while i < n / LINE {
-        end = answer_line(lines, i, out, end);
+        end = answer_line(lines, i, mem, out, end);
         i += 1;
     }
     if n % LINE != 0 {
@@ -74,18 +80,20 @@ fn answer_block(lines: &Lines, n: usize, out: &mut [u8]) -> usize
 }
 
 // Reads a block of lines, writes their answers, and says whether there may be more.
-fn answer_some() -> bool {
+fn answer_some(mem: &mut Memory) -> bool {
     let mut lines = [0u8; BLOCK];
     let n = io::read_full(STDIN_FILENO, &mut lines);
     let mut out = [0u8; ROOM];
-    let end = answer_block(&lines, n, &mut out);
+    let end = answer_block(&lines, n, mem, &mut out);
     io::write_all(STDOUT_FILENO, &out[..end]) && n == BLOCK
 }
 
 // A proved loop has to end, and nothing says that the input does: the turns count down from a number that no run uses up.
 fn main() {
+    let mut mem = [0u8; BYTES];
+    machine_memory::fill(&mut mem);
     let mut turns = u64::MAX;
-    while turns > 0 && answer_some() {
+    while turns > 0 && answer_some(&mut mem) {
         turns -= 1;
     }
 }

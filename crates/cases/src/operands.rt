@@ -1,5 +1,7 @@
 // What a word of a case stands for. Each function here takes every word; `table` has refused those that are out of range.
 ghost use Prim.Native.Nat.{_≤_};
+use addressing::Mode;
+use memory::AccessType;
 use registers::CCBit;
 use registers::CCBits;
 use registers::Name;
@@ -97,4 +99,44 @@ pub fn seeded(n: u16) -> Set {
         dp: byte(std::num::wrapping_add_u16(n, 6)),
         cc: codes(std::num::wrapping_add_u16(n, 7)),
     }
+}
+
+pub fn is_access(w: u16) -> bool {
+    w < 5
+}
+
+pub fn access(w: u16) -> AccessType {
+    match w {
+        0 => AccessType::Program,
+        1 => AccessType::UserStack,
+        2 => AccessType::SystemStack,
+        3 => AccessType::Generic,
+        _ => AccessType::System,
+    }
+}
+
+pub fn mode(w: u16) -> Mode {
+    match w {
+        0 => Mode::Inherent,
+        1 => Mode::Immediate,
+        2 => Mode::Direct,
+        3 => Mode::Indexed,
+        4 => Mode::Extended,
+        _ => Mode::Relative,
+    }
+}
+
+// Of the first word of 43: the mode from bit 12 up, then the two below, then two bits that are not used.
+pub fn is_wide(w: u16) -> bool {
+    w & 0x0800 != 0
+}
+
+pub fn is_long(w: u16) -> bool {
+    w & 0x0400 != 0
+}
+
+// An immediate operand and a relative offset are the two that may be wide.
+pub fn is_instruction(w: u16) -> bool {
+    let mode = w / 0x1000;
+    (mode < 6) & (w & 0x0300 == 0) & (!is_wide(w) | (mode == 1) | (mode == 5))
 }

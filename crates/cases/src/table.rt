@@ -1,7 +1,9 @@
 // Whether a case's words are in the range that its function takes. What it does not use has to be 0000.
 use super::case::Case;
+use super::operands::is_access;
 use super::operands::is_byte;
 use super::operands::is_flag;
+use super::operands::is_instruction;
 use super::operands::is_length;
 use super::operands::is_register;
 use super::operands::is_truth;
@@ -14,6 +16,7 @@ pub fn fits(case: Case) -> bool {
         0x20..=0x26 => is_byte(case.w1) & fits_codes(case),
         0x27..=0x39 => is_byte(case.w1) & fits_arithmetic(case),
         0x3A..=0x3D => fits_register_set(case),
+        0x40..=0x43 => fits_memory(case),
         _ => false,
     }
 }
@@ -61,5 +64,15 @@ fn fits_register_set(case: Case) -> bool {
         0x3A => is_register(case.w1) & (case.w2 | case.w3 | case.w4 == 0),
         0x3B | 0x3C => is_register(case.w1) & (case.w3 | case.w4 == 0),
         _ => is_register(both / 16) & is_register(both % 16) & is_value(case.w2, case.w3),
+    }
+}
+
+fn fits_memory(case: Case) -> bool {
+    let function = case.function;
+    let kind = case.w4;
+    match function {
+        0x40 | 0x41 => case.w2 | case.w3 | case.w4 == 0,
+        0x42 => is_access(kind / 16) & is_value(kind % 16, case.w3),
+        _ => is_instruction(case.w1),
     }
 }

@@ -4,6 +4,7 @@ use super::case::Case;
 use super::case::Reply;
 use super::case::done;
 use super::case::flagged;
+use super::case::pair;
 use super::case::refused;
 use super::case::single;
 use super::case::sized;
@@ -88,10 +89,6 @@ fn bits(n: i16) -> u16 {
 // What a buffer of some length, all of one byte, has at an index: 00 past its end.
 fn filled(index: usize, length: usize, fill: u8) -> u8 {
     if index < length { fill } else { 0 }
-}
-
-fn pair(high: u8, low: u8) -> u16 {
-    high as u16 * 0x100 + low as u16
 }
 
 fn as_bytes(v: u8u16, length: usize, fill: u8) -> Reply

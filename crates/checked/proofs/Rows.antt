@@ -1,11 +1,12 @@
 -- Every row of the table of checked examples holds: a test that antt computes, and a law from the test to the row.
 -- Assumes nothing.
-use Prim.Native.Nat.{ℕ}
+use Prim.Native.Nat.{ℕ, _+_, _/_, _%_, _≤_, _<_}
 use mathlib.Core.Path.{_≡_, refl, sym, _∙_, subst}
-use mathlib.Core.Bool.{Bool, true, false, not, cond}
+use mathlib.Core.Bool.{Bool, true, false, not, cond, _||_}
+use mathlib.Core.Logic.{_⊎_, inl, inr}
 use mathlib.Core.List.{List, [], _∷_}
-use borrow.Author.Tests.{eqb-true, eqb-false}
-use lib.Dec.{T, eqb, eqb→eq}
+use borrow.Author.Tests.{eqb-true, eqb-false, ltb-true}
+use lib.Dec.{T, eqb, eqb→eq, leb, leb→le, ltb, ltb→lt}
 use Rattle.u8oru16.specs.Signed.{signed, outside, sumOut, diffOut}
 use Rattle.registers.specs.ConditionCodes.{place, bitAt, coded, flag}
 use Rattle.registers.specs.Page.{Operation, Line, _:=_, Page, codes}
@@ -17,7 +18,10 @@ use Rattle.registers.specs.declared.Flags.{Flags}
 use Rattle.registers.specs.declared.Flags.the-variants.{Bought, Manual}
 use Rattle.registers.proofs.Laws.{carry-alone}
 use Rattle.registers.proofs.Reading.{flag-same, flag-far, place-inj}
-use Rattle.checked.specs.Rows.{Row, of, carrying, Shown, Gives, Holds, Every, rows}
+use Rattle.memory.specs.Map.{placeOf}
+use Rattle.addressing.specs.PostByte.{isIndirect, formOf, isRefused, fiveBits}
+use Rattle.checked.proofs.Addresses.{offset-row, refused-row, system-row, ignored-row}
+use Rattle.checked.specs.Rows.{Row, of, carrying, postByte, badPostByte, systemWrite, ignoredWrite, Shown, Gives, Holds, Every, rows}
 
 abbrev both : Bool → Bool → Bool
 both true b = b
@@ -98,10 +102,22 @@ holds-at o a b r bought manual v t cc e =
     let (x, y) = both-T (page (by Bought o (with-carry v) a b) r bought) _ t in
     (gives Bought o cc a b r bought v e x, gives Manual o cc a b r manual v e y)
 
+sure : (t : Bool) → T t → t ≡ true
+sure true h = refl
+sure false h = absurd h
+
+either : (at : ℕ) (t : Bool) → ltb at 0xFF00 ≡ t → T (t || leb 0xFFE0 at) → (at < 0xFF00) ⊎ (0xFFE0 ≤ at)
+either at true e h = inl (ltb-true at 0xFF00 e)
+either at false e h = inr (leb→le 0xFFE0 at h)
+
 right : Row → Bool
 unfolding settings
 right (of o a b r bought manual) = both (settings o a b r bought manual true) (settings o a b r bought manual false)
 right (carrying o a b r bought manual) = settings o a b r bought manual true
+right (postByte p x a) = both (ltb p 0x80) (both (eqb (p / 32 % 4) 0) (eqb ((x + fiveBits p) % 65536) a))
+right (badPostByte p n) = both (isRefused (formOf p)) (eqb 5 n)
+right (systemWrite at p) = both (ltb at 0xFF00 || leb 0xFFE0 at) (eqb (placeOf at) p)
+right (ignoredWrite at top) = both (ltb at 0xFF00) (ltb top at)
 
 holds : (x : Row) → T (right x) → Holds x
 unfolding right
@@ -114,6 +130,17 @@ holds (of o a b r bought manual) t =
     go cc set clear true e = holds-at o a b r bought manual true set cc e
     go cc set clear false e = holds-at o a b r bought manual false clear cc e
 holds (carrying o a b r bought manual) t = holds-at o a b r bought manual true t
+holds (postByte p x a) t =
+    let (l, u) = both-T (ltb p 0x80) _ t in
+    let (f, e) = both-T (eqb (p / 32 % 4) 0) _ u in
+    offset-row p x a (ltb→lt p 0x80 l) (eqb→eq _ 0 f) (eqb→eq _ a e)
+holds (badPostByte p n) t =
+    let (f, e) = both-T (isRefused (formOf p)) _ t in
+    λ mem at r h b. refused-row (formOf p) (sure (isRefused (formOf p)) f) p refl mem at r h b ∙ eqb→eq 5 n e
+holds (systemWrite at p) t =
+    let (w, e) = both-T (ltb at 0xFF00 || leb 0xFFE0 at) _ t in
+    system-row at p (either at (ltb at 0xFF00) refl w) (eqb→eq _ p e)
+holds (ignoredWrite at top) t = let (l, h) = both-T (ltb at 0xFF00) _ t in ignored-row at top (ltb→lt at 0xFF00 l) (ltb→lt top at h)
 
 all-right : List Row → Bool
 unfolding right
@@ -126,5 +153,5 @@ all-hold [] t = tt
 all-hold (x ∷ xs) t = let (e, f) = both-T (right x) _ t in (holds x e, all-hold xs f)
 
 pub every-row-holds : Every rows
-unfolding all-right right settings page all-say says agree with-carry bitAt sumOut diffOut outside signed
+unfolding all-right right settings page all-say says agree with-carry bitAt sumOut diffOut outside signed fiveBits formOf isIndirect placeOf
 every-row-holds = all-hold rows tt

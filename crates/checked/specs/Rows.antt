@@ -1,6 +1,6 @@
 -- The table of checked examples that are proved, and what it is for a row to hold.
 -- Assumes nothing.
-use Prim.Native.Nat.{ℕ}
+use Prim.Native.Nat.{ℕ, _<_}
 use mathlib.Core.Path.{_≡_}
 use mathlib.Core.List.{List, [], _∷_}
 use mathlib.Core.Bool.{true, false}
@@ -11,12 +11,32 @@ use Rattle.registers.specs.declared.CCBit.the-variants.{C, «V»}
 use Rattle.registers.specs.declared.CCBits.{CCBits}
 use Rattle.registers.specs.declared.Flags.{Flags}
 use Rattle.registers.specs.declared.Flags.the-variants.{Bought, Manual}
+use Rattle.registers.specs.declared.Set.{Set}
+use Rattle.memory.specs.Answers.{numberOf}
+use Rattle.memory.specs.Map.{isSystem, byteAt, landingOf}
+use Rattle.memory.specs.declared.AccessType.the-variants.{Program, System}
+use Rattle.memory.specs.declared.Landing.the-variants.{Stored, Ignored}
+use Rattle.addressing.specs.Decode.{decodeOf}
+use Rattle.addressing.specs.Resolve.{atAddress, effectiveOf}
+use Rattle.addressing.specs.declared.Decoded.{Decoded}
+use Rattle.addressing.specs.declared.Decoded.the-variants.{Taken, Refused as NotTaken}
+use Rattle.addressing.specs.declared.Mode.the-variants.{Indexed}
+use Rattle.addressing.specs.declared.Resolved.{Resolved}
+use Rattle.addressing.specs.declared.Resolved.the-variants.{At, Refused}
 
 pub data Row : Type 0 where
   -- an operation on a and b: the result, flags as bought, flags by the manual; whatever the condition codes were
   of : Operation → ℕ → ℕ → ℕ → List Line → List Line → Row
   -- the same with the carry, or the borrow, set
   carrying : Operation → ℕ → ℕ → ℕ → List Line → List Line → Row
+  -- a post-byte and X: the effective address
+  postByte : ℕ → ℕ → ℕ → Row
+  -- a post-byte: the number of its refusal
+  badPostByte : ℕ → ℕ → Row
+  -- a System write at an address: its place, whatever ram_top is
+  systemWrite : ℕ → ℕ → Row
+  -- a program's write at an address, with ram_top: ignored
+  ignoredWrite : ℕ → ℕ → Row
 
 -- each flag named is as its line says
 abbrev pub Shown : CCBits → List Line → Type 0
@@ -26,10 +46,25 @@ Shown cc ((f := v) ∷ rest) = (flag f cc ≡ v) × Shown cc rest
 abbrev pub Gives : Flags → Operation → CCBits → ℕ → ℕ → ℕ → List Line → Type 0
 Gives s o cc a b r lines = let p = by s o cc a b in (p .value ≡ r) × Shown (codes cc (p .flags)) lines
 
+-- the effective address of an indexed operand whose post-byte stands at `at`
+abbrev pub reached : List ℕ → Set → Decoded → Resolved
+reached mem r (Taken operand next) = effectiveOf operand mem r next
+reached mem r (NotTaken x) = Refused x
+
+abbrev pub numberOfResolved : Resolved → ℕ
+numberOfResolved (At a) = 0
+numberOfResolved (Refused x) = numberOf x
+
 abbrev pub Holds : Row → Type 0
 Holds (of o a b r bought manual) = (cc : CCBits) → Gives Bought o cc a b r bought × Gives Manual o cc a b r manual
 Holds (carrying o a b r bought manual) =
     (cc : CCBits) → flag C cc ≡ true → Gives Bought o cc a b r bought × Gives Manual o cc a b r manual
+Holds (postByte p x a) =
+    (mem : List ℕ) (at : ℕ) (r : Set) → at < 65536 → byteAt mem at ≡ p → r .x ≡ x → reached mem r (decodeOf Indexed mem at false) ≡ At (atAddress r a)
+Holds (badPostByte p n) =
+    (mem : List ℕ) (at : ℕ) (r : Set) → at < 65536 → byteAt mem at ≡ p → numberOfResolved (reached mem r (decodeOf Indexed mem at false)) ≡ n
+Holds (systemWrite at p) = (top : ℕ) → landingOf at top (isSystem System) ≡ Stored p
+Holds (ignoredWrite at top) = landingOf at top (isSystem Program) ≡ Ignored
 
 abbrev pub Every : List Row → Type 0
 Every [] = Unit
@@ -45,4 +80,8 @@ rows =
     ∷ carrying ADC 0x7F 0xFF 0x7F ((C := true) ∷ («V» := true) ∷ []) ((C := true) ∷ («V» := false) ∷ [])
     ∷ carrying SBC 0x80 0xFF 0x80 ((C := true) ∷ («V» := true) ∷ []) ((C := true) ∷ («V» := false) ∷ [])
     ∷ of MUL 0x10 0x08 0x0080 ((C := true) ∷ []) ((C := true) ∷ [])
+    ∷ postByte 0x1F 0x0000 0xFFFF
+    ∷ badPostByte 0x92 5
+    ∷ systemWrite 0xFFE0 0xBFE0
+    ∷ ignoredWrite 0x8000 0x7FFF
     ∷ []

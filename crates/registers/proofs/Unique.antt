@@ -44,6 +44,12 @@ dec-u8 κs a x y ws vs p q = (p ∙ sym q, refl)
 pub inc-u8 : Determines 0 CCBits.inc_u8.Kinds.ps CCBits.inc_u8.Kinds.r CCBits.inc_u8.Reads.Post
 inc-u8 κs a x y ws vs p q = (p ∙ sym q, refl)
 
+pub tst-u8 : Determines 0 CCBits.tst_u8.Kinds.ps CCBits.tst_u8.Kinds.r CCBits.tst_u8.Reads.Post
+tst-u8 κs a x y ws vs p q = (p ∙ sym q, refl)
+
+pub tst-u16 : Determines 0 CCBits.tst_u16.Kinds.ps CCBits.tst_u16.Kinds.r CCBits.tst_u16.Reads.Post
+tst-u16 κs a x y ws vs p q = (p ∙ sym q, refl)
+
 pub and-u8 : Determines 0 CCBits.and_u8.Kinds.ps CCBits.and_u8.Kinds.r CCBits.and_u8.Reads.Post
 and-u8 κs a x y ws vs p q = (p ∙ sym q, refl)
 

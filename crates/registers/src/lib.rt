@@ -336,12 +336,24 @@ impl CCBits {
         }
     }
 
-    // A result with V cleared.
+    // N and Z by a value, V cleared: loads, stores and tests.
+    pub fn tst_u8(self, val: u8) -> CCBits
+        ensures { λ r. ⌜ r ≡ codes self (logical 0x80 val .flags) ⌝ }
+    {
+        self.set(CCBit::V, false).set_zn_8(val)
+    }
+
+    pub fn tst_u16(self, val: u16) -> CCBits
+        ensures { λ r. ⌜ r ≡ codes self (logical 0x8000 val .flags) ⌝ }
+    {
+        self.set(CCBit::V, false).set_zn_16(val)
+    }
+
     fn logic_u8(self, result: u8) -> Out8
         ensures { λ r. ⌜ r ≡ out8 self (logical 0x80 result) ⌝ }
     {
         Out8 {
-            cc: self.set(CCBit::V, false).set_zn_8(result),
+            cc: self.tst_u8(result),
             value: result,
         }
     }
@@ -357,7 +369,7 @@ impl CCBits {
     {
         let result = val1 & val2;
         Out16 {
-            cc: self.set(CCBit::V, false).set_zn_16(result),
+            cc: self.tst_u16(result),
             value: result,
         }
     }

@@ -9,10 +9,10 @@ use Rattle.cases.proofs.answer_block.Statement.{statement}
 use Rattle.cases.proofs.answer_block.Tie as tie
 
 abbrev Inv-loop : tie.InvT-loop
-Inv-loop lines n out₀ end₀ i₀ out end i = (i ≤ n / 23) × (end ≤ 20 * i) × (length out ≡ length out₀)
+Inv-loop lines n mem₀ out₀ end₀ i₀ mem out end i = (i ≤ n / 23) × (end ≤ 20 * i) × (length out ≡ length out₀)
 
 abbrev μ-loop : tie.MeasureT-loop
-μ-loop lines n out₀ end₀ i₀ out end i = n / 23 - i
+μ-loop lines n mem₀ out₀ end₀ i₀ mem out end i = n / 23 - i
 
 returns : tie.Need-returns Inv-loop μ-loop
 returns c = (omega arith, simp length-take (omega arith))

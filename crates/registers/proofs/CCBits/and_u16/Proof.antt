@@ -5,9 +5,9 @@ use Rattle.registers.proofs.CCBits.and_u16.Statement.{statement}
 use Rattle.registers.proofs.CCBits.and_u16.Tie as tie
 
 returns : tie.Need-returns
-returns c = rw (c .set-zn-16 .ensures, c .before .set .ensures)
+returns c = rw (c .tst-u16 .ensures)
 
 pub and-u16-spec : {M : Type 1} → statement M
 and-u16-spec =
     tie.close
-    (tie.spec (search needs) (search needs) returns)
+    (tie.spec (search needs) returns)

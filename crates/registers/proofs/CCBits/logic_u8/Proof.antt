@@ -5,9 +5,9 @@ use Rattle.registers.proofs.CCBits.logic_u8.Statement.{statement}
 use Rattle.registers.proofs.CCBits.logic_u8.Tie as tie
 
 returns : tie.Need-returns
-returns c = rw (c .set-zn-8 .ensures, c .before .set .ensures)
+returns c = rw (c .tst-u8 .ensures)
 
 pub logic-u8-spec : {M : Type 1} → statement M
 logic-u8-spec =
     tie.close
-    (tie.spec (search needs) (search needs) returns)
+    (tie.spec (search needs) returns)
