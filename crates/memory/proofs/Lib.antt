@@ -3,3 +3,5 @@ pub mod Folds
 pub mod Calling
 pub mod Unique
 pub mod Places
+pub mod Twelve
+pub mod Refusing

@@ -1,0 +1,4 @@
+pub mod Few
+pub mod Parting
+pub mod Transfers
+pub mod Unique

@@ -1,0 +1,11 @@
+-- No second answer fits a public function's contract.
+-- Assumes nothing.
+use mathlib.Core.Path.{refl, sym, _∙_}
+use Rattle.u8oru16.proofs.Determined.{Determines}
+use Rattle.evaluate.proofs
+
+pub take-vector : Determines 1 proofs.take_vector.Kinds.ps proofs.take_vector.Kinds.r proofs.take_vector.Reads.Post
+take-vector κs a x y ws vs p q = (p ∙ sym q, refl)
+
+pub evaluate : Determines 1 proofs.evaluate.Kinds.ps proofs.evaluate.Kinds.r proofs.evaluate.Reads.Post
+evaluate κs a x y ws vs p q = (p ∙ sym q, refl)

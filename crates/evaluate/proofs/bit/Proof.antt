@@ -1,0 +1,16 @@
+-- `bit` meets its contract.
+-- Assumes nothing.
+use Rattle.registers.specs.ConditionCodes.{bitAt}
+use mathlib.Core.Path.{refl}
+use borrow.Author.Needs.{needs}
+use Rattle.evaluate.proofs.bit.Statement.{statement}
+use Rattle.evaluate.proofs.bit.Tie as tie
+
+returns : tie.Need-returns
+unfolding bitAt
+returns c = refl
+
+pub bit-spec : {M : Type 1} → statement M
+bit-spec =
+    tie.close
+    (tie.spec (search needs) returns)

@@ -1,0 +1,15 @@
+-- `frame` meets its contract.
+-- Assumes nothing.
+use Rattle.evaluate.specs.Stack.{framed}
+use borrow.Author.Needs.{needs}
+use Rattle.evaluate.proofs.frame.Statement.{statement}
+use Rattle.evaluate.proofs.frame.Tie as tie
+
+returns : tie.Need-returns
+unfolding framed
+returns c = rw (c .pushing .ensures, c .before .with-codes .ensures, c .before .before .set .ensures)
+
+pub frame-spec : {M : Type 1} → statement M
+frame-spec =
+    tie.close
+    (tie.spec (search needs) (search needs) (search needs) returns)

@@ -1,0 +1,21 @@
+-- `sign_extend` meets its contract.
+-- Assumes nothing.
+use borrow.Author.Needs.{needs}
+use Rattle.evaluate.proofs.sign_extend.Statement.{statement}
+use Rattle.evaluate.proofs.sign_extend.Tie as tie
+
+returns : tie.Need-returns
+returns c =
+    rw (
+      c .with-word .ensures,
+      c .before .with-codes .ensures,
+      c .before .before .set2 .ensures,
+      c .before .before .before .set .ensures,
+      c .before .before .before .before .u16 .ensures,
+      c .before .before .before .before .before .sign-extended .ensures,
+    )
+
+pub sign-extend-spec : {M : Type 1} → statement M
+sign-extend-spec =
+    tie.close
+    (tie.spec (search needs) (search needs) (search needs) (search needs) (search needs) (search needs) returns)

@@ -1,0 +1,9 @@
+pub mod Effects
+pub mod Bytes
+pub mod Words
+pub mod Branches
+pub mod Stack
+pub mod Interrupts
+pub mod Rest
+pub mod Evaluate
+pub mod Parting

@@ -1,0 +1,26 @@
+-- `cond_letters` meets its contract.
+-- Assumes nothing.
+use borrow.Author.Needs.{needs}
+use Rattle.opcodes.proofs.mnemonics.cond_letters.Statement.{statement}
+use Rattle.opcodes.proofs.mnemonics.cond_letters.Tie as tie
+
+pub cond-letters-spec : {M : Type 1} → statement M
+cond-letters-spec =
+    tie.close
+    (tie.spec (search needs) (search needs) (search needs) (search needs) (search needs) (search needs) (search needs) (search needs) (search needs) (search needs) (search needs) (search needs) (search needs) (search needs) (search needs) (search needs)
+    (λ c. rw (c .before .before .enum-told .given .1))
+    (λ c. rw (c .before .before .enum-told2 .given .1))
+    (λ c. rw (c .before .before .enum-told3 .given .1))
+    (λ c. rw (c .before .before .enum-told4 .given .1))
+    (λ c. rw (c .before .before .enum-told5 .given .1))
+    (λ c. rw (c .before .before .enum-told6 .given .1))
+    (λ c. rw (c .before .before .enum-told7 .given .1))
+    (λ c. rw (c .before .before .enum-told8 .given .1))
+    (λ c. rw (c .before .before .enum-told9 .given .1))
+    (λ c. rw (c .before .before .enum-told10 .given .1))
+    (λ c. rw (c .before .before .enum-told11 .given .1))
+    (λ c. rw (c .before .before .enum-told12 .given .1))
+    (λ c. rw (c .before .before .enum-told13 .given .1))
+    (λ c. rw (c .before .before .enum-told14 .given .1))
+    (λ c. rw (c .before .before .enum-told15 .given .1))
+    (λ c. rw (c .before .before .enum-told16 .given .1)))

@@ -1,0 +1,14 @@
+-- `step` meets its contract.
+-- Assumes nothing.
+use mathlib.Core.Path.{_∙_}
+use borrow.Author.Needs.{needs}
+use Rattle.step.proofs.step.Statement.{statement}
+use Rattle.step.proofs.step.Tie as tie
+
+returns : tie.Need-returns
+returns c = (c .before .before .carry-out .ensures .0 ∙ rw (c .before .before .before .before .find .ensures), c .before .before .carry-out .ensures .1 ∙ rw (c .before .before .before .before .find .ensures))
+
+pub step-spec : {M : Type 1} → statement M
+step-spec =
+    tie.close
+    (tie.spec (search needs) (search needs) (search needs) returns)

@@ -1,0 +1,161 @@
+-- A step: fetch, table, address, evaluate, store (document 01, "Numbers returned" gives the order of refusals).
+-- Assumes nothing.
+use Prim.Native.Nat.{ℕ, _+_, _%_, _^_}
+use mathlib.Core.Bool.{Bool, true, false, cond}
+use mathlib.Core.List.{List, []}
+use lib.Dec.{eqb, ltb}
+use lib.ListN.{length}
+use Rattle.registers.specs.declared.Set.{Set}
+use Rattle.memory.specs.Map.{byteAt, lowAt}
+use Rattle.memory.specs.Writes.{writesOf, listed, stored, reported}
+use Rattle.memory.specs.declared.Answer.{Answer}
+use Rattle.memory.specs.declared.Answer.the-variants.{Done, Refused}
+use Rattle.memory.specs.declared.Refusal.{Refusal}
+use Rattle.memory.specs.declared.Refusal.the-variants.{MemoryLength, Waiting, Opcode, PastEnd}
+use Rattle.addressing.specs.Resolve.{addressOf}
+use Rattle.addressing.specs.declared.Resolved.{Resolved}
+use Rattle.addressing.specs.declared.Resolved.the-variants.{At, Refused as NoAddress}
+use Rattle.opcodes.specs.Manual.{entryOf}
+use Rattle.opcodes.specs.declared.Entry.{Entry}
+use Rattle.opcodes.specs.declared.Op.{Op}
+use Rattle.opcodes.specs.declared.Op.the-variants.{Illegal, Alu, Store8, OnAcc, OnMemory, Addd, Subd, Load16, Store16, Cmp16, Lea, Branch, Bsr, Jsr, Jmp, Rts, Rti, Swi, Cwai, Sync, Nop, Daa, Sex, Mul, Abx, Andcc, Orcc, Exg, Tfr, Pshs, Puls, Pshu, Pulu}
+use Rattle.opcodes.specs.declared.Page.{Page}
+use Rattle.opcodes.specs.declared.Page.the-variants.{Plain, Ten, Eleven}
+use Rattle.evaluate.specs.Evaluate.{evaluateOf}
+use Rattle.evaluate.specs.declared.Effect.{Effect}
+use Rattle.evaluate.specs.declared.Wait.{Wait}
+use Rattle.evaluate.specs.declared.Wait.the-variants.{Running, Cwai as InCwai, Sync as InSync}
+use Rattle.step.specs.declared.Fetched.{Fetched}
+use Rattle.step.specs.declared.Fetched.the-variants.{Instruction, Refused as NotFetched}
+use Rattle.step.specs.declared.Found.{Found}
+use Rattle.step.specs.declared.Machine.{Machine}
+use Rattle.step.specs.declared.Settings.{Settings}
+use Rattle.step.specs.declared.Stepped.{Stepped}
+
+-- a refused call leaves the machine and writes nothing
+abbrev pub refusedWith : Machine → Refusal → Found
+refusedWith m x = record { writes = writesOf []; machine = m; answer = Refused x }
+
+-- the registers of 16 bits, kept to 16 bits
+abbrev pub kept : Set → Set
+kept r =
+    record {
+      x = r .x % 65536;
+      y = r .y % 65536;
+      u = r .u % 65536;
+      s = r .s % 65536;
+      pc = r .pc % 65536;
+      a = r .a;
+      b = r .b;
+      dp = r .dp;
+      cc = r .cc;
+    }
+
+-- an instruction that is carried out: instructions and 1, cycles and the table's figure, both wrapping
+abbrev after : Machine → ℕ → Effect → Machine
+after m cycles e =
+    record { cycles = (m .cycles + cycles) % 2 ^ 64; instructions = (m .instructions + 1) % 2 ^ 64; regs = kept (e .regs); wait = e .wait }
+
+abbrev pub finishedAs : Answer → Machine → ℕ → Effect → Found
+finishedAs Done m cycles e = record { writes = e .writes; machine = after m cycles e; answer = Done }
+finishedAs (Refused x) m cycles e = refusedWith m x
+
+unfoldable pub finished : Machine → ℕ → Effect → Found
+finished m cycles e = finishedAs (e .answer) m cycles e
+
+-- a place of the table that is not in the manual: 3
+abbrev pub isIllegal : Op → Bool
+isIllegal Illegal = true
+isIllegal (Alu op acc) = false
+isIllegal (Store8 acc) = false
+isIllegal (OnAcc op acc) = false
+isIllegal (OnMemory op) = false
+isIllegal Addd = false
+isIllegal Subd = false
+isIllegal (Load16 name) = false
+isIllegal (Store16 name) = false
+isIllegal (Cmp16 name) = false
+isIllegal (Lea name) = false
+isIllegal (Branch c) = false
+isIllegal Bsr = false
+isIllegal Jsr = false
+isIllegal Jmp = false
+isIllegal Rts = false
+isIllegal Rti = false
+isIllegal (Swi which) = false
+isIllegal Cwai = false
+isIllegal Sync = false
+isIllegal Nop = false
+isIllegal Daa = false
+isIllegal Sex = false
+isIllegal Mul = false
+isIllegal Abx = false
+isIllegal Andcc = false
+isIllegal Orcc = false
+isIllegal Exg = false
+isIllegal Tfr = false
+isIllegal Pshs = false
+isIllegal Puls = false
+isIllegal Pshu = false
+isIllegal Pulu = false
+
+abbrev ofEntry : Entry → ℕ → Fetched
+ofEntry e at = cond (isIllegal (e .op)) (NotFetched Opcode) (Instruction e at)
+
+unfoldable pub opcodeAt : Page → ℕ → ℕ → Fetched
+opcodeAt page code at = ofEntry (entryOf page code) at
+
+-- the byte after a prefix: 4 past FFFF
+unfoldable pub secondByte : Page → List ℕ → ℕ → Fetched
+secondByte page mem pc = cond (ltb pc 0xFFFF) (opcodeAt page (byteAt mem (lowAt pc)) (pc + 2)) (NotFetched PastEnd)
+
+-- 10 and 11 lead to the second and third page
+abbrev fetchedAs : List ℕ → ℕ → ℕ → Fetched
+fetchedAs mem pc code =
+    cond (eqb code 0x10) (secondByte Ten mem pc)
+    (cond (eqb code 0x11) (secondByte Eleven mem pc)
+    (opcodeAt Plain code (pc + 1)))
+
+unfoldable pub fetched : List ℕ → ℕ → Fetched
+fetched mem pc = fetchedAs mem pc (byteAt mem pc)
+
+-- two bytes of operand follow the opcode
+abbrev pub isWide : ℕ → ℕ → ℕ → Bool
+isWide size pc at = eqb (pc + size) (at + 2)
+
+-- the address, then the operation; the registers have PC at the next instruction
+abbrev pub ofAddress : List ℕ → Machine → Settings → Entry → Resolved → Found
+ofAddress mem m s e (At a) = finished m (e .cycles) (evaluateOf (e .op) (s .flags) (s .«ram_top») mem (a .regs) (a .ea))
+ofAddress mem m s e (NoAddress x) = refusedWith m x
+
+unfoldable pub executed : List ℕ → Machine → Settings → Entry → ℕ → Found
+executed mem m s e at = ofAddress mem m s e (addressOf mem (m .regs) (e .mode) at (isWide (e .size) (m .regs .pc) at))
+
+abbrev pub ofFetched : List ℕ → Machine → Settings → Fetched → Found
+ofFetched mem m s (Instruction e at) = executed mem m s e at
+ofFetched mem m s (NotFetched x) = refusedWith m x
+
+unfoldable pub running : List ℕ → Machine → Settings → Found
+running mem m s = ofFetched mem m s (fetched mem (m .regs .pc))
+
+-- 1 unless memory has 65,536 bytes, then 2 while waiting
+abbrev pub unlessWaiting : Wait → List ℕ → Machine → Settings → Found
+unlessWaiting Running mem m s = running mem m s
+unlessWaiting InCwai mem m s = refusedWith m Waiting
+unlessWaiting InSync mem m s = refusedWith m Waiting
+
+unfoldable pub foundOf : List ℕ → Machine → Settings → Found
+foundOf mem m s = cond (eqb (length mem) 65536) (unlessWaiting (m .wait) mem m s) (refusedWith m MemoryLength)
+
+-- what was found, carried out: the machine and the answer, the device writes in order, and memory
+abbrev pub carriedOut : ℕ → Found → Stepped
+carriedOut top f = record { devices = writesOf (reported top (listed (f .writes))); machine = f .machine; answer = f .answer }
+
+abbrev pub memoryWith : ℕ → Found → List ℕ → List ℕ
+memoryWith top f mem = stored top (listed (f .writes)) mem
+
+abbrev pub stepOf : List ℕ → Machine → Settings → Stepped
+stepOf mem m s = carriedOut (s .«ram_top») (foundOf mem m s)
+
+abbrev pub memoryAfterStep : List ℕ → Machine → Settings → List ℕ
+memoryAfterStep mem m s = memoryWith (s .«ram_top») (foundOf mem m s) mem
