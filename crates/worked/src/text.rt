@@ -1,0 +1,88 @@
+// The lines: the shape of an example, the numbers in it, and the outcome's digits.
+ghost use Prim.Native.Nat.{_+_, _≤_};
+
+// An example's line, and an outcome's.
+pub const LINE: usize = 72;
+
+pub const OUT: usize = 59;
+
+pub type Line = [u8; LINE];
+
+pub type Out = [u8; OUT];
+
+fn is_digit(b: u8) -> bool {
+    match b {
+        b'0'..=b'9' | b'A'..=b'F' => true,
+        _ => false,
+    }
+}
+
+// x stands for a hexadecimal digit, f for a flag setting, any other byte for itself.
+fn fits(kind: u8, b: u8) -> bool {
+    match kind {
+        b'x' => is_digit(b),
+        b'f' => (b == b'B') | (b == b'M'),
+        _ => b == kind,
+    }
+}
+
+pub fn is_example(line: &Line) -> bool {
+    let shape = b"xxx f xx xx xx xx xxxx xxxx xxxx xxxx xxxxxxxxxxxx xxxx xxxxxxxx x xxxx\n";
+    let mut good = true;
+    let mut i = 0;
+    while i < LINE {
+        good = good & fits(shape[i], line[i]);
+        i += 1;
+    }
+    good
+}
+
+// The readers take every line; `is_example` has refused one with another byte in the place of a digit.
+pub fn digit(b: u8) -> u8
+    ensures { λ r. ⌜ r ≤ 15 ⌝ }
+{
+    match b {
+        b'0'..=b'9' => b - b'0',
+        b'A'..=b'F' => b - b'A' + 10,
+        _ => 0,
+    }
+}
+
+pub fn byte_at(line: &Line, at: usize) -> u8
+    requires { ⌜ at + 2 ≤ 72 ⌝ }
+{
+    digit(line[at]) * 16 + digit(line[at + 1])
+}
+
+pub fn word_at(line: &Line, at: usize) -> u16
+    requires { ⌜ at + 4 ≤ 72 ⌝ }
+{
+    byte_at(line, at) as u16 * 256 + byte_at(line, at + 2) as u16
+}
+
+// The last hexadecimal digit of n.
+fn letter(n: u8) -> u8 {
+    let d = n % 16;
+    if d < 10 { b'0' + d } else { b'A' - 10 + d }
+}
+
+pub fn put_byte(out: &mut Out, at: usize, b: u8)
+    requires { ⌜ at + 2 ≤ 59 ⌝ }
+{
+    out[at] = letter(b / 16);
+    out[at + 1] = letter(b);
+}
+
+pub fn put_word(out: &mut Out, at: usize, w: u16)
+    requires { ⌜ at + 4 ≤ 59 ⌝ }
+{
+    put_byte(out, at, (w / 256) as u8);
+    put_byte(out, at + 2, (w % 256) as u8);
+}
+
+// The last decimal digit of n.
+pub fn put_decimal(out: &mut Out, at: usize, n: u64)
+    requires { ⌜ at + 1 ≤ 59 ⌝ }
+{
+    out[at] = b'0' + (n % 10) as u8;
+}
