@@ -2,3 +2,4 @@ pub mod PostBytes
 pub mod Sums
 pub mod Refused
 pub mod Unique
+pub mod Widths

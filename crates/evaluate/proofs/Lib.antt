@@ -1,4 +1,5 @@
-pub mod Few
+pub mod Waits
+pub mod Sound
 pub mod Parting
 pub mod Transfers
 pub mod Unique

@@ -7,5 +7,8 @@ use Rattle.evaluate.proofs
 pub take-vector : Determines 1 proofs.take_vector.Kinds.ps proofs.take_vector.Kinds.r proofs.take_vector.Reads.Post
 take-vector κs a x y ws vs p q = (p ∙ sym q, refl)
 
+pub serve : Determines 1 proofs.serve.Kinds.ps proofs.serve.Kinds.r proofs.serve.Reads.Post
+serve κs a x y ws vs p q = (p ∙ sym q, refl)
+
 pub evaluate : Determines 1 proofs.evaluate.Kinds.ps proofs.evaluate.Kinds.r proofs.evaluate.Reads.Post
 evaluate κs a x y ws vs p q = (p ∙ sym q, refl)

@@ -98,6 +98,6 @@ pulling mem r own other mask = pulledFrom r own (pulledAll mem r other (indexed 
 unfoldable pub returning : List ℕ → Set → Effect
 returning mem r = pulling mem r S U (cond (bitAt 7 (byteAt mem (r .s))) 0xFF 0x81)
 
--- the frame of an interrupt: all registers on S with E set, as System writes
-unfoldable pub framed : Set → Effect
-framed r = pushing (withCodes r (put E true (r .cc))) S U 0xFF true
+-- the frame of an interrupt on S, as System writes: all registers with E set, or PC and CC alone with E clear
+unfoldable pub framed : Set → Bool → Effect
+framed r entire = pushing (withCodes r (put E entire (r .cc))) S U (cond entire 0xFF 0x81) true

@@ -10,7 +10,7 @@ ghost use Rattle.evaluate.specs.Bytes.{aluOf, unaryOf, writesBack, withO
 ghost use Rattle.evaluate.specs.Words.{load16, store16, compare16, addD, subtractD, loadIndex, loadAddress};
 ghost use Rattle.evaluate.specs.Branches.{less, condition, branchIf, jumped};
 ghost use Rattle.evaluate.specs.Stack.{pushedByte, pushedWord, pushedAll, bytesOf, pushing, pulledByte, pulledWordAt, pulledWord, pulledAll, pulling, returning, framed};
-ghost use Rattle.evaluate.specs.Interrupts.{called, vectored, vectorOf, maskOf, orCodes, andCodes, software, waiting};
+ghost use Rattle.evaluate.specs.Interrupts.{called, vectored, served, vectorOf, maskOf, orCodes, andCodes, waiting};
 ghost use Rattle.evaluate.specs.Rest.{correction, corrected, daaOf, sexOf, mulOf, abxOf, transferable, transferName, transfer, exchange, synchronized};
 ghost use Rattle.evaluate.specs.Evaluate.{evaluateOf};
 use memory::Answer;
@@ -555,46 +555,69 @@ fn call(regs: Set, ea: u16) -> Effect
     ensures { λ r. ⌜ r ≡ called regs ea ⌝ }
 {
     let pushed = pushing(regs, Name::S, Name::U, 0x80, false);
+    let answer = pushed.answer;
     let writes = pushed.writes;
     let after = pushed.regs;
-    let answer = pushed.answer;
-    Effect {
-        writes,
-        regs: jump(after, ea),
-        wait: Wait::Running,
-        answer,
+    match answer {
+        Answer::Refused(refusal) => refuses(regs, refusal),
+        Answer::Done => stores(jump(after, ea), writes),
     }
 }
 
-// ---- software interrupts and CWAI
+// ---- interrupts and CWAI
 
-// All registers with E set, as System writes.
-fn frame(regs: Set) -> Effect
-    ensures { λ r. ⌜ r ≡ framed regs ⌝ }
+// The frame of an interrupt, as System writes: all registers with E set, or PC and CC alone with E clear.
+fn frame(regs: Set, entire: bool) -> Effect
+    ensures { λ r. ⌜ r ≡ framed regs entire ⌝ }
 {
     let cc = regs.cc;
+    let mask = if entire { 0xFF } else { 0x81 };
     pushing(
-        with_codes(regs, cc.set(CCBit::E, true)),
+        with_codes(regs, cc.set(CCBit::E, entire)),
         Name::S,
         Name::U,
-        0xFF,
+        mask,
         true,
     )
 }
 
-// The vector, and the byte that it leads to, are read from memory as it is after the writes.
-pub fn take_vector(mem: &[u8], ram_top: u16, regs: Set, writes: Writes, vector: u16) -> Effect
-    ensures { λ r. ⌜ r ≡ vectored (now (mem .entry)) «ram_top» regs writes vector ⌝ }
+// The vector, and the byte that it leads to, are read from memory as it is after the writes. A refusal hands back the registers from before.
+pub fn take_vector(
+    mem: &[u8],
+    ram_top: u16,
+    before: Set,
+    regs: Set,
+    writes: Writes,
+    vector: u16,
+) -> Effect
+    ensures { λ r. ⌜ r ≡ vectored (now (mem .entry)) «ram_top» before regs writes vector ⌝ }
 {
     match memory::read_u16_after(mem, ram_top, writes, vector) {
         WordRead::Word(pc) => {
             if memory::read_u8_after(mem, ram_top, writes, pc) == 0 {
-                refuses(regs, Refusal::ZeroAtVector)
+                refuses(before, Refusal::ZeroAtVector)
             } else {
                 stores(jump(regs, pc), writes)
             }
         }
-        WordRead::Refused(refusal) => refuses(regs, refusal),
+        WordRead::Refused(refusal) => refuses(before, refusal),
+    }
+}
+
+// The masks are ORed into CC after it was stacked.
+pub fn serve(mem: &[u8], ram_top: u16, regs: Set, entire: bool, masks: u8, vector: u16) -> Effect
+    ensures { λ r. ⌜ r ≡ served (now (mem .entry)) «ram_top» regs entire masks vector ⌝ }
+{
+    let pushed = frame(regs, entire);
+    let answer = pushed.answer;
+    let after = pushed.regs;
+    let writes = pushed.writes;
+    match answer {
+        Answer::Refused(refusal) => refuses(regs, refusal),
+        Answer::Done => {
+            let masked = or_codes(after, masks);
+            take_vector(mem, ram_top, regs, masked, writes, vector)
+        }
     }
 }
 
@@ -618,36 +641,22 @@ fn mask_of(which: Software) -> u8
     }
 }
 
-fn software_interrupt(mem: &[u8], ram_top: u16, regs: Set, which: Software) -> Effect
-    ensures { λ r. ⌜ r ≡ software (now (mem .entry)) «ram_top» regs which ⌝ }
-{
-    let pushed = frame(regs);
-    let answer = pushed.answer;
-    let after = pushed.regs;
-    let writes = pushed.writes;
-    match answer {
-        Answer::Refused(refusal) => refuses(regs, refusal),
-        Answer::Done => {
-            let cc = after.cc;
-            let masked = with_codes(after, cc.or_with_byte(mask_of(which)));
-            take_vector(mem, ram_top, masked, writes, vector_of(which))
-        }
-    }
-}
-
 // CWAI: the condition codes are masked, E is set, and all registers are stacked before the wait.
 fn wait_for_interrupt(regs: Set, m: u8) -> Effect
     ensures { λ r. ⌜ r ≡ waiting regs m ⌝ }
 {
-    let pushed = frame(and_codes(regs, m));
+    let pushed = frame(and_codes(regs, m), true);
+    let answer = pushed.answer;
     let writes = pushed.writes;
     let after = pushed.regs;
-    let answer = pushed.answer;
-    Effect {
-        writes,
-        regs: after,
-        wait: Wait::Cwai,
-        answer,
+    match answer {
+        Answer::Refused(refusal) => refuses(regs, refusal),
+        Answer::Done => Effect {
+            writes,
+            regs: after,
+            wait: Wait::Cwai,
+            answer,
+        },
     }
 }
 
@@ -827,7 +836,7 @@ pub fn evaluate(op: Op, flags: Flags, ram_top: u16, mem: &[u8], regs: Set, ea: u
         Op::Jmp => changes(jump(regs, ea)),
         Op::Rts => pulling(mem, regs, Name::S, Name::U, 0x80),
         Op::Rti => return_from_interrupt(mem, regs),
-        Op::Swi(which) => software_interrupt(mem, ram_top, regs, which),
+        Op::Swi(which) => serve(mem, ram_top, regs, true, mask_of(which), vector_of(which)),
         Op::Cwai => wait_for_interrupt(regs, memory::read_u8(mem, ea)),
         Op::Sync => synchronize(regs),
         Op::Nop => changes(regs),

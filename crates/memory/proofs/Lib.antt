@@ -4,4 +4,5 @@ pub mod Calling
 pub mod Unique
 pub mod Places
 pub mod Twelve
+pub mod Fits
 pub mod Refusing

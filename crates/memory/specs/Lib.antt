@@ -1,4 +1,5 @@
 pub mod Answers
 pub mod Map
 pub mod Writes
+pub mod Fits
 pub mod Calls

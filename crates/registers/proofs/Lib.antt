@@ -7,6 +7,7 @@ pub mod Shifts
 pub mod Overflow
 pub mod Lines
 pub mod Parting
+pub mod Fits
 pub mod Laws
 pub mod Registers
 pub mod Unique

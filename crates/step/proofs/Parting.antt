@@ -1,90 +1,62 @@
 -- The two settings part in a whole step in V alone, exactly where the leaves' law says.
 -- Assumes nothing.
-use Prim.Native.Nat.{ℕ, _<_, _%_}
+use Prim.Native.Nat.{ℕ}
 use mathlib.Core.Path.{_≡_, refl, ap}
 use mathlib.Core.Bool.{Bool, true, false, cond}
 use mathlib.Core.List.{List}
 use native.Mathlib.Omega.{arith}
 use lib.Dec.{eqb}
 use lib.ListN.{length}
-use Rattle.registers.specs.ConditionCodes.{flag}
-use Rattle.registers.specs.declared.CCBit.the-variants.{«V»}
+use Rattle.registers.specs.Fits.{Fits}
 use Rattle.registers.specs.declared.Flags.{Flags}
 use Rattle.registers.specs.declared.Flags.the-variants.{Bought, Manual}
 use Rattle.registers.specs.declared.Set.{Set}
+use Rattle.memory.specs.Fits.{Bytes}
 use Rattle.memory.specs.Map.{byteAt}
+use Rattle.memory.proofs.Fits.{byte-fits}
 use Rattle.memory.specs.declared.Answer.{Answer}
 use Rattle.memory.specs.declared.Answer.the-variants.{Done, Refused}
 use Rattle.memory.specs.declared.Refusal.the-variants.{MemoryLength, Waiting}
 use Rattle.addressing.specs.Resolve.{addressOf}
 use Rattle.addressing.specs.declared.Resolved.{Resolved}
 use Rattle.addressing.specs.declared.Resolved.the-variants.{At, Refused as NoAddress}
+use Rattle.addressing.proofs.Widths.{ResolvedFits, address-fits}
 use Rattle.opcodes.specs.declared.Entry.{Entry}
 use Rattle.opcodes.specs.declared.Op.{Op}
-use Rattle.opcodes.specs.declared.Op.the-variants.{Illegal, Alu, Store8, OnAcc, OnMemory, Addd, Subd, Load16, Store16, Cmp16, Lea, Branch, Bsr, Jsr, Jmp, Rts, Rti, Swi, Cwai, Sync, Nop, Daa, Sex, Mul, Abx, Andcc, Orcc, Exg, Tfr, Pshs, Puls, Pshu, Pulu}
 use Rattle.opcodes.specs.declared.Unary.{Unary}
 use Rattle.opcodes.specs.declared.Unary.the-variants.{Neg, Com, Lsr, Ror, Asr, Asl, Rol, Dec, Inc, Tst, Clr}
 use Rattle.evaluate.specs.Bytes.{onMemory}
 use Rattle.evaluate.specs.Evaluate.{evaluateOf}
-use Rattle.evaluate.specs.Parting.{PartInV, OpParts}
+use Rattle.evaluate.specs.Parting.{EffectsPart, OpParts, adc, sbc, dec, inc, dec-memory, inc-memory}
 use Rattle.evaluate.specs.declared.Effect.{Effect}
 use Rattle.evaluate.specs.declared.Wait.{Wait}
 use Rattle.evaluate.specs.declared.Wait.the-variants.{Running, Cwai as InCwai, Sync as InSync}
-use Rattle.evaluate.proofs.Parting.{instructions-part}
+use Rattle.evaluate.proofs.Parting.{same-registers, instructions-part}
 use Rattle.step.specs.Parting.{FoundPart, PartsAt, PartsFetched, PartsRunning, PartsWhole, setTo, StepsPart}
 use Rattle.step.specs.Step.{refusedWith, finishedAs, finished, ofAddress, executed, ofFetched, isWide, running, unlessWaiting, fetched, foundOf}
 use Rattle.step.specs.declared.Fetched.{Fetched}
 use Rattle.step.specs.declared.Fetched.the-variants.{Instruction, Refused as NotFetched}
 use Rattle.step.specs.declared.Found.{Found}
 use Rattle.step.specs.declared.Machine.{Machine}
-use Rattle.step.proofs.Accumulators.{Bytes, Holds, address-holds}
 
 same : {f g : Found} {Case : Type 0} → f ≡ g → (Case → ⊥) → FoundPart f g Case
-same {f} {g} p n = record {
+same p n = record {
   writes = ap (λ (h : Found). h .writes) p;
   answer = ap (λ (h : Found). h .answer) p;
   cycles = ap (λ (h : Found). h .machine .cycles) p;
   instructions = ap (λ (h : Found). h .machine .instructions) p;
   wait = ap (λ (h : Found). h .machine .wait) p;
-  a = ap (λ (h : Found). h .machine .regs .a) p;
-  b = ap (λ (h : Found). h .machine .regs .b) p;
-  dp = ap (λ (h : Found). h .machine .regs .dp) p;
-  x = ap (λ (h : Found). h .machine .regs .x) p;
-  y = ap (λ (h : Found). h .machine .regs .y) p;
-  u = ap (λ (h : Found). h .machine .regs .u) p;
-  s = ap (λ (h : Found). h .machine .regs .s) p;
-  pc = ap (λ (h : Found). h .machine .regs .pc) p;
-  others = λ i d. ap (λ (h : Found). flag i (h .machine .regs .cc)) p;
-  exactly = (λ d. absurd (d (ap (λ (h : Found). flag «V» (h .machine .regs .cc)) p)), λ k. absurd (n k));
+  registers = same-registers (ap (λ (h : Found). h .machine .regs) p) n;
 }
 
 -- an instruction that both carry out, or both refuse
-module _ (m : Machine) (cycles : ℕ) (e f : Effect) {Case : Type 0} (p : PartInV e f Case) where
+module _ (m : Machine) (cycles : ℕ) (e f : Effect) {Case : Type 0} (p : EffectsPart e f Case) where
   finished-part : (Case → e .answer ≡ Done) → FoundPart (finished m cycles e) (finished m cycles f) Case
   unfolding finished
   finished-part d = go (e .answer) (f .answer) (p .answer) d
     where
-      word : (v w : ℕ) → v ≡ w → v % 65536 ≡ w % 65536
-      word v w q = ap (λ (n : ℕ). n % 65536) q
-
       go : (v w : Answer) → v ≡ w → (Case → v ≡ Done) → FoundPart (finishedAs v m cycles e) (finishedAs w m cycles f) Case
-      go Done Done q h = record {
-        writes = p .writes;
-        answer = refl;
-        cycles = refl;
-        instructions = refl;
-        wait = p .wait;
-        a = p .a;
-        b = p .b;
-        dp = p .dp;
-        x = word _ _ (p .x);
-        y = word _ _ (p .y);
-        u = word _ _ (p .u);
-        s = word _ _ (p .s);
-        pc = word _ _ (p .pc);
-        others = p .others;
-        exactly = p .exactly;
-      }
+      go Done Done q h = record { writes = p .writes; answer = refl; cycles = refl; instructions = refl; wait = p .wait; registers = p .registers }
       go Done (Refused y) q h = let z : _≡_ {A = ℕ} 0 1 = cc in absurd (omega arith)
       go (Refused x) Done q h = let z : _≡_ {A = ℕ} 0 1 = cc in absurd (omega arith)
       go (Refused x) (Refused y) q h =
@@ -107,51 +79,24 @@ module _ (top : ℕ) (mem : List ℕ) (r : Set) (ea : ℕ) where
   memory-done Tst = refl
   memory-done Clr = refl
 
-  parts-done : (op : Op) → OpParts op r (byteAt mem ea) → evaluateOf op Bought top mem r ea .answer ≡ Done
-  parts-done Illegal k = absurd k
-  parts-done (Alu op acc) k = refl
-  parts-done (Store8 acc) k = absurd k
-  parts-done (OnAcc op acc) k = refl
-  parts-done (OnMemory op) k = memory-done op
-  parts-done Addd k = absurd k
-  parts-done Subd k = absurd k
-  parts-done (Load16 name) k = absurd k
-  parts-done (Store16 name) k = absurd k
-  parts-done (Cmp16 name) k = absurd k
-  parts-done (Lea name) k = absurd k
-  parts-done (Branch c) k = absurd k
-  parts-done Bsr k = absurd k
-  parts-done Jsr k = absurd k
-  parts-done Jmp k = absurd k
-  parts-done Rts k = absurd k
-  parts-done Rti k = absurd k
-  parts-done (Swi which) k = absurd k
-  parts-done Cwai k = absurd k
-  parts-done Sync k = absurd k
-  parts-done Nop k = absurd k
-  parts-done Daa k = absurd k
-  parts-done Sex k = absurd k
-  parts-done Mul k = absurd k
-  parts-done Abx k = absurd k
-  parts-done Andcc k = absurd k
-  parts-done Orcc k = absurd k
-  parts-done Exg k = absurd k
-  parts-done Tfr k = absurd k
-  parts-done Pshs k = absurd k
-  parts-done Puls k = absurd k
-  parts-done Pshu k = absurd k
-  parts-done Pulu k = absurd k
+  parts-done : (op : Op) → OpParts r (byteAt mem ea) op → evaluateOf op Bought top mem r ea .answer ≡ Done
+  parts-done op (adc k) = refl
+  parts-done op (sbc k) = refl
+  parts-done op (dec k) = refl
+  parts-done op (inc k) = refl
+  parts-done op (dec-memory k) = memory-done Dec
+  parts-done op (inc-memory k) = memory-done Inc
 
-module _ (mem : List ℕ) (m : Machine) (top : ℕ) (l : (at : ℕ) → byteAt mem at < 256) (h : Bytes (m .regs)) where
-  address-part : (e : Entry) (a : Resolved) → Holds a
+module _ (mem : List ℕ) (m : Machine) (top : ℕ) (l : Bytes mem) (h : Fits (m .regs)) where
+  address-part : (e : Entry) (a : Resolved) → ResolvedFits a
       → FoundPart (ofAddress mem m (setTo Bought top) e a) (ofAddress mem m (setTo Manual top) e a) (PartsAt mem e a)
-  address-part e (At a) k = finished-part m (e .cycles) _ _ (instructions-part (e .op) top mem (a .regs) (a .ea) (k .a) (k .b) (l (a .ea))) (parts-done top mem (a .regs) (a .ea) (e .op))
+  address-part e (At a) k = finished-part m (e .cycles) _ _ (instructions-part (e .op) top mem (a .regs) (a .ea) (k .registers .a) (k .registers .b) (byte-fits mem l (a .ea))) (parts-done top mem (a .regs) (a .ea) (e .op))
   address-part e (NoAddress x) k = same refl (λ c. c)
 
   fetched-part : (f : Fetched)
       → FoundPart (ofFetched mem m (setTo Bought top) f) (ofFetched mem m (setTo Manual top) f) (PartsFetched mem m f)
   unfolding executed
-  fetched-part (Instruction e at) = address-part e (addressOf mem (m .regs) (e .mode) at (isWide (e .size) (m .regs .pc) at)) (address-holds mem (m .regs) h (e .mode) at (isWide (e .size) (m .regs .pc) at))
+  fetched-part (Instruction e at) = address-part e (addressOf mem (m .regs) (e .mode) at (isWide (e .size) (m .regs .pc) at)) (address-fits mem l (m .regs) h (e .mode) at (isWide (e .size) (m .regs .pc) at))
   fetched-part (NotFetched x) = same refl (λ c. c)
 
   waiting-part : (w : Wait)
@@ -163,9 +108,9 @@ module _ (mem : List ℕ) (m : Machine) (top : ℕ) (l : (at : ℕ) → byteAt m
 
 pub steps-part : StepsPart
 unfolding foundOf
-steps-part mem m top l la lb = go (eqb (length mem) 65536)
+steps-part mem m top l h = go (eqb (length mem) 65536)
   where
     go : (t : Bool)
         → FoundPart (cond t (unlessWaiting (m .wait) mem m (setTo Bought top)) (refusedWith m MemoryLength)) (cond t (unlessWaiting (m .wait) mem m (setTo Manual top)) (refusedWith m MemoryLength)) (PartsWhole t mem m)
-    go true = waiting-part mem m top l (record { a = la; b = lb }) (m .wait)
+    go true = waiting-part mem m top l h (m .wait)
     go false = same refl (λ c. c)

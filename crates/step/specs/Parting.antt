@@ -1,23 +1,21 @@
 -- Where the two flag settings part in a whole step: in V alone, where an operation that parts is carried out at its listed inputs.
 -- Assumes nothing.
-use Prim.Native.Nat.{ℕ, _<_}
+use Prim.Native.Nat.{ℕ}
 use mathlib.Core.Path.{_≡_}
 use mathlib.Core.Bool.{Bool, true, false}
 use mathlib.Core.List.{List}
-use mathlib.Core.Logic.{_≢_, _↔_}
 use lib.Dec.{eqb}
 use lib.ListN.{length}
-use Rattle.registers.specs.ConditionCodes.{flag}
-use Rattle.registers.specs.declared.CCBit.{CCBit}
-use Rattle.registers.specs.declared.CCBit.the-variants.{«V»}
+use Rattle.registers.specs.Fits.{Fits}
 use Rattle.registers.specs.declared.Flags.{Flags}
 use Rattle.registers.specs.declared.Flags.the-variants.{Bought, Manual}
+use Rattle.memory.specs.Fits.{Bytes}
 use Rattle.memory.specs.Map.{byteAt}
 use Rattle.addressing.specs.Resolve.{addressOf}
 use Rattle.addressing.specs.declared.Resolved.{Resolved}
 use Rattle.addressing.specs.declared.Resolved.the-variants.{At, Refused as NoAddress}
 use Rattle.opcodes.specs.declared.Entry.{Entry}
-use Rattle.evaluate.specs.Parting.{OpParts}
+use Rattle.evaluate.specs.Parting.{PartInV, OpParts}
 use Rattle.evaluate.specs.declared.Wait.{Wait}
 use Rattle.evaluate.specs.declared.Wait.the-variants.{Running, Cwai as InCwai, Sync as InSync}
 use Rattle.step.specs.Step.{isWide, fetched, foundOf}
@@ -34,20 +32,11 @@ pub record FoundPart (f g : Found) (Case : Type 0) : Type 0 where
   pub cycles : f .machine .cycles ≡ g .machine .cycles
   pub instructions : f .machine .instructions ≡ g .machine .instructions
   pub wait : f .machine .wait ≡ g .machine .wait
-  pub a : f .machine .regs .a ≡ g .machine .regs .a
-  pub b : f .machine .regs .b ≡ g .machine .regs .b
-  pub dp : f .machine .regs .dp ≡ g .machine .regs .dp
-  pub x : f .machine .regs .x ≡ g .machine .regs .x
-  pub y : f .machine .regs .y ≡ g .machine .regs .y
-  pub u : f .machine .regs .u ≡ g .machine .regs .u
-  pub s : f .machine .regs .s ≡ g .machine .regs .s
-  pub pc : f .machine .regs .pc ≡ g .machine .regs .pc
-  pub others : (h : CCBit) → h ≢ «V» → flag h (f .machine .regs .cc) ≡ flag h (g .machine .regs .cc)
-  pub exactly : (flag «V» (f .machine .regs .cc) ≢ flag «V» (g .machine .regs .cc)) ↔ Case
+  pub registers : PartInV (f .machine .regs) (g .machine .regs) Case
 
 -- the case: an instruction is fetched and has an address, and its operation parts at its registers and the byte there
 abbrev pub PartsAt : List ℕ → Entry → Resolved → Type 0
-PartsAt mem e (At a) = OpParts (e .op) (a .regs) (byteAt mem (a .ea))
+PartsAt mem e (At a) = OpParts (a .regs) (byteAt mem (a .ea)) (e .op)
 PartsAt mem e (NoAddress x) = ⊥
 
 abbrev pub PartsFetched : List ℕ → Machine → Fetched → Type 0
@@ -69,5 +58,5 @@ setTo f top = record { «ram_top» = top; flags = f }
 -- the law: as bought on the left, by the manual on the right; memory and devices follow the writes
 abbrev pub StepsPart : Type 0
 StepsPart =
-    (mem : List ℕ) (m : Machine) (top : ℕ) → ((at : ℕ) → byteAt mem at < 256) → m .regs .a < 256 → m .regs .b < 256
+    (mem : List ℕ) (m : Machine) (top : ℕ) → Bytes mem → Fits (m .regs)
     → FoundPart (foundOf mem m (setTo Bought top)) (foundOf mem m (setTo Manual top)) (PartsWhole (eqb (length mem) 65536) mem m)

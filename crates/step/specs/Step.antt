@@ -5,7 +5,6 @@ use mathlib.Core.Bool.{Bool, true, false, cond}
 use mathlib.Core.List.{List, []}
 use lib.Dec.{eqb, ltb}
 use lib.ListN.{length}
-use Rattle.registers.specs.declared.Set.{Set}
 use Rattle.memory.specs.Map.{byteAt, lowAt}
 use Rattle.memory.specs.Writes.{writesOf, listed, stored, reported}
 use Rattle.memory.specs.declared.Answer.{Answer}
@@ -17,8 +16,6 @@ use Rattle.addressing.specs.declared.Resolved.{Resolved}
 use Rattle.addressing.specs.declared.Resolved.the-variants.{At, Refused as NoAddress}
 use Rattle.opcodes.specs.Manual.{entryOf}
 use Rattle.opcodes.specs.declared.Entry.{Entry}
-use Rattle.opcodes.specs.declared.Op.{Op}
-use Rattle.opcodes.specs.declared.Op.the-variants.{Illegal, Alu, Store8, OnAcc, OnMemory, Addd, Subd, Load16, Store16, Cmp16, Lea, Branch, Bsr, Jsr, Jmp, Rts, Rti, Swi, Cwai, Sync, Nop, Daa, Sex, Mul, Abx, Andcc, Orcc, Exg, Tfr, Pshs, Puls, Pshu, Pulu}
 use Rattle.opcodes.specs.declared.Page.{Page}
 use Rattle.opcodes.specs.declared.Page.the-variants.{Plain, Ten, Eleven}
 use Rattle.evaluate.specs.Evaluate.{evaluateOf}
@@ -36,25 +33,10 @@ use Rattle.step.specs.declared.Stepped.{Stepped}
 abbrev pub refusedWith : Machine → Refusal → Found
 refusedWith m x = record { writes = writesOf []; machine = m; answer = Refused x }
 
--- the registers of 16 bits, kept to 16 bits
-abbrev pub kept : Set → Set
-kept r =
-    record {
-      x = r .x % 65536;
-      y = r .y % 65536;
-      u = r .u % 65536;
-      s = r .s % 65536;
-      pc = r .pc % 65536;
-      a = r .a;
-      b = r .b;
-      dp = r .dp;
-      cc = r .cc;
-    }
-
 -- an instruction that is carried out: instructions and 1, cycles and the table's figure, both wrapping
 abbrev after : Machine → ℕ → Effect → Machine
 after m cycles e =
-    record { cycles = (m .cycles + cycles) % 2 ^ 64; instructions = (m .instructions + 1) % 2 ^ 64; regs = kept (e .regs); wait = e .wait }
+    record { cycles = (m .cycles + cycles) % 2 ^ 64; instructions = (m .instructions + 1) % 2 ^ 64; regs = e .regs; wait = e .wait }
 
 abbrev pub finishedAs : Answer → Machine → ℕ → Effect → Found
 finishedAs Done m cycles e = record { writes = e .writes; machine = after m cycles e; answer = Done }
@@ -63,44 +45,9 @@ finishedAs (Refused x) m cycles e = refusedWith m x
 unfoldable pub finished : Machine → ℕ → Effect → Found
 finished m cycles e = finishedAs (e .answer) m cycles e
 
--- a place of the table that is not in the manual: 3
-abbrev pub isIllegal : Op → Bool
-isIllegal Illegal = true
-isIllegal (Alu op acc) = false
-isIllegal (Store8 acc) = false
-isIllegal (OnAcc op acc) = false
-isIllegal (OnMemory op) = false
-isIllegal Addd = false
-isIllegal Subd = false
-isIllegal (Load16 name) = false
-isIllegal (Store16 name) = false
-isIllegal (Cmp16 name) = false
-isIllegal (Lea name) = false
-isIllegal (Branch c) = false
-isIllegal Bsr = false
-isIllegal Jsr = false
-isIllegal Jmp = false
-isIllegal Rts = false
-isIllegal Rti = false
-isIllegal (Swi which) = false
-isIllegal Cwai = false
-isIllegal Sync = false
-isIllegal Nop = false
-isIllegal Daa = false
-isIllegal Sex = false
-isIllegal Mul = false
-isIllegal Abx = false
-isIllegal Andcc = false
-isIllegal Orcc = false
-isIllegal Exg = false
-isIllegal Tfr = false
-isIllegal Pshs = false
-isIllegal Puls = false
-isIllegal Pshu = false
-isIllegal Pulu = false
-
+-- a place of the table that is not in the manual has no bytes: 3
 abbrev ofEntry : Entry → ℕ → Fetched
-ofEntry e at = cond (isIllegal (e .op)) (NotFetched Opcode) (Instruction e at)
+ofEntry e at = cond (eqb (e .size) 0) (NotFetched Opcode) (Instruction e at)
 
 unfoldable pub opcodeAt : Page → ℕ → ℕ → Fetched
 opcodeAt page code at = ofEntry (entryOf page code) at

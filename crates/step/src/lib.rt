@@ -1,7 +1,7 @@
 // One step of the processor (exec_next of runtime.rs): fetch, table, address, evaluate; then the writes are stored.
 // What a step will do is found out first, so that a refusal has nothing to take back.
 ghost use mathlib.Core.Path.{_≡_};
-ghost use Rattle.step.specs.Step.{refusedWith, finished, isIllegal, opcodeAt, secondByte, fetched, isWide, executed, running, foundOf, carriedOut, memoryWith, stepOf, memoryAfterStep};
+ghost use Rattle.step.specs.Step.{refusedWith, finished, opcodeAt, secondByte, fetched, isWide, executed, running, foundOf, carriedOut, memoryWith, stepOf, memoryAfterStep};
 use addressing::Resolved;
 use evaluate::Effect;
 use evaluate::Wait;
@@ -9,7 +9,6 @@ use memory::Answer;
 use memory::Refusal;
 use memory::Writes;
 use opcodes::Entry;
-use opcodes::Op;
 use opcodes::Page;
 use registers::Flags;
 use registers::Set;
@@ -81,13 +80,12 @@ fn finish(machine: Machine, cycles: u8, effect: Effect) -> Found
     }
 }
 
-// A place that is not in the manual is refused.
+// A place that is not in the manual has no bytes, and is refused.
 fn opcode_at(page: Page, code: u8, at: u32) -> Fetched
     ensures { λ r. ⌜ r ≡ opcodeAt page code at ⌝ }
 {
     let entry = opcodes::lookup(page, code);
-    let op = entry.op;
-    if is_illegal(op) {
+    if entry.size == 0 {
         Fetched::Refused(Refusal::Opcode)
     } else {
         Fetched::Instruction(entry, at)
@@ -117,46 +115,6 @@ fn fetch(mem: &[u8], pc: u16) -> Fetched
         0x10 => second_byte(mem, Page::Ten, pc),
         0x11 => second_byte(mem, Page::Eleven, pc),
         _ => opcode_at(Page::Plain, code, pc as u32 + 1),
-    }
-}
-
-fn is_illegal(op: Op) -> bool
-    ensures { λ r. ⌜ r ≡ isIllegal op ⌝ }
-{
-    match op {
-        Op::Illegal => true,
-        Op::Alu(_, _) => false,
-        Op::Store8(_) => false,
-        Op::OnAcc(_, _) => false,
-        Op::OnMemory(_) => false,
-        Op::Addd => false,
-        Op::Subd => false,
-        Op::Load16(_) => false,
-        Op::Store16(_) => false,
-        Op::Cmp16(_) => false,
-        Op::Lea(_) => false,
-        Op::Branch(_) => false,
-        Op::Bsr => false,
-        Op::Jsr => false,
-        Op::Jmp => false,
-        Op::Rts => false,
-        Op::Rti => false,
-        Op::Swi(_) => false,
-        Op::Cwai => false,
-        Op::Sync => false,
-        Op::Nop => false,
-        Op::Daa => false,
-        Op::Sex => false,
-        Op::Mul => false,
-        Op::Abx => false,
-        Op::Andcc => false,
-        Op::Orcc => false,
-        Op::Exg => false,
-        Op::Tfr => false,
-        Op::Pshs => false,
-        Op::Puls => false,
-        Op::Pshu => false,
-        Op::Pulu => false,
     }
 }
 

@@ -2,7 +2,6 @@
 -- Assumes nothing.
 use Rattle.step.specs.Step.{finished}
 use borrow.Author.Needs.{needs}
-use Rattle.step.proofs.Kept.{kept-same}
 use Rattle.step.proofs.finish.Statement.{statement}
 use Rattle.step.proofs.finish.Tie as tie
 
@@ -12,14 +11,7 @@ returns c = rw (c .refused .ensures, c .before .before .answer .given .1)
 
 returns-2 : tie.Need-returns-2
 unfolding finished
-returns-2 c =
-    let r = c .before .before .before .before .before .before .args .effect .regs in
-    rw (
-      c .wrapping-add-u642 .ensures,
-      c .before .wrapping-add-u64 .ensures,
-      c .before .before .enum-told .given .1,
-      kept-same r (search needs) (search needs) (search needs) (search needs) (search needs),
-    )
+returns-2 c = rw (c .wrapping-add-u642 .ensures, c .before .wrapping-add-u64 .ensures, c .before .before .enum-told .given .1)
 
 pub finish-spec : {M : Type 1} → statement M
 finish-spec =
