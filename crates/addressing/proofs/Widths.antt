@@ -65,7 +65,7 @@ five-fits post = go (ltb (post % 32) 16)
     go true = omega arith
     go false = omega arith
 
-signed-fits : (b : ℕ) → b < 256 → signedByte b < 65536
+pub signed-fits : (b : ℕ) → b < 256 → signedByte b < 65536
 signed-fits b h = go (ltb b 0x80)
   where
     go : (t : Bool) → cond t b (0xFF00 + b) < 65536

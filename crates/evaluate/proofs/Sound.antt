@@ -40,6 +40,7 @@ use Rattle.memory.specs.declared.Writes.{Writes}
 use Rattle.memory.proofs.Fits.{byte-fits, WordIn, word-fits, none-fit, added-fit, all-fit, word-writes-fit, listed-fit, bytes-stored}
 use Rattle.memory.proofs.Twelve.{Full, none-full, added-full, all-full}
 use Rattle.addressing.specs.Decode.{signedByte}
+use Rattle.addressing.proofs.Widths.{signed-fits}
 use Rattle.opcodes.specs.declared.Acc.{Acc}
 use Rattle.opcodes.specs.declared.Acc.the-variants.{A, B}
 use Rattle.opcodes.specs.declared.Alu.{Alu as Binary}
@@ -81,13 +82,6 @@ pub record Given (mem : List ℕ) (r : Set) (ea : ℕ) : Type 0 where
 
 -- ---- widths of registers
 
-signed-fits : (b : ℕ) → b < 256 → signedByte b < 65536
-signed-fits b h = go (ltb b 0x80)
-  where
-    go : (t : Bool) → cond t b (0xFF00 + b) < 65536
-    go true = omega arith
-    go false = omega arith
-
 value-in : (v : u8u16) → InWidth v → valueOf v < 65536
 value-in (u8 b) h = omega arith
 value-in (u16 w) h = h
@@ -109,10 +103,10 @@ module _ (r : Set) (f : Fits r) where
   word-written : (n : Name) (w : ℕ) → w < 65536 → Fits (withWord r n w)
   word-written n w h = written-fits r f n (u16 w) h
 
-  jumped-fits : (ea : ℕ) → ea < 65536 → Fits (jumped r ea)
+  pub jumped-fits : (ea : ℕ) → ea < 65536 → Fits (jumped r ea)
   jumped-fits ea h = word-written PC ea h
 
-  or-fits : (m : ℕ) → m < 256 → Fits (orCodes r m)
+  pub or-fits : (m : ℕ) → m < 256 → Fits (orCodes r m)
   or-fits m h = codes-fits _ (or-lt 8 (r .cc .reg) m (f .cc) h)
 
   and-fits : (m : ℕ) → m < 256 → Fits (andCodes r m)

@@ -154,3 +154,16 @@ module _ (top : ℕ) (list : List Write) (i : ℕ) (none : Write) (full : length
       rw (first top list i none full h, stored-more top (take i list) (getD list i none) mem, e)
       (read-put (landingOf (getD list i none .at) top (getD list i none .system)) (getD list i none .byte) (stored top (take i list) mem) at (length mem)
       (length-stored top (take i list) mem))
+
+-- a byte read after a list of writes: each that lands on its place is over it
+abbrev pub afterAll : ℕ → List Write → ℕ → ℕ → ℕ → ℕ
+afterAll top [] b p size = b
+afterAll top (w ∷ ws) b p size = afterAll top ws (overOf b p size (landingOf (w .at) top (w .system)) (w .byte)) p size
+
+pub read-stored : (top : ℕ) (ws : List Write) (mem : List ℕ) (at : ℕ) → byteAt (stored top ws mem) at ≡ afterAll top ws (byteAt mem at) (placeOf at) (length mem)
+unfolding stored
+read-stored top [] mem at = refl
+read-stored top (w ∷ ws) mem at =
+    let l = landingOf (w .at) top (w .system) in
+    read-stored top ws (putAt l (w .byte) mem) at
+    ∙ rw (length-put l (w .byte) mem, ← (read-put l (w .byte) mem at (length mem) refl))

@@ -31,7 +31,7 @@ use Rattle.evaluate.specs.declared.Wait.the-variants.{Running, Cwai as InCwai, 
 use Rattle.evaluate.proofs.Sound.{Sound, Given, evaluated-sound}
 use Rattle.evaluate.proofs.Waits.{waitAfter, cwai-alone, sync-alone}
 use Rattle.step.specs.Laws.{MachineFits, FoundFits, Moved, MovedBy}
-use Rattle.step.specs.Step.{refusedWith, finishedAs, finished, ofAddress, executed, ofFetched, isWide, running, unlessWaiting, fetched, foundOf, stepOf, memoryAfterStep}
+use Rattle.step.specs.Step.{refusedWith, finishedAs, finished, ofAddress, executed, ofFetched, isWide, running, unlessWaiting, fetched, foundOf, carriedOut, memoryWith, stepOf, memoryAfterStep}
 use Rattle.step.specs.declared.Fetched.{Fetched}
 use Rattle.step.specs.declared.Fetched.the-variants.{Instruction, Refused as NotFetched}
 use Rattle.step.specs.declared.Found.{Found}
@@ -61,6 +61,28 @@ module _ {P : Type 0} {Moves : Machine → Type 0} (m : Machine) (h : P → Mach
     widths = λ g. none-fit;
     moves = λ e. not-done e;
   }
+
+-- ---- what follows for any call that is whole
+
+module _ {P : Type 0} {Moves : Machine → Type 0} {m : Machine} (f : Found) (w : Whole P Moves m f) where
+  -- a refused call leaves the machine and memory, and reports no device write
+  pub refused-carried : (mem : List ℕ) (top : ℕ) (x : Refusal) → f .answer ≡ Refused x
+      → (carriedOut top f .machine ≡ m) × (memoryWith top f mem ≡ mem) × (carriedOut top f .devices ≡ writesOf [])
+  unfolding stored reported
+  refused-carried mem top x e =
+      let q = w .refused x e in (
+        ap (λ (g : Found). g .machine) q,
+        ap (λ (g : Found). stored top (listed (g .writes)) mem) q ∙ ap (λ l. stored top l mem) (listed-back []),
+        ap (λ (g : Found). writesOf (reported top (listed (g .writes)))) q ∙ ap (λ l. writesOf (reported top l)) (listed-back []),
+      )
+
+  pub whole-fits : P → FoundFits f
+  whole-fits g = record { machine = w .fits g; writes = listed-fit (f .writes) (w .widths g) }
+
+  pub whole-twelve : length (listed (f .writes)) ≤ 12
+  whole-twelve = at-most-twelve (f .writes) (w .few)
+
+-- ---- a step
 
 -- an operation that is carried out, by the entry e
 module _ {P : Type 0} (m : Machine) (h : P → MachineFits m) (e : Entry) (f : Effect) (r : Set) (s : Sound P r (waitAfter (e .op)) f) where
@@ -129,23 +151,15 @@ module _ (mem : List ℕ) (m : Machine) (s : Settings) where
   -- a refused step leaves the machine and memory, and reports no device write
   pub refused-step : (x : Refusal) → stepOf mem m s .answer ≡ Refused x
       → (stepOf mem m s .machine ≡ m) × (memoryAfterStep mem m s ≡ mem) × (stepOf mem m s .devices ≡ writesOf [])
-  unfolding stored reported
-  refused-step x e =
-      let w = found-whole .refused x e in (
-        ap (λ (f : Found). f .machine) w,
-        ap (λ (f : Found). stored (s .«ram_top») (listed (f .writes)) mem) w ∙ ap (λ l. stored (s .«ram_top») l mem) (listed-back []),
-        ap (λ (f : Found). writesOf (reported (s .«ram_top») (listed (f .writes)))) w ∙ ap (λ l. writesOf (reported (s .«ram_top») l)) (listed-back []),
-      )
+  refused-step = refused-carried (foundOf mem m s) found-whole mem (s .«ram_top»)
 
   -- at most twelve writes
   pub twelve-writes : length (listed (foundOf mem m s .writes)) ≤ 12
-  twelve-writes = at-most-twelve (foundOf mem m s .writes) (found-whole .few)
+  twelve-writes = whole-twelve (foundOf mem m s) found-whole
 
   -- registers and counters of the new machine, and the writes, fit their widths
   pub step-fits : MachineFits m → Bytes mem → FoundFits (foundOf mem m s)
-  step-fits h b =
-      let g : Provided mem m = record { machine = h; bytes = b } in
-      record { machine = found-whole .fits g; writes = listed-fit (foundOf mem m s .writes) (found-whole .widths g) }
+  step-fits h b = whole-fits (foundOf mem m s) found-whole (record { machine = h; bytes = b })
 
   -- an accepted step: the machine was running, and wait state and counters moved by the entry of the instruction at PC
   pub step-moves : stepOf mem m s .answer ≡ Done → (m .wait ≡ Running) × MovedBy (fetched mem (m .regs .pc)) m (stepOf mem m s .machine)
