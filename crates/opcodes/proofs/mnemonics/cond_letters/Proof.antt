@@ -1,4 +1,4 @@
--- `cond_letters` meets its contract.
+-- `cond_letters` meets its contract: an arm for each.
 -- Assumes nothing.
 use borrow.Author.Needs.{needs}
 use Rattle.opcodes.proofs.mnemonics.cond_letters.Statement.{statement}
@@ -8,19 +8,19 @@ pub cond-letters-spec : {M : Type 1} → statement M
 cond-letters-spec =
     tie.close
     (tie.spec (search needs) (search needs) (search needs) (search needs) (search needs) (search needs) (search needs) (search needs) (search needs) (search needs) (search needs) (search needs) (search needs) (search needs) (search needs) (search needs)
-    (λ c. rw (c .before .before .enum-told .given .1))
-    (λ c. rw (c .before .before .enum-told2 .given .1))
-    (λ c. rw (c .before .before .enum-told3 .given .1))
-    (λ c. rw (c .before .before .enum-told4 .given .1))
-    (λ c. rw (c .before .before .enum-told5 .given .1))
-    (λ c. rw (c .before .before .enum-told6 .given .1))
-    (λ c. rw (c .before .before .enum-told7 .given .1))
-    (λ c. rw (c .before .before .enum-told8 .given .1))
-    (λ c. rw (c .before .before .enum-told9 .given .1))
-    (λ c. rw (c .before .before .enum-told10 .given .1))
-    (λ c. rw (c .before .before .enum-told11 .given .1))
-    (λ c. rw (c .before .before .enum-told12 .given .1))
-    (λ c. rw (c .before .before .enum-told13 .given .1))
-    (λ c. rw (c .before .before .enum-told14 .given .1))
-    (λ c. rw (c .before .before .enum-told15 .given .1))
-    (λ c. rw (c .before .before .enum-told16 .given .1)))
+    (λ c. rw (c .enum-told .given .1))
+    (λ c. rw (c .enum-told2 .given .1))
+    (λ c. rw (c .enum-told3 .given .1))
+    (λ c. rw (c .enum-told4 .given .1))
+    (λ c. rw (c .enum-told5 .given .1))
+    (λ c. rw (c .enum-told6 .given .1))
+    (λ c. rw (c .enum-told7 .given .1))
+    (λ c. rw (c .enum-told8 .given .1))
+    (λ c. rw (c .enum-told9 .given .1))
+    (λ c. rw (c .enum-told10 .given .1))
+    (λ c. rw (c .enum-told11 .given .1))
+    (λ c. rw (c .enum-told12 .given .1))
+    (λ c. rw (c .enum-told13 .given .1))
+    (λ c. rw (c .enum-told14 .given .1))
+    (λ c. rw (c .enum-told15 .given .1))
+    (λ c. rw (c .enum-told16 .given .1)))
