@@ -39,9 +39,13 @@ abbrev pub isIn : ℕ → List ℕ → Bool
 isIn n [] = false
 isIn n (k ∷ ks) = cond (eqb n k) true (isIn n ks)
 
--- an arm of a match on the place: the answer is e, the place is k, and e is what f has there
-pub arm : (f : ℕ → Entry) {low k : ℕ} {r e : Entry} → r ≡ e → low ≡ k → e ≡ f k → r ≡ f low
+-- an arm of a match: the answer is e, what is matched is k, and e is what f has there
+pub arm : {A B : Type 0} (f : A → B) {x k : A} {r e : B} → r ≡ e → x ≡ k → e ≡ f k → r ≡ f x
 arm f p q t = p ∙ t ∙ ap f (sym q)
+
+-- an arm that calls nothing
+pub told : {A B : Type 0} (f : A → B) {x k : A} {r : B} → x ≡ k → r ≡ f k → r ≡ f x
+told f q t = t ∙ ap f (sym q)
 
 -- the numbers below m
 abbrev pub down : ℕ → List ℕ
