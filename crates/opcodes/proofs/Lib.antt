@@ -1,4 +1,5 @@
 pub mod Rows
 pub mod Letters
 pub mod Laws
+pub mod Places
 pub mod Unique

@@ -1,4 +1,4 @@
--- The places that no arm of a match names.
+-- Functions of a number below a bound, compared by one test that antt computes; the arms of a match on a number.
 -- Assumes nothing.
 use Prim.Native.Nat.{ℕ, zero, suc, _+_, _<_}
 use mathlib.Core.Path.{_≡_, refl, sym, ap, _∙_}
@@ -7,10 +7,28 @@ use mathlib.Core.List.{List, [], _∷_}
 use native.Mathlib.Decide.{ℕ-discrete}
 use native.Mathlib.Nat.{add-zero, zero-add, add-suc, suc-add, le-of-suc-le-suc, not-suc-le-zero}
 use native.Mathlib.Omega.{arith}
-use borrow.Author.Tests.{ne-eqb}
 use lib.Dec.{eqb}
-use lib.ListN.{getD, replicate, getD-replicate}
+use lib.ListN.{getD}
 use Rattle.opcodes.specs.declared.Entry.{Entry}
+
+-- the values of f at n places from i on
+abbrev pub values : {A : Type 0} → (ℕ → A) → ℕ → ℕ → List A
+values f i zero = []
+values f i (suc n) = f i ∷ values f (suc i) n
+
+in-values : {A : Type 0} (f : ℕ → A) (d : A) (n i j : ℕ) → j < n → getD (values f i n) j d ≡ f (i + j)
+in-values f d zero i j h = absurd (not-suc-le-zero h)
+in-values f d (suc n) i zero h = rw (add-zero i)
+in-values f d (suc n) i (suc j) h = in-values f d n (suc i) j (le-of-suc-le-suc h) ∙ rw (suc-add i j, add-suc i j)
+
+-- two functions whose values at m places antt computes to be the same are the same at each
+pub alike : {A : Type 0} (f g : ℕ → A) (m : ℕ) → values f 0 m ≡ values g 0 m → (n : ℕ) → n < m → f n ≡ g n
+alike f g m t n l =
+    ap f (sym (zero-add n))
+    ∙ sym (in-values f (f 0) m 0 n l)
+    ∙ ap (λ (xs : List _). getD xs n (f 0)) t
+    ∙ in-values g (f 0) m 0 n l
+    ∙ ap g (zero-add n)
 
 -- a number that is none of these
 abbrev pub NotIn : ℕ → List ℕ → Type 0
@@ -21,27 +39,13 @@ abbrev pub isIn : ℕ → List ℕ → Bool
 isIn n [] = false
 isIn n (k ∷ ks) = cond (eqb n k) true (isIn n ks)
 
-not-in : (n : ℕ) (ks : List ℕ) → NotIn n ks → isIn n ks ≡ false
-not-in n [] h = refl
-not-in n (k ∷ ks) h = rw (ne-eqb n k (h .1)) (not-in n ks (h .0))
+-- an arm of a match: the answer is e, what is matched is k, and e is what f has there
+pub arm : {A B : Type 0} (f : A → B) {x k : A} {r e : B} → r ≡ e → x ≡ k → e ≡ f k → r ≡ f x
+arm f p q t = p ∙ t ∙ ap f (sym q)
 
--- the values of f at n places from i on, with e at those of ks
-abbrev masked : (ℕ → Entry) → List ℕ → Entry → ℕ → ℕ → List Entry
-masked f ks e i zero = []
-masked f ks e i (suc n) = cond (isIn i ks) e (f i) ∷ masked f ks e (suc i) n
-
-in-masked : (f : ℕ → Entry) (ks : List ℕ) (e d : Entry) (n i j : ℕ) → j < n → getD (masked f ks e i n) j d ≡ cond (isIn (i + j) ks) e (f (i + j))
-in-masked f ks e d zero i j h = absurd (not-suc-le-zero h)
-in-masked f ks e d (suc n) i zero h = rw (add-zero i)
-in-masked f ks e d (suc n) i (suc j) h = in-masked f ks e d n (suc i) j (le-of-suc-le-suc h) ∙ rw (suc-add i j, add-suc i j)
-
--- where f is e at each of m places but those of ks, which antt computes, it is e at a place that is none of ks
-pub other : (f : ℕ → Entry) (m : ℕ) (ks : List ℕ) (e : Entry) → masked f ks e 0 m ≡ replicate m e → (n : ℕ) → n < m → NotIn n ks → e ≡ f n
-other f m ks e t n l h =
-    sym (getD-replicate m n e e l)
-    ∙ ap (λ (es : List Entry). getD es n e) (sym t)
-    ∙ in-masked f ks e e m 0 n l
-    ∙ rw (zero-add n, not-in n ks h)
+-- an arm that calls nothing
+pub told : {A B : Type 0} (f : A → B) {x k : A} {r : B} → x ≡ k → r ≡ f k → r ≡ f x
+told f q t = t ∙ ap f (sym q)
 
 -- the numbers below m
 abbrev pub down : ℕ → List ℕ
@@ -62,3 +66,7 @@ last m n l h = go (ℕ-discrete n m)
     go : Dec (n ≡ m) → n ≡ m
     go (yes e) = e
     go (no d) = absurd (none-below m n (omega arith) h)
+
+-- the last arm, where the others are the m numbers before it
+pub final : (f : ℕ → Entry) (m : ℕ) {n : ℕ} {r e : Entry} → r ≡ e → n < suc m → NotIn n (down m) → e ≡ f m → r ≡ f n
+final f m {n} p l h t = arm f p (last m n l h) t

@@ -1,2 +1,3 @@
 pub mod Manual
 pub mod Mnemonics
+pub mod Places

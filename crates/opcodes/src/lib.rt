@@ -10,9 +10,12 @@ ghost use Rattle.opcodes.specs.Manual.{entryOf};
 ghost use Rattle.opcodes.specs.Mnemonics.{mnemonicOf};
 use addressing::Mode;
 pub use mnemonics::Mnemonic;
+use mnemonics::five;
+use mnemonics::four;
+use mnemonics::nothing;
+use mnemonics::three;
 use mnemonics::three_and_name;
 use mnemonics::two_and_name;
-use mnemonics::word;
 use registers::Name;
 
 pub enum Acc {
@@ -141,38 +144,38 @@ pub fn mnemonic(op: Op, long: bool) -> Mnemonic
     ensures { λ r. ⌜ r ≡ mnemonicOf op long ⌝ }
 {
     match op {
-        Op::Illegal => word(*b"\0\0\0\0\0", 0),
+        Op::Illegal => nothing(),
         Op::Alu(alu, acc) => mnemonics::of_alu(alu, acc),
         Op::Store8(acc) => mnemonics::of_store(acc),
         Op::OnAcc(unary, acc) => mnemonics::on_acc(unary, acc),
         Op::OnMemory(unary) => mnemonics::on_memory(unary),
-        Op::Addd => word(*b"ADDD\0", 4),
-        Op::Subd => word(*b"SUBD\0", 4),
-        Op::Load16(name) => two_and_name(*b"LD", name),
-        Op::Store16(name) => two_and_name(*b"ST", name),
-        Op::Cmp16(name) => three_and_name(*b"CMP", name),
-        Op::Lea(name) => three_and_name(*b"LEA", name),
+        Op::Addd => four(b'A', b'D', b'D', b'D'),
+        Op::Subd => four(b'S', b'U', b'B', b'D'),
+        Op::Load16(name) => two_and_name(b'L', b'D', name),
+        Op::Store16(name) => two_and_name(b'S', b'T', name),
+        Op::Cmp16(name) => three_and_name(b'C', b'M', b'P', name),
+        Op::Lea(name) => three_and_name(b'L', b'E', b'A', name),
         Op::Branch(cond) => mnemonics::of_branch(cond, long),
         Op::Bsr => mnemonics::of_subroutine(long),
-        Op::Jsr => word(*b"JSR\0\0", 3),
-        Op::Jmp => word(*b"JMP\0\0", 3),
-        Op::Rts => word(*b"RTS\0\0", 3),
-        Op::Rti => word(*b"RTI\0\0", 3),
+        Op::Jsr => three(b'J', b'S', b'R'),
+        Op::Jmp => three(b'J', b'M', b'P'),
+        Op::Rts => three(b'R', b'T', b'S'),
+        Op::Rti => three(b'R', b'T', b'I'),
         Op::Swi(software) => mnemonics::of_software(software),
-        Op::Cwai => word(*b"CWAI\0", 4),
-        Op::Sync => word(*b"SYNC\0", 4),
-        Op::Nop => word(*b"NOP\0\0", 3),
-        Op::Daa => word(*b"DAA\0\0", 3),
-        Op::Sex => word(*b"SEX\0\0", 3),
-        Op::Mul => word(*b"MUL\0\0", 3),
-        Op::Abx => word(*b"ABX\0\0", 3),
-        Op::Andcc => word(*b"ANDCC", 5),
-        Op::Orcc => word(*b"ORCC\0", 4),
-        Op::Exg => word(*b"EXG\0\0", 3),
-        Op::Tfr => word(*b"TFR\0\0", 3),
-        Op::Pshs => word(*b"PSHS\0", 4),
-        Op::Puls => word(*b"PULS\0", 4),
-        Op::Pshu => word(*b"PSHU\0", 4),
-        Op::Pulu => word(*b"PULU\0", 4),
+        Op::Cwai => four(b'C', b'W', b'A', b'I'),
+        Op::Sync => four(b'S', b'Y', b'N', b'C'),
+        Op::Nop => three(b'N', b'O', b'P'),
+        Op::Daa => three(b'D', b'A', b'A'),
+        Op::Sex => three(b'S', b'E', b'X'),
+        Op::Mul => three(b'M', b'U', b'L'),
+        Op::Abx => three(b'A', b'B', b'X'),
+        Op::Andcc => five(b'A', b'N', b'D', b'C', b'C'),
+        Op::Orcc => four(b'O', b'R', b'C', b'C'),
+        Op::Exg => three(b'E', b'X', b'G'),
+        Op::Tfr => three(b'T', b'F', b'R'),
+        Op::Pshs => four(b'P', b'S', b'H', b'S'),
+        Op::Puls => four(b'P', b'U', b'L', b'S'),
+        Op::Pshu => four(b'P', b'S', b'H', b'U'),
+        Op::Pulu => four(b'P', b'U', b'L', b'U'),
     }
 }

@@ -2,27 +2,22 @@
 -- Assumes nothing.
 use borrow.Author.Needs.{needs}
 use Prim.Native.Nat.{ℕ, _+_}
-use mathlib.Core.Path.{refl, _∙_}
-use mathlib.Core.List.{[], _∷_}
-use Rattle.opcodes.specs.Manual.{entryOf, illegal}
+use Rattle.opcodes.specs.Manual.{entryOf}
+use Rattle.opcodes.specs.Places.{inRow, named}
+use Rattle.opcodes.specs.declared.Entry.{Entry}
 use Rattle.opcodes.specs.declared.Page.the-variants.{Plain}
-use Rattle.opcodes.proofs.Rows.{other}
+use Rattle.opcodes.proofs.Rows.{arm}
+use Rattle.opcodes.proofs.Places.{rest}
 use Rattle.opcodes.proofs.plain.row_1.Statement.{statement}
 use Rattle.opcodes.proofs.plain.row_1.Tie as tie
 
+abbrev row : ℕ → Entry
+row i = entryOf Plain (0x10 + i)
+
 pub row-1-spec : {M : Type 1} → statement M
-unfolding entryOf
+unfolding entryOf inRow named
 row-1-spec =
     tie.close
     (tie.spec (search needs) (search needs) (search needs) (search needs) (search needs) (search needs) (search needs) (search needs) (search needs) (search needs) (search needs)
-    (λ c. rw (c .place .ensures, c .before .match .keys1))
-    (λ c. rw (c .place2 .ensures, c .before .match .keys2))
-    (λ c. rw (c .branch .ensures, c .before .match .keys3))
-    (λ c. rw (c .place3 .ensures, c .before .match .keys4))
-    (λ c. rw (c .place4 .ensures, c .before .match .keys5))
-    (λ c. rw (c .place5 .ensures, c .before .match .keys6))
-    (λ c. rw (c .place6 .ensures, c .before .match .keys7))
-    (λ c. rw (c .place7 .ensures, c .before .match .keys8))
-    (λ c. rw (c .place8 .ensures, c .before .match .keys9))
-    (λ c. rw (c .place9 .ensures, c .before .match .keys10))
-    (λ c. c .none .ensures ∙ other (λ (i : ℕ). entryOf Plain (0x10 + i)) 16 (0xF ∷ 0xE ∷ 0xD ∷ 0xC ∷ 0xA ∷ 0x9 ∷ 0x7 ∷ 0x6 ∷ 0x3 ∷ 0x2 ∷ []) illegal refl (c .before .before .args .low) (c .before .before .pre) (c .before .match .rest)))
+    (λ c. search (arm row)) (λ c. search (arm row)) (λ c. search (arm row)) (λ c. search (arm row)) (λ c. search (arm row)) (λ c. search (arm row)) (λ c. search (arm row)) (λ c. search (arm row)) (λ c. search (arm row)) (λ c. search (arm row))
+    (λ c. search (rest Plain (λ (i : ℕ). 0x10 + i) 16)))

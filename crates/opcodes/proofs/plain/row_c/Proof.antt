@@ -2,30 +2,22 @@
 -- Assumes nothing.
 use borrow.Author.Needs.{needs}
 use Prim.Native.Nat.{ℕ, _+_}
-use mathlib.Core.Path.{refl, _∙_}
-use mathlib.Core.List.{[], _∷_}
-use Rattle.opcodes.specs.Manual.{entryOf, illegal}
+use Rattle.opcodes.specs.Manual.{entryOf}
+use Rattle.opcodes.specs.Places.{inRow, named}
+use Rattle.opcodes.specs.declared.Entry.{Entry}
 use Rattle.opcodes.specs.declared.Page.the-variants.{Plain}
-use Rattle.opcodes.proofs.Rows.{other}
+use Rattle.opcodes.proofs.Rows.{arm}
+use Rattle.opcodes.proofs.Places.{rest}
 use Rattle.opcodes.proofs.plain.row_c.Statement.{statement}
 use Rattle.opcodes.proofs.plain.row_c.Tie as tie
 
+abbrev row : ℕ → Entry
+row i = entryOf Plain (0xC0 + i)
+
 pub row-c-spec : {M : Type 1} → statement M
-unfolding entryOf
+unfolding entryOf inRow named
 row-c-spec =
     tie.close
     (tie.spec (search needs) (search needs) (search needs) (search needs) (search needs) (search needs) (search needs) (search needs) (search needs) (search needs) (search needs) (search needs) (search needs) (search needs)
-    (λ c. rw (c .alu8 .ensures, c .before .match .keys1))
-    (λ c. rw (c .alu82 .ensures, c .before .match .keys2))
-    (λ c. rw (c .alu83 .ensures, c .before .match .keys3))
-    (λ c. rw (c .place .ensures, c .before .match .keys4))
-    (λ c. rw (c .alu84 .ensures, c .before .match .keys5))
-    (λ c. rw (c .alu85 .ensures, c .before .match .keys6))
-    (λ c. rw (c .alu86 .ensures, c .before .match .keys7))
-    (λ c. rw (c .alu87 .ensures, c .before .match .keys8))
-    (λ c. rw (c .alu88 .ensures, c .before .match .keys9))
-    (λ c. rw (c .alu89 .ensures, c .before .match .keys10))
-    (λ c. rw (c .alu810 .ensures, c .before .match .keys11))
-    (λ c. rw (c .load16 .ensures, c .before .match .keys12))
-    (λ c. rw (c .load162 .ensures, c .before .match .keys13))
-    (λ c. c .none .ensures ∙ other (λ (i : ℕ). entryOf Plain (0xC0 + i)) 16 (0xE ∷ 0xC ∷ 0xB ∷ 0xA ∷ 0x9 ∷ 0x8 ∷ 0x6 ∷ 0x5 ∷ 0x4 ∷ 0x3 ∷ 0x2 ∷ 0x1 ∷ 0x0 ∷ []) illegal refl (c .before .before .args .low) (c .before .before .pre) (c .before .match .rest)))
+    (λ c. search (arm row)) (λ c. search (arm row)) (λ c. search (arm row)) (λ c. search (arm row)) (λ c. search (arm row)) (λ c. search (arm row)) (λ c. search (arm row)) (λ c. search (arm row)) (λ c. search (arm row)) (λ c. search (arm row)) (λ c. search (arm row)) (λ c. search (arm row)) (λ c. search (arm row))
+    (λ c. search (rest Plain (λ (i : ℕ). 0xC0 + i) 16)))
