@@ -149,7 +149,6 @@ module _ (mem : List ℕ) (m : Machine) where
 
     -- ---- 8: an interrupt that is served stacks two or all registers, unless in CWAI
 
-
     small : (top : ℕ) (entire : Bool) (masks vector : ℕ) → m .regs .s < bytesOf (cond entire 0xFF 0x81)
         → served mem top (m .regs) entire masks vector .answer ≡ NotDone StackTooSmall
     unfolding served framed pushing

@@ -85,14 +85,7 @@ fn serve_stacked(mem: &[u8], ram_top: u16, regs: Set, which: InterruptType) -> E
 {
     let mut masked = regs;
     masked.cc = regs.cc.or_with_byte(masks_of(which));
-    evaluate::take_vector(
-        mem,
-        ram_top,
-        regs,
-        masked,
-        Writes::none(),
-        vector_of(which),
-    )
+    evaluate::take_vector(mem, ram_top, regs, masked, Writes::none(), vector_of(which))
 }
 
 fn take(mem: &[u8], ram_top: u16, wait: Wait, regs: Set, which: InterruptType) -> Effect
@@ -169,7 +162,12 @@ pub fn find(mem: &[u8], machine: Machine, settings: Settings, which: InterruptTy
     }
 }
 
-pub fn interrupt(mem: &mut [u8], machine: Machine, settings: Settings, which: InterruptType) -> Stepped
+pub fn interrupt(
+    mem: &mut [u8],
+    machine: Machine,
+    settings: Settings,
+    which: InterruptType,
+) -> Stepped
     ensures { λ r. ⌜ (r ≡ interruptOf (now (mem .entry)) machine settings which) × (now (mem .exit) ≡ memoryAfterInterrupt (now (mem .entry)) machine settings which) ⌝ }
 {
     let found = find(mem, machine, settings, which);
