@@ -1,7 +1,7 @@
 -- Every row of the table of checked examples holds: a test that antt computes, and a law from the test to the row.
 -- Assumes nothing.
 use Prim.Native.Nat.{ℕ, _+_, _/_, _%_, _≤_, _<_}
-use mathlib.Core.Path.{_≡_, refl, sym, _∙_, subst}
+use mathlib.Core.Path.{_≡_, refl, sym, ap, _∙_, subst}
 use mathlib.Core.Bool.{Bool, true, false, not, cond, _||_}
 use mathlib.Core.Logic.{_⊎_, inl, inr}
 use mathlib.Core.List.{List, [], _∷_}
@@ -20,8 +20,13 @@ use Rattle.registers.proofs.Laws.{carry-alone}
 use Rattle.registers.proofs.Reading.{flag-same, flag-far, place-inj}
 use Rattle.memory.specs.Map.{placeOf}
 use Rattle.addressing.specs.PostByte.{isIndirect, formOf, isRefused, fiveBits}
+use Rattle.memory.specs.Answers.{numberOfAnswer}
+use Rattle.evaluate.specs.Stack.{bytesOf}
+use Rattle.step.specs.declared.Found.{Found}
+use Rattle.interrupts.specs.Interrupts.{isEntire}
+use Rattle.interrupts.proofs.Laws.{small-stack}
 use Rattle.checked.proofs.Addresses.{offset-row, refused-row, system-row, ignored-row}
-use Rattle.checked.specs.Rows.{Row, of, carrying, postByte, badPostByte, systemWrite, ignoredWrite, Shown, Gives, Holds, Every, rows}
+use Rattle.checked.specs.Rows.{Row, of, carrying, postByte, badPostByte, systemWrite, ignoredWrite, refusedInterrupt, Shown, Gives, Holds, Every, rows}
 
 abbrev both : Bool → Bool → Bool
 both true b = b
@@ -118,6 +123,7 @@ right (postByte p x a) = both (ltb p 0x80) (both (eqb (p / 32 % 4) 0) (eqb ((x +
 right (badPostByte p n) = both (isRefused (formOf p)) (eqb 5 n)
 right (systemWrite at p) = both (ltb at 0xFF00 || leb 0xFFE0 at) (eqb (placeOf at) p)
 right (ignoredWrite at top) = both (ltb at 0xFF00) (ltb top at)
+right (refusedInterrupt i sp n) = both (ltb sp (bytesOf (cond (isEntire i) 0xFF 0x81))) (eqb 8 n)
 
 holds : (x : Row) → T (right x) → Holds x
 unfolding right
@@ -141,6 +147,9 @@ holds (systemWrite at p) t =
     let (w, e) = both-T (ltb at 0xFF00 || leb 0xFFE0 at) _ t in
     system-row at p (either at (ltb at 0xFF00) refl w) (eqb→eq _ p e)
 holds (ignoredWrite at top) t = let (l, h) = both-T (ltb at 0xFF00) _ t in ignored-row at top (ltb→lt at 0xFF00 l) (ltb→lt top at h)
+holds (refusedInterrupt i sp n) t =
+    let (l, e) = both-T (ltb sp (bytesOf (cond (isEntire i) 0xFF 0x81))) _ t in
+    λ mem m s size k w q. ap (λ (f : Found). numberOfAnswer (f .answer)) (small-stack mem m size s i k w (rw q (ltb→lt sp (bytesOf (cond (isEntire i) 0xFF 0x81)) l))) ∙ eqb→eq 8 n e
 
 all-right : List Row → Bool
 unfolding right

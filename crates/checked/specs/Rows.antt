@@ -4,6 +4,8 @@ use Prim.Native.Nat.{ℕ, _<_}
 use mathlib.Core.Path.{_≡_}
 use mathlib.Core.List.{List, [], _∷_}
 use mathlib.Core.Bool.{true, false}
+use mathlib.Core.Logic.{_≢_}
+use lib.ListN.{length}
 use Rattle.registers.specs.ConditionCodes.{flag}
 use Rattle.registers.specs.Page.{Operation, ADC, SBC, DEC, INC, MUL, Line, _:=_, Page, codes}
 use Rattle.registers.specs.Settings.{by}
@@ -12,7 +14,7 @@ use Rattle.registers.specs.declared.CCBits.{CCBits}
 use Rattle.registers.specs.declared.Flags.{Flags}
 use Rattle.registers.specs.declared.Flags.the-variants.{Bought, Manual}
 use Rattle.registers.specs.declared.Set.{Set}
-use Rattle.memory.specs.Answers.{numberOf}
+use Rattle.memory.specs.Answers.{numberOf, numberOfAnswer}
 use Rattle.memory.specs.Map.{isSystem, byteAt, landingOf}
 use Rattle.memory.specs.declared.AccessType.the-variants.{Program, System}
 use Rattle.memory.specs.declared.Landing.the-variants.{Stored, Ignored}
@@ -23,6 +25,12 @@ use Rattle.addressing.specs.declared.Decoded.the-variants.{Taken, Refused as No
 use Rattle.addressing.specs.declared.Mode.the-variants.{Indexed}
 use Rattle.addressing.specs.declared.Resolved.{Resolved}
 use Rattle.addressing.specs.declared.Resolved.the-variants.{At, Refused}
+use Rattle.evaluate.specs.declared.Wait.the-variants.{Cwai}
+use Rattle.step.specs.declared.Machine.{Machine}
+use Rattle.step.specs.declared.Settings.{Settings}
+use Rattle.interrupts.specs.Interrupts.{isMasked, interruptOf}
+use Rattle.interrupts.specs.declared.InterruptType.{InterruptType}
+use Rattle.interrupts.specs.declared.InterruptType.the-variants.{Irq}
 
 pub data Row : Type 0 where
   -- an operation on a and b: the result, flags as bought, flags by the manual; whatever the condition codes were
@@ -37,6 +45,8 @@ pub data Row : Type 0 where
   systemWrite : ℕ → ℕ → Row
   -- a program's write at an address, with ram_top: ignored
   ignoredWrite : ℕ → ℕ → Row
+  -- an interrupt that is not masked, outside CWAI, and S: the number of its refusal
+  refusedInterrupt : InterruptType → ℕ → ℕ → Row
 
 -- each flag named is as its line says
 abbrev pub Shown : CCBits → List Line → Type 0
@@ -65,6 +75,9 @@ Holds (badPostByte p n) =
     (mem : List ℕ) (at : ℕ) (r : Set) → at < 65536 → byteAt mem at ≡ p → numberOfResolved (reached mem r (decodeOf Indexed mem at false)) ≡ n
 Holds (systemWrite at p) = (top : ℕ) → landingOf at top (isSystem System) ≡ Stored p
 Holds (ignoredWrite at top) = landingOf at top (isSystem Program) ≡ Ignored
+Holds (refusedInterrupt i sp n) =
+    (mem : List ℕ) (m : Machine) (s : Settings) → length mem ≡ 65536 → isMasked i (m .regs .cc) ≡ false → m .wait ≢ Cwai → m .regs .s ≡ sp
+    → numberOfAnswer (interruptOf mem m s i .answer) ≡ n
 
 abbrev pub Every : List Row → Type 0
 Every [] = Unit
@@ -84,4 +97,5 @@ rows =
     ∷ badPostByte 0x92 5
     ∷ systemWrite 0xFFE0 0xBFE0
     ∷ ignoredWrite 0x8000 0x7FFF
+    ∷ refusedInterrupt Irq 0x000B 8
     ∷ []
