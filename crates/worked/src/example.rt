@@ -1,16 +1,17 @@
-// An example: the machine and the memory that it starts with, and its steps.
+// An example: the machine and the memory that it starts with, and its operations.
 ghost use Prim.Native.Nat.{_+_, _*_, _≤_};
 use super::text::Line;
 use super::text::byte_at;
-use super::text::digit;
 use super::text::word_at;
 use evaluate::Wait;
+use interrupts::InterruptType;
 use memory::Answer;
 use registers::CCBits;
 use registers::Flags;
 use registers::Set;
 use step::Machine;
 use step::Settings;
+use step::Stepped;
 
 pub const BYTES: usize = 0x10000;
 
@@ -19,7 +20,7 @@ pub type Memory = [u8; BYTES];
 // Where the code stands and PC starts.
 const START: u16 = 0x1000;
 
-// The machine after the last step, and that step's answer.
+// The machine after the last operation, and that operation's answer.
 pub struct Ended {
     pub machine: Machine,
     pub answer: Answer,
@@ -64,7 +65,7 @@ fn machine(line: &Line) -> Machine {
 
 // Bytes of the line, put raw into memory.
 fn put(mem: &mut Memory, at: u16, line: &Line, from: usize, count: usize)
-    requires { ⌜ from + 2 * count ≤ 72 ⌝ }
+    requires { ⌜ from + 2 * count ≤ 74 ⌝ }
 {
     let mut place = at;
     let mut i = 0;
@@ -75,28 +76,34 @@ fn put(mem: &mut Memory, at: u16, line: &Line, from: usize, count: usize)
     }
 }
 
-// So many steps, refused ones too: a refused step leaves the machine, and the next is refused likewise.
-fn steps(mem: &mut Memory, machine: Machine, settings: Settings, count: u8) -> Ended {
-    let mut ended = Ended {
-        machine,
-        answer: Answer::Done,
-    };
-    let mut left = count;
-    while left > 0 {
-        let stepped = step::step(mem, ended.machine, settings);
-        let after = stepped.machine;
-        let answer = stepped.answer;
-        ended = Ended {
-            machine: after,
-            answer,
-        };
-        left -= 1;
+fn outcome_of(stepped: Stepped) -> Ended {
+    let machine = stepped.machine;
+    let answer = stepped.answer;
+    Ended { machine, answer }
+}
+
+// One operation by its letter; there is none for `-`. A refused one leaves the machine.
+fn act(mem: &mut Memory, before: Ended, settings: Settings, letter: u8) -> Ended {
+    let machine = before.machine;
+    match letter {
+        b'S' => outcome_of(step::step(mem, machine, settings)),
+        b'I' => outcome_of(interrupts::interrupt(mem, machine, settings, InterruptType::Irq)),
+        b'F' => outcome_of(interrupts::interrupt(mem, machine, settings, InterruptType::Firq)),
+        b'N' => outcome_of(interrupts::interrupt(mem, machine, settings, InterruptType::Nmi)),
+        b'R' => outcome_of(interrupts::reset(mem, machine, settings)),
+        _ => before,
     }
-    ended
 }
 
 pub fn run(line: &Line, mem: &mut Memory) -> Ended {
     put(mem, START, line, 38, 6);
     put(mem, word_at(line, 51), line, 56, 4);
-    steps(mem, machine(line), settings(line), digit(line[65]))
+    let settings = settings(line);
+    let start = Ended {
+        machine: machine(line),
+        answer: Answer::Done,
+    };
+    let first = act(mem, start, settings, line[65]);
+    let second = act(mem, first, settings, line[66]);
+    act(mem, second, settings, line[67])
 }

@@ -2,6 +2,7 @@
 mod example;
 mod text;
 
+use evaluate::Wait;
 use example::BYTES;
 use example::Ended;
 use example::Memory;
@@ -51,11 +52,22 @@ fn put_view(out: &mut Out, mem: &Memory, at: u16) {
     text::put_byte(out, 56, mem[std::num::wrapping_add_u16(at, 3) as usize]);
 }
 
+// The wait state's number, as the journal has it.
+fn wait_number(wait: Wait) -> u64 {
+    match wait {
+        Wait::Running => 0,
+        Wait::Cwai => 1,
+        Wait::Sync => 2,
+    }
+}
+
 fn put_outcome(out: &mut Out, ended: Ended) {
     let machine = ended.machine;
     let answer = ended.answer;
     let regs = machine.regs;
+    let wait = machine.wait;
     put_registers(out, regs);
+    text::put_decimal(out, 59, wait_number(wait));
     put_counts(
         out,
         answer.number() as u64,
@@ -75,7 +87,7 @@ fn answer(line: &Line) -> bool {
     let mut out = [b' '; OUT];
     put_ends(&mut out, line);
     put_outcome(&mut out, ended);
-    put_view(&mut out, &mem, text::word_at(line, 67));
+    put_view(&mut out, &mem, text::word_at(line, 69));
     write(&out)
 }
 

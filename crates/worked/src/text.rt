@@ -2,9 +2,9 @@
 ghost use Prim.Native.Nat.{_+_, _≤_};
 
 // An example's line, and an outcome's.
-pub const LINE: usize = 72;
+pub const LINE: usize = 74;
 
-pub const OUT: usize = 59;
+pub const OUT: usize = 61;
 
 pub type Line = [u8; LINE];
 
@@ -17,17 +17,25 @@ fn is_digit(b: u8) -> bool {
     }
 }
 
-// x stands for a hexadecimal digit, f for a flag setting, any other byte for itself.
+fn is_operation(b: u8) -> bool {
+    match b {
+        b'S' | b'I' | b'F' | b'N' | b'R' | b'-' => true,
+        _ => false,
+    }
+}
+
+// x stands for a hexadecimal digit, f for a flag setting, o for an operation, any other byte for itself.
 fn fits(kind: u8, b: u8) -> bool {
     match kind {
         b'x' => is_digit(b),
         b'f' => (b == b'B') | (b == b'M'),
+        b'o' => is_operation(b),
         _ => b == kind,
     }
 }
 
 pub fn is_example(line: &Line) -> bool {
-    let shape = b"xxx f xx xx xx xx xxxx xxxx xxxx xxxx xxxxxxxxxxxx xxxx xxxxxxxx x xxxx\n";
+    let shape = b"xxx f xx xx xx xx xxxx xxxx xxxx xxxx xxxxxxxxxxxx xxxx xxxxxxxx ooo xxxx\n";
     let mut good = true;
     let mut i = 0;
     while i < LINE {
@@ -49,13 +57,13 @@ pub fn digit(b: u8) -> u8
 }
 
 pub fn byte_at(line: &Line, at: usize) -> u8
-    requires { ⌜ at + 2 ≤ 72 ⌝ }
+    requires { ⌜ at + 2 ≤ 74 ⌝ }
 {
     digit(line[at]) * 16 + digit(line[at + 1])
 }
 
 pub fn word_at(line: &Line, at: usize) -> u16
-    requires { ⌜ at + 4 ≤ 72 ⌝ }
+    requires { ⌜ at + 4 ≤ 74 ⌝ }
 {
     byte_at(line, at) as u16 * 256 + byte_at(line, at + 2) as u16
 }
@@ -67,14 +75,14 @@ fn letter(n: u8) -> u8 {
 }
 
 pub fn put_byte(out: &mut Out, at: usize, b: u8)
-    requires { ⌜ at + 2 ≤ 59 ⌝ }
+    requires { ⌜ at + 2 ≤ 61 ⌝ }
 {
     out[at] = letter(b / 16);
     out[at + 1] = letter(b);
 }
 
 pub fn put_word(out: &mut Out, at: usize, w: u16)
-    requires { ⌜ at + 4 ≤ 59 ⌝ }
+    requires { ⌜ at + 4 ≤ 61 ⌝ }
 {
     put_byte(out, at, (w / 256) as u8);
     put_byte(out, at + 2, (w % 256) as u8);
@@ -82,7 +90,7 @@ pub fn put_word(out: &mut Out, at: usize, w: u16)
 
 // The last decimal digit of n.
 pub fn put_decimal(out: &mut Out, at: usize, n: u64)
-    requires { ⌜ at + 1 ≤ 59 ⌝ }
+    requires { ⌜ at + 1 ≤ 61 ⌝ }
 {
     out[at] = b'0' + (n % 10) as u8;
 }

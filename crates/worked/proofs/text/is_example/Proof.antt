@@ -6,10 +6,10 @@ use Rattle.worked.proofs.text.is_example.Statement.{statement}
 use Rattle.worked.proofs.text.is_example.Tie as tie
 
 abbrev Inv-loop : tie.InvT-loop
-Inv-loop line shape good₀ i₀ good i = i ≤ 72
+Inv-loop line shape good₀ i₀ good i = i ≤ 74
 
 abbrev μ-loop : tie.MeasureT-loop
-μ-loop line shape good₀ i₀ good i = 72 - i
+μ-loop line shape good₀ i₀ good i = 74 - i
 
 pub is-example-spec : {M : Type 1} → statement M
 is-example-spec =
