@@ -1,0 +1,2 @@
+-- Demand 3: sequences of recorded calls, undos and the host's writes, and what each undo brings back.
+-- Assumes nothing.
