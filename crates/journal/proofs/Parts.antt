@@ -39,11 +39,11 @@ wait-rest zero h k = absurd (h refl)
 wait-rest (suc zero) h k = absurd (k refl)
 wait-rest (suc (suc n)) h k = refl
 
--- entry k put back, where those from k + 1 are already
-pub put-more : (m r : List ℕ) (n k i : ℕ) → k + 1 ≡ i → i ≤ n
-    → set (putBack m (read (n - i) (drop (32 + i * 3) r))) (number (take 2 (drop (32 + k * 3) r))) (getD r (32 + k * 3 + 2) 0) ≡ putBack m (read (n - k) (drop (32 + k * 3) r))
+-- one entry more, where the last k are put back already
+pub put-more : (m r : List ℕ) (n k : ℕ) → k < n
+    → set (putBack m (read k (drop (32 + (n - k) * 3) r))) (number (take 2 (drop (32 + (n - (k + 1)) * 3) r))) (getD r (32 + (n - (k + 1)) * 3 + 2) 0)
+    ≡ putBack m (read (k + 1) (drop (32 + (n - (k + 1)) * 3) r))
 unfolding putBack read
-put-more m r n k i e h =
-    let e1 : n - k ≡ suc (n - i) = omega arith in
-    let e2 : 32 + k * 3 + 3 ≡ 32 + i * 3 = omega arith in
-    rw (e1, drop-drop 3 (32 + k * 3) r, getD-drop (32 + k * 3) r 2 0, e2)
+put-more m r n k h =
+    let e : 32 + (n - (k + 1)) * 3 + 3 ≡ 32 + (n - k) * 3 = omega arith in
+    rw (add-one k, ← add-one k, drop-drop 3 (32 + (n - (k + 1)) * 3) r, getD-drop (32 + (n - (k + 1)) * 3) r 2 0, e)

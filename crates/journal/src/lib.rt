@@ -126,7 +126,8 @@ fn save(rest: &mut [u8], n: usize, mem: &[u8], ram_top: u16, one: Write) -> usiz
     requires { ⌜ (n < 12) × ((68 ≤ length (now rest)) × (length (now mem) ≡ 65536)) ⌝ }
     ensures { λ r. ⌜ (r ≡ n + length (savedAt (now (mem .entry)) (landingOf (one .at) «ram_top» (one .system)))) × (now (rest .exit) ≡ laid (32 + n * 3) (entries (savedAt (now (mem .entry)) (landingOf (one .at) «ram_top» (one .system)))) (now (rest .entry))) ⌝ }
 {
-    match memory::lands(one.at, ram_top, one.system) {
+    let at = one.at;
+    match memory::lands(at, ram_top, one.system) {
         Landing::Stored(p) => {
             let q = p as usize;
             let part = [(p / 256) as u8, (p % 256) as u8, mem[q]];
@@ -303,10 +304,10 @@ fn put_back(mem: &mut [u8], r: &[u8], n: usize)
     requires { ⌜ (length (now mem) ≡ 65536) × ((length (now r) ≡ 68) × (n ≤ 12)) ⌝ }
     ensures { λ _. ⌜ now (mem .exit) ≡ putBack (now (mem .entry)) (read n (drop 32 (now (r .entry)))) ⌝ }
 {
-    let mut i = n;
-    while 0 < i {
-        i -= 1;
-        let at = 32 + i * 3;
+    let mut k = 0;
+    while k < n {
+        k += 1;
+        let at = 32 + (n - k) * 3;
         let place = number_at(r, at, 2) as usize;
         mem[place] = r[at + 2];
     }

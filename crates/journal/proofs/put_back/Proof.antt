@@ -1,28 +1,31 @@
--- `put_back` meets its contract.
+-- `put_back` meets its contract: after k turns the last k of the n entries are put back.
 -- Assumes nothing.
-use mathlib.Core.Path.{_≡_, _∙_}
+use mathlib.Core.Path.{_≡_, refl, _∙_}
 use Prim.Native.Nat.{_+_, _-_, _*_, _≤_}
+use native.Mathlib.Nat.{sub-self}
 use native.Mathlib.Omega.{arith}
-use native.Mathlib.Nat.{sub-self, sub-zero}
-use Rattle.journal.proofs.Parts.{put-more}
 use lib.ListN.{length, drop, length-set}
-use Rattle.journal.specs.Record.{number, read}
+use Rattle.journal.specs.Record.{read}
 use Rattle.journal.specs.Calls.{putBack}
+use Rattle.journal.proofs.Parts.{put-more}
 use Rattle.journal.proofs.put_back.Statement.{statement}
 use Rattle.journal.proofs.put_back.Tie as tie
 
 abbrev Inv-loop : tie.InvT-loop
-Inv-loop mem₀ r n i₀ mem i = (i ≤ n) × ((length mem ≡ 65536) × (mem ≡ putBack mem₀ (read (n - i) (drop (32 + i * 3) r))))
+Inv-loop mem₀ r n k₀ mem k = (k ≤ n) × ((length mem ≡ 65536) × (mem ≡ putBack mem₀ (read k (drop (32 + (n - k) * 3) r))))
 
 abbrev μ-loop : tie.MeasureT-loop
-μ-loop mem₀ r n i₀ mem i = i
+μ-loop mem₀ r n k₀ mem k = n - k
 
 loop-holds : tie.Need-loop-holds Inv-loop μ-loop
 unfolding putBack read
-loop-holds c = (omega arith, (c .before .before .pre .0, rw (sub-self (c .before .before .args .n))))
+loop-holds c = (omega arith, (c .before .before .pre .0, refl))
 
-sub-i : tie.Need-sub-i Inv-loop μ-loop
-sub-i c = omega arith
+add-k : tie.Need-add-k Inv-loop μ-loop
+add-k c = omega arith
+
+sub-at : tie.Need-sub-at Inv-loop μ-loop
+sub-at c = omega arith
 
 mul-at : tie.Need-mul-at Inv-loop μ-loop
 mul-at c = omega arith
@@ -52,7 +55,7 @@ loop-again c =
       omega arith,
       (
         simp length-set (l .inv .1 .0),
-        rw (l .inv .1 .1, c .before .number-at .ensures .0) (put-more (a .mem .now) (a .r .now) (a .n) (l .i - 1) (l .i) (omega arith) (l .inv .0)),
+        rw (l .inv .1 .1, c .before .number-at .ensures .0) (put-more (a .mem .now) (a .r .now) (a .n) (l .k) (c .before .before .loop-test .taken)),
       ),
     )
 
@@ -62,10 +65,11 @@ same-length c = omega arith
 returns : tie.Need-returns Inv-loop μ-loop
 returns c =
     let l = c .before .loop in
-    let e : l .i ≡ 0 = omega arith in
-    l .inv .1 .1 ∙ rw e (rw sub-zero)
+    let a = c .before .before .before .before .args in
+    let e : l .k ≡ a .n = omega arith in
+    l .inv .1 .1 ∙ rw (e, sub-self)
 
 pub put-back-spec : {M : Type 1} → statement M
 put-back-spec =
     tie.close
-    (tie.spec Inv-loop μ-loop loop-holds sub-i mul-at add-at number-at-requires add-mem shared-slice-read-mem slice-write-mem loop-less loop-again same-length returns)
+    (tie.spec Inv-loop μ-loop loop-holds add-k sub-at mul-at add-at number-at-requires add-mem shared-slice-read-mem slice-write-mem loop-less loop-again same-length returns)
