@@ -3,7 +3,7 @@
 use Prim.Native.Nat.{ℕ, _+_, _-_, _*_, _/_, _≤_, _<_}
 use mathlib.Core.Path.{_≡_, refl, sym, ap, _∙_}
 use mathlib.Core.Bool.{Bool, true, false}
-use mathlib.Core.List.{List, [], _∷_, _++_, append-assoc, append-nil}
+use mathlib.Core.List.{List, [], _++_, append-assoc, append-nil}
 use native.Mathlib.Omega.{arith}
 use lib.Dec.{leb, eqb}
 use lib.ListN.{length, take, drop, length-append, length-drop}
@@ -19,7 +19,7 @@ use Rattle.memory.specs.declared.Writes.{Writes}
 use Rattle.step.specs.declared.Found.{Found}
 use Rattle.step.specs.declared.Machine.{Machine}
 use Rattle.journal.specs.Record.{encode, machineOf, waitAt, countOf, entriesOf, read}
-use Rattle.journal.specs.Calls.{State, ending, Leaves, need, unless, admitted, callAnswer, savedFor, recorded, called, recordAt, withRecord, newestOf, newestIn, undoAnswer, putBack, restored, undone}
+use Rattle.journal.specs.Calls.{State, ending, Leaves, need, unless, admitted, callAnswer, savedFor, recorded, concluded, called, recordAt, withRecord, newestOf, newestIn, undoAnswer, putBack, restored, undone}
 use Rattle.journal.specs.declared.Outcome.{Outcome}
 
 -- ---- before a recorded call
@@ -81,8 +81,7 @@ refused-leaves a s new ds x r e p = rw e (record { result = p; memory-is = refl;
 pub recorded-leaves : (top : ℕ) (f : Found) (s : State) (d : Writes) (mem j : List ℕ) → f .answer ≡ Done → d ≡ writesOf (reported top (listed (f .writes)))
     → mem ≡ stored top (listed (f .writes)) (s .memory)
     → j ≡ withRecord (s .twin .used) (encode (s .twin .machine) (savedFor top (listed (f .writes)) (s .memory))) (s .journal)
-    → Leaves (record { devices = d; twin = record { machine = f .machine; used = s .twin .used + 1 }; answer = f .answer }) mem j
-    (ending (f .answer) s (recorded top f s) (reported top (listed (f .writes))))
+    → Leaves (record { devices = d; twin = record { machine = f .machine; used = s .twin .used + 1 }; answer = f .answer }) mem j (concluded (f .answer) top f s)
 unfolding recorded
 recorded-leaves top f s d mem j e p q t = rw e (record { result = rw p; memory-is = q; journal-is = t })
 
@@ -93,7 +92,7 @@ module _ (early : Answer) (top : ℕ) (f : Found) (s : State) where
   called-refused x r e p = refused-leaves (callAnswer early f s) s (recorded top f s) (reported top (listed (f .writes))) x r (rw e) p
 
   pub called-done : (r : Outcome) (mem j : List ℕ) → admitted (length (s .memory)) (length (s .journal)) (s .twin .used) early ≡ Done
-      → Leaves r mem j (ending (f .answer) s (recorded top f s) (reported top (listed (f .writes)))) → Leaves r mem j (called early top f s)
+      → Leaves r mem j (concluded (f .answer) top f s) → Leaves r mem j (called early top f s)
   unfolding called
   called-done r mem j e h = rw e h
 

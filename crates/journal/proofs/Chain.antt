@@ -1,12 +1,12 @@
 -- The invariant of a sequence: record by record, the journal leads back through the past.
 -- Assumes nothing.
-use mathlib.Core.Path.{_≡_, refl, sym, ap, _∙_}
+use mathlib.Core.Path.{_≡_, sym, ap, _∙_}
 use mathlib.Core.List.{List, [], _∷_, _++_, append-assoc}
 use Prim.Native.Nat.{ℕ, _+_, _*_, _≤_, _<_}
 use native.Mathlib.Omega.{arith}
 use lib.ListN.{length, take, drop, length-append, length-drop, take-append-drop}
 use lib.Seq.{take-append-le, drop-append-le, take-at, drop-at, length-take-le}
-use Rattle.journal.specs.Record.{Saved, encode, laid}
+use Rattle.journal.specs.Record.{Saved, encode}
 use Rattle.journal.specs.Calls.{State, putBack, recordAt, withRecord}
 use Rattle.journal.specs.Sequence.{Same, Bytes, Snap, Fits, All}
 use Rattle.journal.proofs.Reading.{SavedFits}
@@ -29,7 +29,11 @@ module _ (u : ℕ) (r j : List ℕ) (whole : length r ≡ 68) (space : u * 68 + 
   unfolding withRecord
   parts = rw whole (append-assoc (take (u * 68) j) r (drop (u * 68 + 68) j))
 
-  -- earlier records stay
+  -- the bytes before a record stay
+  pub earlier-stay : take (u * 68) (withRecord u r j) ≡ take (u * 68) j
+  earlier-stay = rw parts (take-at (take (u * 68) j) (r ++ drop (u * 68 + 68) j) (u * 68) front)
+
+  -- so do earlier records
   pub record-kept : (k : ℕ) → k < u → recordAt k j ≡ recordAt k (withRecord u r j)
   record-kept k h =
       ap (recordAt k) (sym (take-append-drop (u * 68) j))

@@ -5,4 +5,5 @@ pub mod Reading
 pub mod Stores
 pub mod Chain
 pub mod Theorem
+pub mod Steps
 pub mod Unique

@@ -1,6 +1,6 @@
 -- Numbers read from a record, byte by byte, and its entries put back, one by one.
 -- Assumes nothing.
-use mathlib.Core.Path.{_≡_, refl, sym, ap, _∙_}
+use mathlib.Core.Path.{_≡_, refl}
 use mathlib.Core.List.{List, [], _∷_, _++_}
 use Prim.Native.Nat.{ℕ, zero, suc, _+_, _-_, _*_, _^_, _≤_, _<_}
 use native.Mathlib.Nat.{pow-suc, pow-le-pow-right}
@@ -9,9 +9,8 @@ use native.Mathlib.Omega.{arith}
 use lib.ListN.{length, getD, take, drop, set, length-append, length-drop}
 use lib.Seq.{take-suc, getD-drop, drop-drop}
 use lib.Dec.{lit<}
-use Rattle.evaluate.specs.declared.Wait.{Wait}
-use Rattle.evaluate.specs.declared.Wait.the-variants.{Running, Cwai, Sync}
-use Rattle.journal.specs.Record.{Saved, number, read, waitOf}
+use Rattle.evaluate.specs.declared.Wait.the-variants.{Sync}
+use Rattle.journal.specs.Record.{number, read, waitOf}
 use Rattle.journal.specs.Calls.{putBack}
 
 number-snoc : (l : List ℕ) (b : ℕ) → number (l ++ (b ∷ [])) ≡ number l * 256 + b

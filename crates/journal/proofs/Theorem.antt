@@ -2,14 +2,14 @@
 -- Assumes nothing.
 use mathlib.Core.Path.{_≡_, refl, sym, ap, _∙_}
 use mathlib.Core.Bool.{Bool, true, false}
-use mathlib.Core.Logic.{_≢_, _↔_}
+use mathlib.Core.Logic.{_≢_}
 use mathlib.Core.List.{List, [], _∷_}
 use Prim.Native.Nat.{ℕ, _+_, _-_, _*_, _≤_, _<_}
 use native.Mathlib.Omega.{arith}
 use lib.Dec.{eqb}
 use lib.ListN.{length, set, length-set}
 use borrow.Author.Tests.{eq-eqb, le-leb, lt-ltb, le-ltb}
-use Rattle.memory.specs.Writes.{writesOf, listed, stored, reported}
+use Rattle.memory.specs.Writes.{listed, stored, reported}
 use Rattle.memory.specs.declared.Answer.{Answer}
 use Rattle.memory.specs.declared.Answer.the-variants.{Done, Refused}
 use Rattle.memory.specs.declared.Refusal.{Refusal}
@@ -17,15 +17,14 @@ use Rattle.memory.specs.declared.Refusal.the-variants.{MemoryLength, NoRecord}
 use Rattle.memory.specs.declared.Write.{Write}
 use Rattle.memory.proofs.Folds.{length-stored}
 use Rattle.step.specs.declared.Found.{Found}
-use Rattle.step.specs.declared.Machine.{Machine}
-use Rattle.journal.specs.Record.{Saved, encode, machineOf, waitAt, countOf, entriesOf}
-use Rattle.journal.specs.Calls.{State, Ended, ending, need, recordAt, withRecord, savedFor, admitted, callAnswer, recorded, called, newestIn, undoAnswer, putBack, restored, undone}
-use Rattle.journal.specs.Sequence.{Forward, Fits, Bytes, All, Lawful, Laws, Window, Event, forward, back, host, Legal, Snap, World, push, rest, pop, hostWrites, call, next, run, start, Restores, BringsBack, Undoes, Unchanged, Demand3}
+use Rattle.journal.specs.Record.{encode, machineOf, waitAt, countOf, entriesOf}
+use Rattle.journal.specs.Calls.{State, ending, need, recordAt, withRecord, savedFor, admitted, callAnswer, recorded, concluded, called, newestIn, undoAnswer, putBack, restored, undone}
+use Rattle.journal.specs.Sequence.{Forward, Fits, Bytes, All, Lawful, Laws, Window, Event, forward, back, host, Legal, Snap, World, push, pop, hostWrites, call, next, run, start, BringsBack, Undoes, Unchanged, Demand3}
 use Rattle.journal.proofs.Answers.{unless-done, admitted-done}
 use Rattle.journal.proofs.Laying.{saved-few}
 use Rattle.journal.proofs.Reading.{machine-back, wait-at, count-back, entries-back, length-encode}
 use Rattle.journal.proofs.Stores.{length-putBack, undone-writes, same-eq, same-host, window-putBack, bytes-set, bytes-stored, bytes-putBack, all-saved-fit}
-use Rattle.journal.proofs.Chain.{record-kept, record-own, length-withRecord, Leads, Chain, chain-kept, chain-same, Inv}
+use Rattle.journal.proofs.Chain.{record-kept, record-own, length-withRecord, Leads, chain-kept, chain-same, Inv}
 
 not-refused : {x : Refusal} → Refused x ≢ Done
 not-refused e = let z : _≡_ {A = ℕ} 0 1 = cc in omega arith
@@ -195,7 +194,7 @@ recorded-inv top s past f t v =
     after = withRecord (s .twin .used) entry (s .journal)
 
 call-inv : (top : ℕ) (a : Answer) (s : State) (past : List Snap) (f : Found) → (a ≡ Done → Taken s f) → Inv s past
-    → Inv (ending a s (recorded top f s) (reported top (listed (f .writes))) .state) (push (ending a s (recorded top f s) (reported top (listed (f .writes))) .answer) s past)
+    → Inv (concluded a top f s .state) (push (concluded a top f s .answer) s past)
 call-inv top Done s past f t v = recorded-inv top s past f (t refl) v
 call-inv top (Refused x) s past f t v = v
 

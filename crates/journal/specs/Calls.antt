@@ -20,7 +20,6 @@ use Rattle.evaluate.specs.declared.Wait.{Wait}
 use Rattle.evaluate.specs.declared.Wait.the-variants.{Running, Cwai, Sync}
 use Rattle.step.specs.Step.{foundOf}
 use Rattle.step.specs.declared.Found.{Found}
-use Rattle.step.specs.declared.Machine.{Machine}
 use Rattle.step.specs.declared.Settings.{Settings}
 use Rattle.journal.specs.Record.{Saved, encode, laid, machineOf, waitAt, countOf, entriesOf}
 use Rattle.journal.specs.declared.Outcome.{Outcome}
@@ -101,9 +100,13 @@ recorded top f s =
       journal = withRecord (s .twin .used) (encode (s .twin .machine) (savedFor top (listed (f .writes)) (s .memory))) (s .journal);
     }
 
--- A recorded call that would do what was found: any forward call
+-- so answered, a call that found this ends so
+abbrev pub concluded : Answer → ℕ → Found → State → Ended
+concluded a top f s = ending a s (recorded top f s) (reported top (listed (f .writes)))
+
+-- Any forward call, recorded: its own refusal between 12 and 10, its ram_top, and what it found
 unfoldable pub called : Answer → ℕ → Found → State → Ended
-called early top f s = ending (callAnswer early f s) s (recorded top f s) (reported top (listed (f .writes)))
+called early top f s = concluded (callAnswer early f s) top f s
 
 -- The recorded step: 2 while waiting
 abbrev pub whileWaiting : Wait → Answer

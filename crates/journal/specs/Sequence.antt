@@ -1,12 +1,11 @@
 -- Demand 3: sequences of recorded calls, undos and the host's writes, and what each undo brings back.
 --
--- What it rules out. `Demand3` names the state just before the newest accepted call not yet undone, at every point of every sequence, so
--- an undo that returns the start state, or the oldest record's, fails at the first sequence of two accepted calls that differ. That the calls
--- themselves do their work is not said here: `call` is made of `found`, which for the step is `foundOf`, the definition that `step`'s
--- statement cites at every call. A machine that works on the first call and idles after it does not satisfy that statement at the second call.
+-- What it rules out. At every point of every sequence `Undoes` names the state just before the newest accepted call not yet undone. An undo
+-- that returns the start state, or the oldest record's, fails it after two accepted calls from different states. That each call does its
+-- work is said at each call, not here: `call` is made of `found`, for steps the definition `foundOf` of a step, and the statement of `step`
+-- is that very call. A machine that works on the first call and idles afterwards does not meet that statement at the second call.
 -- Assumes nothing.
 use Prim.Native.Nat.{ℕ, _+_, _*_, _^_, _≤_, _<_}
-use mathlib.Core.Bool.{Bool}
 use mathlib.Core.Path.{_≡_}
 use mathlib.Core.Logic.{_↔_, _≢_}
 use mathlib.Core.List.{List, [], _∷_}
@@ -17,10 +16,11 @@ use Rattle.memory.specs.declared.Answer.{Answer}
 use Rattle.memory.specs.declared.Answer.the-variants.{Done, Refused}
 use Rattle.memory.specs.declared.Refusal.the-variants.{MemoryLength, NoRecord}
 use Rattle.memory.specs.declared.Write.{Write}
+use Rattle.step.specs.Step.{foundOf}
 use Rattle.step.specs.declared.Found.{Found}
 use Rattle.step.specs.declared.Machine.{Machine}
-use Rattle.journal.specs.Calls.{State, Ended, need, called, undone}
-use Rattle.journal.specs.declared.Twin.{Twin}
+use Rattle.step.specs.declared.Settings.{Settings}
+use Rattle.journal.specs.Calls.{State, Ended, need, called, whileWaiting, undone}
 
 -- A kind of forward calls (steps, interrupts, resets): a call's own refusal before 10 (step's 2), its ram_top, and what it would do
 pub record Forward : Type 1 where
@@ -168,3 +168,7 @@ pub record Demand3 (F : Forward) : Type 0 where
   pub undoes : (m : Machine) (mem j : List ℕ) (es : List (Event F)) → Fits m → Bytes mem → All Legal es → Undoes (run F es (start m mem j))
   pub refused-call : (c : F .Call) (s : State) → call F c s .answer ≢ Done → Unchanged s (call F c s)
   pub refused-undo : (s : State) → undone s .answer ≢ Done → Unchanged s (undone s)
+
+-- The recorded step as a kind of forward calls: `call steps t s` is `stepped t s`, which the statement of `step` cites
+abbrev pub steps : Forward
+steps = record { Call = Settings; early = λ t m. whileWaiting (m .wait); top = λ t. t .«ram_top»; found = λ t m mem. foundOf mem m t }

@@ -1,12 +1,12 @@
 // The journal: recorded calls, undo, and the newest record. A record is 68 bytes from before a call.
 ghost use mathlib.Core.Path.{_≡_};
-ghost use mathlib.Core.List.{[], _∷_, _++_};
+ghost use mathlib.Core.List.{[], _++_};
 ghost use Prim.Native.Nat.{_+_, _*_, _^_, _≤_, _<_};
 ghost use lib.ListN.{length, take, drop, replicate};
 ghost use Rattle.memory.specs.Map.{landingOf};
-ghost use Rattle.memory.specs.Writes.{listed, writesOf, reported};
+ghost use Rattle.memory.specs.Writes.{listed, writesOf};
 ghost use Rattle.journal.specs.Record.{bytes, number, waitByte, waitOf, front, header, entries, encode, laid, machineOf, read};
-ghost use Rattle.journal.specs.Calls.{inHand, ending, Leaves, savedAt, savedFor, admitted, recorded, whileWaiting, stepped, newestOf, putBack, undone};
+ghost use Rattle.journal.specs.Calls.{inHand, Leaves, savedAt, savedFor, admitted, concluded, whileWaiting, stepped, newestOf, putBack, undone};
 use evaluate::Wait;
 use memory::Answer;
 use memory::Landing;
@@ -192,7 +192,7 @@ fn admits(memory: usize, journal: usize, used: usize, early: Answer) -> Answer
 // What every recorded call does with what it found. The record is written before the writes are stored.
 fn conclude(mem: &mut [u8], journal: &mut [u8], twin: Twin, ram_top: u16, found: Found) -> Outcome
     requires { ⌜ (length (now mem) ≡ 65536) × (twin .used * 68 + 68 ≤ length (now journal)) ⌝ }
-    ensures { λ r. ⌜ Leaves r (now (mem .exit)) (now (journal .exit)) (ending (found .answer) (inHand (now (mem .entry)) (now (journal .entry)) twin) (recorded «ram_top» found (inHand (now (mem .entry)) (now (journal .entry)) twin)) (reported «ram_top» (listed (found .writes)))) ⌝ }
+    ensures { λ r. ⌜ Leaves r (now (mem .exit)) (now (journal .exit)) (concluded (found .answer) «ram_top» found (inHand (now (mem .entry)) (now (journal .entry)) twin)) ⌝ }
 {
     let answer = found.answer;
     match answer {
