@@ -6,9 +6,11 @@ use Prim.Native.Nat.{ℕ, _+_, _*_, _≤_, _<_}
 use native.Mathlib.Omega.{arith}
 use lib.ListN.{length, take, drop, length-append, length-drop, take-append-drop}
 use lib.Seq.{take-append-le, drop-append-le, take-at, drop-at, length-take-le}
+use Rattle.memory.specs.Fits.{Bytes}
+use Rattle.step.specs.Laws.{MachineFits}
 use Rattle.journal.specs.Record.{Saved, encode}
 use Rattle.journal.specs.Calls.{State, putBack, recordAt, withRecord}
-use Rattle.journal.specs.Sequence.{Same, Bytes, Snap, Fits, All}
+use Rattle.journal.specs.Sequence.{Same, Snap, All}
 use Rattle.journal.proofs.Reading.{SavedFits}
 use Rattle.journal.proofs.Stores.{same-trans, same-putBack}
 
@@ -56,7 +58,7 @@ pub record Leads (r m : List ℕ) (s : Snap) : Type 0 where
   pub is : r ≡ encode (s .machine) saved
   pub few : length saved ≤ 12
   pub fit : All SavedFits saved
-  pub sound : Fits (s .machine)
+  pub sound : MachineFits (s .machine)
   pub leads : Same (putBack m saved) (s .memory)
 
 abbrev pub Chain : List ℕ → List ℕ → List Snap → Type 0
@@ -84,7 +86,7 @@ chain-same j m n (s ∷ ss) e c = (
 )
 
 pub record Inv (s : State) (past : List Snap) : Type 0 where
-  pub sound : Fits (s .twin .machine)
+  pub sound : MachineFits (s .twin .machine)
   pub bytes : Bytes (s .memory)
   pub count : s .twin .used ≡ length past
   pub room : s .twin .used * 68 ≤ length (s .journal)

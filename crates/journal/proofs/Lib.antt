@@ -5,5 +5,4 @@ pub mod Reading
 pub mod Stores
 pub mod Chain
 pub mod Theorem
-pub mod Steps
 pub mod Unique

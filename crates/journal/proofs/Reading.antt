@@ -11,8 +11,9 @@ use lib.ListN.{length, replicate, length-append, length-replicate}
 use Rattle.evaluate.specs.declared.Wait.{Wait}
 use Rattle.evaluate.specs.declared.Wait.the-variants.{Running, Cwai, Sync}
 use Rattle.step.specs.declared.Machine.{Machine}
+use Rattle.step.specs.Laws.{MachineFits}
 use Rattle.journal.specs.Record.{Saved, bytes, number, front, header, entries, encode, waitByte, waitOf, waitAt, machineOf, countOf, read, entriesOf}
-use Rattle.journal.specs.Sequence.{Fits, All}
+use Rattle.journal.specs.Sequence.{All}
 use Rattle.journal.proofs.Laying.{length-entries}
 
 -- an entry that fits a record: its place is below FF00
@@ -44,17 +45,17 @@ wait-small Running = lit≤ tt
 wait-small Cwai = lit≤ tt
 wait-small Sync = lit≤ tt
 
-pub machine-back : (m : Machine) (es : List Saved) → Fits m → machineOf (encode m es) ≡ m
+pub machine-back : (m : Machine) (es : List Saved) → MachineFits m → machineOf (encode m es) ≡ m
 unfolding machineOf waitAt encode header front bytes
 machine-back m es f = λ i. record {
   cycles = number-back 8 (m .cycles) (f .cycles) i;
   instructions = number-back 8 (m .instructions) (f .instructions) i;
   regs = record {
-    x = number-back 2 (m .regs .x) (f .x) i;
-    y = number-back 2 (m .regs .y) (f .y) i;
-    u = number-back 2 (m .regs .u) (f .u) i;
-    s = number-back 2 (m .regs .s) (f .s) i;
-    pc = number-back 2 (m .regs .pc) (f .pc) i;
+    x = number-back 2 (m .regs .x) (f .registers .x) i;
+    y = number-back 2 (m .regs .y) (f .registers .y) i;
+    u = number-back 2 (m .regs .u) (f .registers .u) i;
+    s = number-back 2 (m .regs .s) (f .registers .s) i;
+    pc = number-back 2 (m .regs .pc) (f .registers .pc) i;
     a = m .regs .a;
     b = m .regs .b;
     dp = m .regs .dp;

@@ -14,9 +14,11 @@ use Rattle.memory.specs.declared.Landing.the-variants.{Stored, Device, Ignored}
 use Rattle.memory.specs.declared.Write.{Write}
 use Rattle.memory.proofs.Folds.{length-stored}
 use Rattle.memory.proofs.Places.{stored-below}
+use Rattle.memory.specs.Fits.{Bytes, AllFit}
+use Rattle.memory.proofs.Fits.{bytes-set}
 use Rattle.journal.specs.Record.{Saved}
 use Rattle.journal.specs.Calls.{savedAt, savedFor, putBack}
-use Rattle.journal.specs.Sequence.{Window, Same, Bytes, WriteFits, All}
+use Rattle.journal.specs.Sequence.{Window, Same, All}
 use Rattle.journal.proofs.Reading.{SavedFits}
 
 pub length-putBack : (m : List ℕ) (es : List Saved) → length (putBack m es) ≡ length m
@@ -104,24 +106,6 @@ window-putBack m (e ∷ es) f i w =
 
 -- ---- bytes
 
-pub bytes-set : (m : List ℕ) (p b : ℕ) → Bytes m → b < 256 → Bytes (set m p b)
-bytes-set [] p b h k i = h i
-bytes-set (x ∷ xs) zero b h k zero = k
-bytes-set (x ∷ xs) zero b h k (suc i) = h (suc i)
-bytes-set (x ∷ xs) (suc p) b h k zero = h zero
-bytes-set (x ∷ xs) (suc p) b h k (suc i) = bytes-set xs p b (λ n. h (suc n)) k i
-
-bytes-put : (l : Landing) (b : ℕ) (m : List ℕ) → Bytes m → b < 256 → Bytes (putAt l b m)
-bytes-put (Stored p) b m h k = bytes-set m p b h k
-bytes-put Device b m h k = h
-bytes-put Ignored b m h k = h
-
-pub bytes-stored : (top : ℕ) (ws : List Write) (m : List ℕ) → Bytes m → All WriteFits ws → Bytes (stored top ws m)
-unfolding stored
-bytes-stored top [] m h f = h
-bytes-stored top (w ∷ ws) m h f =
-    bytes-stored top ws (putAt (landingOf (w .at) top (w .system)) (w .byte) m) (bytes-put (landingOf (w .at) top (w .system)) (w .byte) m h (f .0 .byte)) (f .1)
-
 pub bytes-putBack : (m : List ℕ) (es : List Saved) → Bytes m → All SavedFits es → Bytes (putBack m es)
 unfolding putBack
 bytes-putBack m [] h f = h
@@ -134,8 +118,8 @@ saved-fits (Stored p) m es below h f = (record { place = below p refl; byte = h 
 saved-fits Device m es below h f = f
 saved-fits Ignored m es below h f = f
 
-pub all-saved-fit : (top : ℕ) (ws : List Write) (m : List ℕ) → Bytes m → All WriteFits ws → All SavedFits (savedFor top ws m)
+pub all-saved-fit : (top : ℕ) (ws : List Write) (m : List ℕ) → Bytes m → AllFit ws → All SavedFits (savedFor top ws m)
 unfolding savedFor
 all-saved-fit top [] m h f = tt
 all-saved-fit top (w ∷ ws) m h f =
-    saved-fits (landingOf (w .at) top (w .system)) m (savedFor top ws m) (λ p e. stored-below (w .at) top (w .system) p (f .0 .at) e) h (all-saved-fit top ws m h (f .1))
+    saved-fits (landingOf (w .at) top (w .system)) m (savedFor top ws m) (λ p e. stored-below (w .at) top (w .system) p (f .0 .address) e) h (all-saved-fit top ws m h (f .1))

@@ -1,4 +1,4 @@
--- Demand 3, for every forward call that keeps the laws.
+-- Demand 3.
 -- Assumes nothing.
 use mathlib.Core.Path.{_≡_, refl, sym, ap, _∙_}
 use mathlib.Core.Bool.{Bool, true, false}
@@ -9,21 +9,29 @@ use native.Mathlib.Omega.{arith}
 use lib.Dec.{eqb}
 use lib.ListN.{length, set, length-set}
 use borrow.Author.Tests.{eq-eqb, le-leb, lt-ltb, le-ltb}
+use Rattle.memory.specs.Fits.{Bytes}
 use Rattle.memory.specs.Writes.{listed, stored, reported}
 use Rattle.memory.specs.declared.Answer.{Answer}
 use Rattle.memory.specs.declared.Answer.the-variants.{Done, Refused}
 use Rattle.memory.specs.declared.Refusal.{Refusal}
 use Rattle.memory.specs.declared.Refusal.the-variants.{MemoryLength, NoRecord}
 use Rattle.memory.specs.declared.Write.{Write}
+use Rattle.memory.proofs.Fits.{bytes-set, bytes-stored}
 use Rattle.memory.proofs.Folds.{length-stored}
+use Rattle.step.specs.Laws.{MachineFits, FoundFits}
+use Rattle.step.specs.Step.{foundOf}
 use Rattle.step.specs.declared.Found.{Found}
+use Rattle.step.specs.declared.Machine.{Machine}
+use Rattle.step.proofs.Laws.{twelve-writes, step-fits}
+use Rattle.interrupts.specs.Interrupts.{interruptFound, resetFound}
+use Rattle.interrupts.proofs.Laws.{interrupt-twelve, reset-twelve, interrupt-fits, reset-fits}
 use Rattle.journal.specs.Record.{encode, machineOf, waitAt, countOf, entriesOf}
-use Rattle.journal.specs.Calls.{State, ending, need, recordAt, withRecord, savedFor, admitted, callAnswer, recorded, concluded, called, newestIn, undoAnswer, putBack, restored, undone}
-use Rattle.journal.specs.Sequence.{Forward, Fits, Bytes, All, Lawful, Laws, Window, Event, forward, back, host, Legal, Snap, World, push, pop, hostWrites, call, next, run, start, BringsBack, Undoes, Unchanged, Demand3}
+use Rattle.journal.specs.Calls.{State, ending, need, recordAt, withRecord, savedFor, admitted, callAnswer, recorded, concluded, called, whileWaiting, newestIn, undoAnswer, putBack, restored, undone}
+use Rattle.journal.specs.Sequence.{Call, step, interrupt, reset, All, Window, Event, forward, back, host, Legal, Snap, World, push, pop, hostWrites, call, next, run, start, BringsBack, Undoes, Unchanged, Demand3}
 use Rattle.journal.proofs.Answers.{unless-done, admitted-done}
 use Rattle.journal.proofs.Laying.{saved-few}
 use Rattle.journal.proofs.Reading.{machine-back, wait-at, count-back, entries-back, length-encode}
-use Rattle.journal.proofs.Stores.{length-putBack, undone-writes, same-eq, same-host, window-putBack, bytes-set, bytes-stored, bytes-putBack, all-saved-fit}
+use Rattle.journal.proofs.Stores.{length-putBack, undone-writes, same-eq, same-host, window-putBack, bytes-putBack, all-saved-fit}
 use Rattle.journal.proofs.Chain.{record-kept, record-own, length-withRecord, Leads, chain-kept, chain-same, Inv}
 
 not-refused : {x : Refusal} → Refused x ≢ Done
@@ -154,7 +162,8 @@ undoes s (t ∷ ts) v = record {
 record Taken (s : State) (f : Found) : Type 0 where
   size : length (s .memory) ≡ 65536
   space : s .twin .used * 68 + 68 ≤ length (s .journal)
-  lawful : Lawful f
+  few : length (listed (f .writes)) ≤ 12
+  lawful : FoundFits f
 
 recorded-inv : (top : ℕ) (s : State) (past : List Snap) (f : Found) → Taken s f → Inv s past → Inv (recorded top f s) (push Done s past)
 unfolding recorded
@@ -182,7 +191,7 @@ recorded-inv top s past f t v =
     ws = listed (f .writes)
 
     few : length (savedFor top ws (s .memory)) ≤ 12
-    few = omega (arith, saved-few top ws (s .memory), t .lawful .few)
+    few = omega (arith, saved-few top ws (s .memory), t .few)
 
     entry : List ℕ
     entry = encode (s .twin .machine) (savedFor top ws (s .memory))
@@ -198,48 +207,79 @@ call-inv : (top : ℕ) (a : Answer) (s : State) (past : List Snap) (f : Found) �
 call-inv top Done s past f t v = recorded-inv top s past f (t refl) v
 call-inv top (Refused x) s past f t v = v
 
-module _ (F : Forward) (laws : Laws F) where
-  taken : (c : F .Call) (s : State) → Fits (s .twin .machine) → Bytes (s .memory)
-      → callAnswer (F .early c (s .twin .machine)) (F .found c (s .twin .machine) (s .memory)) s ≡ Done → Taken s (F .found c (s .twin .machine) (s .memory))
-  taken c s f b e =
-      let e1 = unless-done (admitted (length (s .memory)) (length (s .journal)) (s .twin .used) (F .early c (s .twin .machine))) _ e in
-      let h = admitted-done (length (s .memory)) (length (s .journal)) (s .twin .used) (F .early c (s .twin .machine)) (e1 .0) in
-      record { size = h .size; space = h .space; lawful = laws .lawful c (s .twin .machine) (s .memory) f b (h .size) (h .on-time) (e1 .1) }
+-- what a forward call is refused by before 10, its ram_top, and what it finds
+abbrev earlyOf : Call → Machine → Answer
+earlyOf (step t) m = whileWaiting (m .wait)
+earlyOf (interrupt t i) m = Done
+earlyOf (reset t) m = Done
 
-  next-inv : (e : Event F) (w : World) → Legal e → Inv (w .now) (w .past) → Inv (next F e w .now) (next F e w .past)
-  unfolding next called
-  next-inv (forward c) w l v =
-      let m = w .now .twin .machine in
-      let f = F .found c m (w .now .memory) in
-      call-inv (F .top c) (callAnswer (F .early c m) f (w .now)) (w .now) (w .past) f (taken c (w .now) (v .sound) (v .bytes)) v
-  next-inv back w l v = undo-inv (w .now) (w .past) v
-  next-inv (host a b) w l v = host-inv (w .now) (w .past) a b (l .0) (l .1) v
+abbrev topOf : Call → ℕ
+topOf (step t) = t .«ram_top»
+topOf (interrupt t i) = t .«ram_top»
+topOf (reset t) = t .«ram_top»
 
-  run-inv : (es : List (Event F)) (w : World) → All Legal es → Inv (w .now) (w .past) → Inv (run F es w .now) (run F es w .past)
-  unfolding run
-  run-inv [] w l v = v
-  run-inv (e ∷ es) w l v = run-inv es (next F e w) (l .1) (next-inv e w (l .0) v)
+abbrev foundBy : Call → Machine → List ℕ → Found
+foundBy (step t) m mem = foundOf mem m t
+foundBy (interrupt t i) m mem = interruptFound mem m t i
+foundBy (reset t) m mem = resetFound mem m
 
-  refused-call : (c : F .Call) (s : State) → call F c s .answer ≢ Done → Unchanged s (call F c s)
-  unfolding called
-  refused-call c s h =
-      let m = s .twin .machine in
-      let f = F .found c m (s .memory) in
-      let a = callAnswer (F .early c m) f s in
-      let ds = reported (F .top c) (listed (f .writes)) in
-      stays a s (recorded (F .top c) f s) ds (λ e. h (answered a s (recorded (F .top c) f s) ds ∙ e))
+call-is : (c : Call) (s : State) → call c s ≡ called (earlyOf c (s .twin .machine)) (topOf c) (foundBy c (s .twin .machine) (s .memory)) s
+call-is (step t) s = refl
+call-is (interrupt t i) s = refl
+call-is (reset t) s = refl
 
-  refused-undo : (s : State) → undone s .answer ≢ Done → Unchanged s (undone s)
-  unfolding undone
-  refused-undo s h = stays (undoAnswer s) s (restored s) [] (λ e. h (undo-answer s ∙ e))
+found-few : (c : Call) (m : Machine) (mem : List ℕ) → length (listed (foundBy c m mem .writes)) ≤ 12
+found-few (step t) m mem = twelve-writes mem m t
+found-few (interrupt t i) m mem = interrupt-twelve mem m t i
+found-few (reset t) m mem = reset-twelve mem m
 
-  -- demand 3
-  pub demand-3 : Demand3 F
-  demand-3 = record {
-    undoes = λ m mem j es f b l.
-        let w : World = run F es (start m mem j) in
-        undoes (w .now) (w .past)
-        (run-inv es (start m mem j) l (record { sound = f; bytes = b; count = refl; room = omega arith; size = λ h. absurd (omega arith); chain = tt }));
-    refused-call = refused-call;
-    refused-undo = refused-undo;
-  }
+found-fits : (c : Call) (m : Machine) (mem : List ℕ) → MachineFits m → Bytes mem → FoundFits (foundBy c m mem)
+found-fits (step t) m mem h b = step-fits mem m t h b
+found-fits (interrupt t i) m mem h b = interrupt-fits mem m t i h b
+found-fits (reset t) m mem h b = reset-fits mem m h b
+
+taken : (c : Call) (s : State) → MachineFits (s .twin .machine) → Bytes (s .memory)
+    → callAnswer (earlyOf c (s .twin .machine)) (foundBy c (s .twin .machine) (s .memory)) s ≡ Done → Taken s (foundBy c (s .twin .machine) (s .memory))
+taken c s f b e =
+    let m = s .twin .machine in
+    let e1 = unless-done (admitted (length (s .memory)) (length (s .journal)) (s .twin .used) (earlyOf c m)) _ e in
+    let h = admitted-done (length (s .memory)) (length (s .journal)) (s .twin .used) (earlyOf c m) (e1 .0) in
+    record { size = h .size; space = h .space; few = found-few c m (s .memory); lawful = found-fits c m (s .memory) f b }
+
+next-inv : (e : Event) (w : World) → Legal e → Inv (w .now) (w .past) → Inv (next e w .now) (next e w .past)
+unfolding next called
+next-inv (forward c) w l v =
+    let m = w .now .twin .machine in
+    let f = foundBy c m (w .now .memory) in
+    rw (call-is c (w .now))
+    (call-inv (topOf c) (callAnswer (earlyOf c m) f (w .now)) (w .now) (w .past) f (taken c (w .now) (v .sound) (v .bytes)) v)
+next-inv back w l v = undo-inv (w .now) (w .past) v
+next-inv (host a b) w l v = host-inv (w .now) (w .past) a b (l .0) (l .1) v
+
+run-inv : (es : List Event) (w : World) → All Legal es → Inv (w .now) (w .past) → Inv (run es w .now) (run es w .past)
+unfolding run
+run-inv [] w l v = v
+run-inv (e ∷ es) w l v = run-inv es (next e w) (l .1) (next-inv e w (l .0) v)
+
+called-stays : (c : Call) (s : State) → call c s .answer ≢ Done → Unchanged s (call c s)
+unfolding called
+called-stays c s =
+    let m = s .twin .machine in
+    let f = foundBy c m (s .memory) in
+    let a = callAnswer (earlyOf c m) f s in
+    let ds = reported (topOf c) (listed (f .writes)) in
+    rw (call-is c s) (λ h. stays a s (recorded (topOf c) f s) ds (λ e. h (answered a s (recorded (topOf c) f s) ds ∙ e)))
+
+undone-stays : (s : State) → undone s .answer ≢ Done → Unchanged s (undone s)
+unfolding undone
+undone-stays s h = stays (undoAnswer s) s (restored s) [] (λ e. h (undo-answer s ∙ e))
+
+pub demand-3 : Demand3
+demand-3 = record {
+  undoes = λ m mem j es f b l.
+      let w : World = run es (start m mem j) in
+      undoes (w .now) (w .past)
+      (run-inv es (start m mem j) l (record { sound = f; bytes = b; count = refl; room = omega arith; size = λ h. absurd (omega arith); chain = tt }));
+  refused-call = called-stays;
+  refused-undo = undone-stays;
+}

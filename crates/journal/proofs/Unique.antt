@@ -15,6 +15,14 @@ pub step : Determines 2 proofs.step.Kinds.ps proofs.step.Kinds.r proofs.step.Rea
 step κs a x y ws vs p q =
     (p .result ∙ sym (q .result), λ i. ((p .memory-is ∙ sym (q .memory-is)) i, ((p .journal-is ∙ sym (q .journal-is)) i, (tt, (tt, tt)))))
 
+pub interrupt : Determines 2 proofs.interrupt.Kinds.ps proofs.interrupt.Kinds.r proofs.interrupt.Reads.Post
+interrupt κs a x y ws vs p q =
+    (p .result ∙ sym (q .result), λ i. ((p .memory-is ∙ sym (q .memory-is)) i, ((p .journal-is ∙ sym (q .journal-is)) i, (tt, (tt, (tt, tt))))))
+
+pub reset : Determines 2 proofs.reset.Kinds.ps proofs.reset.Kinds.r proofs.reset.Reads.Post
+reset κs a x y ws vs p q =
+    (p .result ∙ sym (q .result), λ i. ((p .memory-is ∙ sym (q .memory-is)) i, ((p .journal-is ∙ sym (q .journal-is)) i, (tt, (tt, tt)))))
+
 -- the journal is lent to be read only
 pub undo : Determines 2 proofs.undo.Kinds.ps proofs.undo.Kinds.r proofs.undo.Reads.Post
 undo κs a x y ws vs p q = (p .result ∙ sym (q .result), ap (λ (l : List ℕ). (l, (tt, (tt, tt)))) (p .memory-is ∙ sym (q .memory-is)))

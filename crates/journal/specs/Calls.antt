@@ -21,6 +21,8 @@ use Rattle.evaluate.specs.declared.Wait.the-variants.{Running, Cwai, Sync}
 use Rattle.step.specs.Step.{foundOf}
 use Rattle.step.specs.declared.Found.{Found}
 use Rattle.step.specs.declared.Settings.{Settings}
+use Rattle.interrupts.specs.Interrupts.{interruptFound, resetFound}
+use Rattle.interrupts.specs.declared.InterruptType.{InterruptType}
 use Rattle.journal.specs.Record.{Saved, encode, laid, machineOf, waitAt, countOf, entriesOf}
 use Rattle.journal.specs.declared.Outcome.{Outcome}
 use Rattle.journal.specs.declared.Twin.{Twin}
@@ -116,6 +118,13 @@ whileWaiting Sync = Refused Waiting
 
 abbrev pub stepped : Settings → State → Ended
 stepped t s = called (whileWaiting (s .twin .machine .wait)) (t .«ram_top») (foundOf (s .memory) (s .twin .machine) t) s
+
+-- The recorded interrupt and reset
+abbrev pub interrupted : Settings → InterruptType → State → Ended
+interrupted t i s = called Done (t .«ram_top») (interruptFound (s .memory) (s .twin .machine) t i) s
+
+abbrev pub wasReset : Settings → State → Ended
+wasReset t s = called Done (t .«ram_top») (resetFound (s .memory) (s .twin .machine)) s
 
 -- The newest record on request: an empty part where no whole record is there
 unfoldable pub newestOf : List ℕ → ℕ → List ℕ

@@ -6,8 +6,9 @@ ghost use lib.ListN.{length, take, drop, replicate};
 ghost use Rattle.memory.specs.Map.{landingOf};
 ghost use Rattle.memory.specs.Writes.{listed, writesOf};
 ghost use Rattle.journal.specs.Record.{bytes, number, waitByte, waitOf, front, header, entries, encode, laid, machineOf, read};
-ghost use Rattle.journal.specs.Calls.{inHand, Leaves, savedAt, savedFor, admitted, concluded, whileWaiting, stepped, newestOf, putBack, undone};
+ghost use Rattle.journal.specs.Calls.{inHand, Leaves, savedAt, savedFor, admitted, concluded, whileWaiting, stepped, interrupted, wasReset, newestOf, putBack, undone};
 use evaluate::Wait;
+use interrupts::InterruptType;
 use memory::Answer;
 use memory::Landing;
 use memory::Refusal;
@@ -237,6 +238,38 @@ pub fn step(mem: &mut [u8], journal: &mut [u8], twin: Twin, settings: Settings) 
         Answer::Refused(refusal) => refused(twin, refusal),
         Answer::Done => {
             let found = step::find(mem, machine, settings);
+            conclude(mem, journal, twin, settings.ram_top, found)
+        }
+    }
+}
+
+pub fn interrupt(
+    mem: &mut [u8],
+    journal: &mut [u8],
+    twin: Twin,
+    settings: Settings,
+    which: InterruptType,
+) -> Outcome
+    ensures { λ r. ⌜ Leaves r (now (mem .exit)) (now (journal .exit)) (interrupted settings which (inHand (now (mem .entry)) (now (journal .entry)) twin)) ⌝ }
+{
+    let machine = twin.machine;
+    match admits(mem.len(), journal.len(), twin.used, Answer::Done) {
+        Answer::Refused(refusal) => refused(twin, refusal),
+        Answer::Done => {
+            let found = interrupts::find(mem, machine, settings, which);
+            conclude(mem, journal, twin, settings.ram_top, found)
+        }
+    }
+}
+
+pub fn reset(mem: &mut [u8], journal: &mut [u8], twin: Twin, settings: Settings) -> Outcome
+    ensures { λ r. ⌜ Leaves r (now (mem .exit)) (now (journal .exit)) (wasReset settings (inHand (now (mem .entry)) (now (journal .entry)) twin)) ⌝ }
+{
+    let machine = twin.machine;
+    match admits(mem.len(), journal.len(), twin.used, Answer::Done) {
+        Answer::Refused(refusal) => refused(twin, refusal),
+        Answer::Done => {
+            let found = interrupts::find_reset(mem, machine);
             conclude(mem, journal, twin, settings.ram_top, found)
         }
     }
