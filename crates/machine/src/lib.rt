@@ -1,6 +1,5 @@
 // The machine lent by its owner: step and undo on a twin behind a `&mut`, over the recorded calls on values.
 // Each is three statements, whatever the call does: every test and every refusal is below.
-ghost use mathlib.Core.Path.{_≡_};
 ghost use Rattle.journal.specs.Calls.{inHand, stepped, undone};
 ghost use Rattle.machine.specs.Lending.{Returns, Leaves};
 use journal::Twin;
@@ -39,10 +38,10 @@ fn undo_value(twin: Twin, mem: &mut [u8], journal: &[u8]) -> Returned
     let outcome = journal::undo(mem, journal, twin);
     let devices = outcome.devices;
     let answer = outcome.answer;
-    let next = outcome.twin;
+    let before = outcome.twin;
     Returned {
         reported: Reported { devices, answer },
-        twin: next,
+        twin: before,
     }
 }
 

@@ -7,15 +7,6 @@ use Rattle.machine.specs.declared.Returned.{Returned}
 use Rattle.machine.proofs.step_value.Statement.{statement}
 use Rattle.machine.proofs.step_value.Tie as tie
 
-step-requires : tie.Need-step-requires
-step-requires c κs = search needs
-
-same-length : tie.Need-same-length
-same-length c = search needs
-
-same-length-2 : tie.Need-same-length-2
-same-length-2 c = search needs
-
 abbrev parts : Outcome → Returned
 parts o = record { reported = record { devices = o .devices; answer = o .answer }; twin = o .twin }
 
@@ -25,4 +16,6 @@ returns c =
     record { result = ap parts (e .result); memory-is = e .memory-is; journal-is = e .journal-is }
 
 pub step-value-spec : {M : Type 1} → statement M
-step-value-spec = tie.close (tie.spec step-requires same-length same-length-2 returns)
+step-value-spec =
+    tie.close
+    (tie.spec (search needs) (search needs) (search needs) returns)

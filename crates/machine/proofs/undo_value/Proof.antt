@@ -7,12 +7,6 @@ use Rattle.machine.specs.declared.Returned.{Returned}
 use Rattle.machine.proofs.undo_value.Statement.{statement}
 use Rattle.machine.proofs.undo_value.Tie as tie
 
-undo-requires : tie.Need-undo-requires
-undo-requires c κs = search needs
-
-same-length : tie.Need-same-length
-same-length c = search needs
-
 abbrev parts : Outcome → Returned
 parts o = record { reported = record { devices = o .devices; answer = o .answer }; twin = o .twin }
 
@@ -22,4 +16,6 @@ returns c =
     record { result = ap parts (e .result); memory-is = e .memory-is; journal-is = e .journal-is }
 
 pub undo-value-spec : {M : Type 1} → statement M
-undo-value-spec = tie.close (tie.spec undo-requires same-length returns)
+undo-value-spec =
+    tie.close
+    (tie.spec (search needs) (search needs) returns)
