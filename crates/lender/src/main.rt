@@ -1,0 +1,135 @@
+// An owner keeps a twin and lends it to each call: two steps, and three undos.
+//
+//   0100  12                NOP
+//   0101  B7 02 00          STA >0200      A is 2A
+//
+// A line for each call: the answer's number, PC, the count of records, and the byte at 0200. What it prints is worked out by
+// hand. NOP is one byte, STA extended three, and each leaves a record. The first undo puts 00 back at 0200, and PC and the count
+// go back with each; the third undo finds no record (11) and leaves all as it stands.
+ghost use Rattle.journal.specs.Calls.{inHand, stepped, undone};
+ghost use Rattle.machine.specs.Lending.{Returns};
+use evaluate::Wait;
+use journal::Twin;
+use libc::STDOUT_FILENO;
+use machine::Returned;
+use registers::CCBits;
+use registers::Flags;
+use registers::Set;
+use step::Machine;
+use step::Settings;
+
+type Memory = [u8; 0x10000];
+
+// Room for two records.
+type Journal = [u8; 136];
+
+const CELL: usize = 0x0200;
+
+// The owner's side of a lent twin: it lies in a local, and the local is lent for the call.
+fn step_owned(twin: Twin, mem: &mut [u8], journal: &mut [u8], settings: Settings) -> Returned
+    ensures { λ r. ⌜ Returns r (now (mem .exit)) (now (journal .exit)) (stepped settings (inHand (now (mem .entry)) (now (journal .entry)) twin)) ⌝ }
+{
+    let mut own = twin;
+    let reported = machine::step(&mut own, mem, journal, settings);
+    Returned {
+        reported,
+        twin: own,
+    }
+}
+
+fn undo_owned(twin: Twin, mem: &mut [u8], journal: &[u8]) -> Returned
+    ensures { λ r. ⌜ Returns r (now (mem .exit)) (now (journal .entry)) (undone (inHand (now (mem .entry)) (now (journal .entry)) twin)) ⌝ }
+{
+    let mut own = twin;
+    let reported = machine::undo(&mut own, mem, journal);
+    Returned {
+        reported,
+        twin: own,
+    }
+}
+
+// The last hexadecimal digit of n.
+fn letter(n: u8) -> u8 {
+    let d = n % 16;
+    if d < 10 { b'0' + d } else { b'A' - 10 + d }
+}
+
+fn show(number: u8, twin: Twin, byte: u8) -> bool {
+    let machine = twin.machine;
+    let regs = machine.regs;
+    let high = (regs.pc / 256) as u8;
+    let low = (regs.pc % 256) as u8;
+    let out = [
+        letter(number / 10),
+        letter(number % 10),
+        b' ',
+        letter(high / 16),
+        letter(high),
+        letter(low / 16),
+        letter(low),
+        b' ',
+        letter((twin.used % 16) as u8),
+        b' ',
+        letter(byte / 16),
+        letter(byte),
+        b'\n',
+    ];
+    io::write_all(STDOUT_FILENO, &out)
+}
+
+fn shown(returned: Returned, byte: u8) -> Twin {
+    let reported = returned.reported;
+    let answer = reported.answer;
+    let twin = returned.twin;
+    show(answer.number(), twin, byte);
+    twin
+}
+
+fn forward(twin: Twin, mem: &mut Memory, journal: &mut Journal) -> Twin {
+    let settings = Settings {
+        ram_top: 0x7FFF,
+        flags: Flags::Manual,
+    };
+    let returned = step_owned(twin, mem, journal, settings);
+    shown(returned, mem[CELL])
+}
+
+fn back(twin: Twin, mem: &mut Memory, journal: &Journal) -> Twin {
+    let returned = undo_owned(twin, mem, journal);
+    shown(returned, mem[CELL])
+}
+
+fn start() -> Twin {
+    Twin {
+        machine: Machine {
+            cycles: 0,
+            instructions: 0,
+            regs: Set {
+                x: 0,
+                y: 0,
+                u: 0,
+                s: 0,
+                pc: 0x0100,
+                a: 0x2A,
+                b: 0,
+                dp: 0,
+                cc: CCBits { reg: 0 },
+            },
+            wait: Wait::Running,
+        },
+        used: 0,
+    }
+}
+
+fn main() {
+    let mut mem = [0u8; 0x10000];
+    let mut journal = [0u8; 136];
+    mem[0x0100] = 0x12;
+    mem[0x0101] = 0xB7;
+    mem[0x0102] = 0x02;
+    let first = forward(start(), &mut mem, &mut journal);
+    let second = forward(first, &mut mem, &mut journal);
+    let third = back(second, &mut mem, &journal);
+    let fourth = back(third, &mut mem, &journal);
+    back(fourth, &mut mem, &journal);
+}
