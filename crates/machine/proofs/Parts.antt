@@ -1,4 +1,4 @@
--- What the walks of `step` and `undo` share: the machine values of a twin and a report, and what is known of the two parts of what a call on values returned.
+-- What the proofs of `step` and `undo` share: a recorded call's outcome put together anew, the machine values of a twin and a report, and what is known of the two parts of what a call on values returned.
 -- Assumes nothing.
 use mathlib.Core.Path.{ap}
 use mathlib.Core.List.{List, [], _∷_}
@@ -6,7 +6,8 @@ use Prim.Native.Nat.{ℕ}
 use mir.Val.{Val}
 use denote.Laws.{Is}
 use denote.Struct.Laws as LL
-use Rattle.journal.specs.Calls.{Ended}
+use Rattle.journal.specs.Calls.{Ended, Leaves as Recorded}
+use Rattle.journal.specs.declared.Outcome.{Outcome}
 use Rattle.journal.specs.declared.Twin.{Twin}
 use Rattle.journal.proofs.Twin as T
 use Rattle.journal.proofs.Twin.Laws as T′
@@ -17,6 +18,13 @@ use Rattle.machine.proofs.Reported as N
 use Rattle.machine.proofs.Reported.Laws as N′
 use Rattle.machine.proofs.Returned as S
 use Rattle.machine.proofs.Returned.Laws as S′
+
+-- what a recorded call returned, as report and twin
+abbrev pub parts : Outcome → Returned
+parts o = record { reported = record { devices = o .devices; answer = o .answer }; twin = o .twin }
+
+pub parted : (o : Outcome) (us vs : List ℕ) (e : Ended) → Recorded o us vs e → Returns (parts o) us vs e
+parted o us vs e p = record { result = ap parts (p .result); memory-is = p .memory-is; journal-is = p .journal-is }
 
 abbrev pub at-twin : Twin → Val
 at-twin h = LL.val T.the-type T′.the-laws h
