@@ -49,6 +49,7 @@ sexOf r =
     let d = signedByte (r .b) in
     withWord (withCodes r (codes (r .cc) ((N := leb 0x8000 d) ∷ (Z := eqb d 0) ∷ []))) D d
 
+-- MUL: A times B, unsigned, as D; Z by D, C is bit 7 of B; N and V not affected
 abbrev pub mulOf : Set → Set
 mulOf r =
     let p = manual MUL (r .cc) (r .a) (r .b) in
@@ -86,5 +87,6 @@ exchange r m =
     let second = transferName (m % 16) in
     cond (transferable m) (changes (written (written r first (read r second)) second (read r first))) (refuses r TransferCode)
 
+-- SYNC: nothing changes but that the processor waits
 abbrev pub synchronized : Set → Effect
 synchronized r = record { writes = writesOf []; regs = r; wait = Sync; answer = Done }

@@ -49,7 +49,7 @@ addD mem r ea = ofWord r (λ w. onD r (manual ADDD (r .cc) (indexed r D) w)) (wo
 unfoldable pub subtractD : List ℕ → Set → ℕ → Effect
 subtractD mem r ea = ofWord r (λ w. onD r (manual SUBD (r .cc) (indexed r D) w)) (wordAt mem ea)
 
--- LEA: Z by the address for X and Y, no flag for S and U
+-- LEA: Z by the address for X and Y, no flag for S and U. There is no LEA of another register; the clauses for them make it total
 abbrev pub loadIndex : Set → Name → ℕ → Set
 loadIndex r name ea = withWord (withCodes r (put zero (eqb ea 0) (r .cc))) name ea
 
