@@ -2,11 +2,12 @@
 -- Assumes nothing.
 use Prim.Native.Nat.{ℕ, zero, suc, _+_, _<_}
 use mathlib.Core.Path.{_≡_, refl, sym, ap, _∙_}
-use mathlib.Core.Bool.{Bool, true, false, cond, true≢false}
+use mathlib.Core.Bool.{Bool, true, false, cond, _&&_, true≢false}
 use mathlib.Core.List.{List, [], _∷_, _++_}
 use native.Mathlib.Decide.{ℕ-discrete}
 use native.Mathlib.Nat.{not-suc-le-zero}
 use native.Mathlib.Omega.{arith}
+use borrow.Author.Tests.{ltb-true}
 use lib.Dec.{eqb, ltb}
 use Rattle.opcodes.specs.Manual.{Row, Column, rows, illegal, amongColumns, amongRows, prefix, entryOf}
 use Rattle.opcodes.specs.Mnemonics.{mnemonicOf}
@@ -86,11 +87,15 @@ no-operation : (o : Op) → operates o ≡ true → o ≡ Illegal → ⊥
 unfolding operates
 no-operation o t e = true≢false (sym t ∙ ap (λ (p : Op). ltb 0 (mnemonicOf p false .len)) e)
 
--- the test of a place: the rows say nothing, or one thing that is an operation
+-- the test of a place: the rows say nothing, or one thing that is an operation of some bytes
 sound : List Entry → Bool
 sound [] = true
-sound (e ∷ []) = operates (e .op)
+sound (e ∷ []) = operates (e .op) && ltb 0 (e .size)
 sound (e ∷ f ∷ es) = false
+
+both : (a b : Bool) → (a && b) ≡ true → (a ≡ true) × (b ≡ true)
+both true b t = (refl, t)
+both false b t = absurd (true≢false (sym t))
 
 passes : Page → ℕ → Bool
 passes page code = sound (named (prefix page + code) rows)
@@ -105,7 +110,9 @@ all-pass Eleven = refl
 judged : (page : Page) (code : ℕ) (l : List Entry) → named (prefix page + code) rows ≡ l → entryOf page code ≡ first l → sound l ≡ true → Place page code
 unfolding first sound
 judged page code [] n f t = refused n f
-judged page code (e ∷ []) n f t = documented (n ∙ ap (λ (d : Entry). d ∷ []) (sym f)) (λ i. no-operation (e .op) t (sym (ap (λ (d : Entry). d .op) f) ∙ i))
+judged page code (e ∷ []) n f t =
+    let (o, z) = both (operates (e .op)) (ltb 0 (e .size)) t in
+    documented (n ∙ ap (λ (d : Entry). d ∷ []) (sym f)) (λ i. no-operation (e .op) o (sym (ap (λ (d : Entry). d .op) f) ∙ i)) (rw f (ltb-true 0 (e .size) z))
 judged page code (e ∷ d ∷ es) n f t = absurd (true≢false (sym t))
 
 pub each-place : (page : Page) (code : ℕ) → code < 256 → Place page code

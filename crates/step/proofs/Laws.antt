@@ -8,6 +8,7 @@ use mathlib.Core.List.{List, []}
 use mathlib.Core.Logic.{_↔_}
 use native.Mathlib.Omega.{arith}
 use native.Mathlib.Nat.{mod-lt}
+use borrow.Author.Tests.{ne-eqb}
 use lib.Dec.{eqb, lit<}
 use lib.ListN.{length}
 use Rattle.registers.specs.declared.Set.{Set}
@@ -16,7 +17,7 @@ use Rattle.memory.specs.Writes.{writesOf, listed, stored, reported}
 use Rattle.memory.specs.declared.Answer.{Answer}
 use Rattle.memory.specs.declared.Answer.the-variants.{Done, Refused}
 use Rattle.memory.specs.declared.Refusal.{Refusal}
-use Rattle.memory.specs.declared.Refusal.the-variants.{MemoryLength, Waiting}
+use Rattle.memory.specs.declared.Refusal.the-variants.{MemoryLength, Waiting, Opcode}
 use Rattle.memory.proofs.Fits.{none-fit, listed-fit}
 use Rattle.memory.proofs.Folds.{listed-back}
 use Rattle.memory.proofs.Twelve.{Full, none-full, at-most-twelve}
@@ -24,14 +25,18 @@ use Rattle.addressing.specs.Resolve.{addressOf}
 use Rattle.addressing.specs.declared.Resolved.{Resolved}
 use Rattle.addressing.specs.declared.Resolved.the-variants.{At, Refused as NoAddress}
 use Rattle.addressing.proofs.Widths.{ResolvedFits, address-fits}
+use Rattle.opcodes.specs.Manual.{rows, prefix, entryOf}
+use Rattle.opcodes.specs.Places.{named, Place, documented, refused}
 use Rattle.opcodes.specs.declared.Entry.{Entry}
+use Rattle.opcodes.specs.declared.Page.{Page}
+use Rattle.opcodes.proofs.Places.{each-place}
 use Rattle.evaluate.specs.declared.Effect.{Effect}
 use Rattle.evaluate.specs.declared.Wait.{Wait}
 use Rattle.evaluate.specs.declared.Wait.the-variants.{Running, Cwai as InCwai, Sync as InSync}
 use Rattle.evaluate.proofs.Sound.{Sound, Given, evaluated-sound}
 use Rattle.evaluate.proofs.Waits.{waitAfter, cwai-alone, sync-alone}
 use Rattle.step.specs.Laws.{MachineFits, FoundFits, Moved, MovedBy}
-use Rattle.step.specs.Step.{refusedWith, finishedAs, finished, ofAddress, executed, ofFetched, isWide, running, unlessWaiting, fetched, foundOf, carriedOut, memoryWith, stepOf, memoryAfterStep}
+use Rattle.step.specs.Step.{refusedWith, finishedAs, finished, ofAddress, executed, ofFetched, isWide, running, unlessWaiting, opcodeAt, fetched, foundOf, carriedOut, memoryWith, stepOf, memoryAfterStep}
 use Rattle.step.specs.declared.Fetched.{Fetched}
 use Rattle.step.specs.declared.Fetched.the-variants.{Instruction, Refused as NotFetched}
 use Rattle.step.specs.declared.Found.{Found}
@@ -164,3 +169,15 @@ module _ (mem : List ℕ) (m : Machine) (s : Settings) where
   -- an accepted step: the machine was running, and wait state and counters moved by the entry of the instruction at PC
   pub step-moves : stepOf mem m s .answer ≡ Done → (m .wait ≡ Running) × MovedBy (fetched mem (m .regs .pc)) m (stepOf mem m s .machine)
   step-moves d = found-whole .moves d
+
+-- ---- 3 is given exactly where no row of the manual names the opcode
+
+pub refused-opcode : (page : Page) (code at : ℕ) → code < 256 → (opcodeAt page code at ≡ NotFetched Opcode) ↔ (named (prefix page + code) rows ≡ [])
+unfolding opcodeAt
+refused-opcode page code at l = go (each-place page code l)
+  where
+    go : Place page code → (opcodeAt page code at ≡ NotFetched Opcode) ↔ (named (prefix page + code) rows ≡ [])
+    go (documented n o z) =
+        rw (ne-eqb (entryOf page code .size) 0 (λ e. omega (arith, z)))
+        (λ e. let d : _≡_ {A = ℕ} 0 1 = cc in absurd (omega arith), λ e. let t = sym n ∙ e in let d : _≡_ {A = ℕ} 0 1 = cc in absurd (omega arith))
+    go (refused n i) = rw i (λ e. n, λ e. refl)
