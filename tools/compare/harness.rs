@@ -49,7 +49,7 @@ mod registers;
 mod runtime;
 mod u8oru16;
 
-use self::core::Core;
+use self::core::{Core, InterruptType};
 use instructions::{AddressingMode, Detail, Instance};
 use memory::AccessType;
 use registers::{reg_size, CCBit, CCBits, Name, Set};
@@ -68,6 +68,21 @@ const MODES: [AddressingMode; 6] = [
     AddressingMode::Extended,
     AddressingMode::Relative,
 ];
+
+/// An interrupt's type, counted as the Rust does.
+fn interrupt_type(number: u16) -> Result<InterruptType, Malformed> {
+    use InterruptType::*;
+    match number {
+        0 => Ok(Reset),
+        1 => Ok(Nmi),
+        2 => Ok(Firq),
+        3 => Ok(Irq),
+        4 => Ok(Swi),
+        5 => Ok(Swi2),
+        6 => Ok(Swi3),
+        _ => Err("an interrupt above 6"),
+    }
+}
 
 /// What is wrong with a line. A case outside the table is an error of whoever made it and gets no answer that could be compared.
 type Malformed = &'static str;
@@ -99,13 +114,7 @@ impl Words {
         self.words[self.taken - 1]
     }
     fn byte(&mut self) -> Result<u8, Malformed> { byte(self.word()) }
-    fn truth(&mut self) -> Result<bool, Malformed> {
-        match self.word() {
-            0 => Ok(false),
-            1 => Ok(true),
-            _ => Err("a bool that is neither 0 nor 1"),
-        }
-    }
+    fn truth(&mut self) -> Result<bool, Malformed> { truth(self.word()) }
     fn value(&mut self) -> Result<u8u16, Malformed> {
         let (size, number) = (self.word(), self.word());
         value(size, number)
@@ -118,6 +127,14 @@ impl Words {
     fn set(&mut self) -> Set { seeded(self.word()) }
     /// What a line does not use is 0000: anything else there means that its maker and this table disagree.
     fn rest_is_zero(&self) -> bool { self.words[self.taken..].iter().all(|&word| word == 0) }
+}
+
+fn truth(number: u16) -> Result<bool, Malformed> {
+    match number {
+        0 => Ok(false),
+        1 => Ok(true),
+        _ => Err("a bool that is neither 0 nor 1"),
+    }
 }
 
 fn value(size: u16, number: u16) -> Result<u8u16, Malformed> {
@@ -192,12 +209,14 @@ fn changed(w: &mut Words, f: impl Fn(&mut CCBits, &mut Words) -> Result<(), Malf
     single(cc.reg)
 }
 
-/// The bought processor with its memory, for 40 to 43. One serves all cases, since to lay out 65,536 bytes takes longer than to
+/// The bought processor with its memory, for 40 to 47. One serves all cases, since to lay out 65,536 bytes takes longer than to
 /// answer: `settle` puts back what a case has changed.
 struct Bench {
     core: Core,
     /// The instruction of 43. It stands here so that after a panic it tells how far the Rust had come.
     inst: Instance,
+    /// The pattern and its digest, so that a digest has only to look at what changed.
+    unchanged: (Vec<u8>, u16),
 }
 
 /// What the memory holds at a place when a case starts.
@@ -209,14 +228,56 @@ fn pattern(place: u16) -> u8 {
 /// Where the map has an address, apart from FF00-FFDF.
 fn place(address: u16) -> u16 { if address >= 0xFFE0 { address - 0x4000 } else { address } }
 
+/// What bytes from a place on add to the memory's digest, in which each byte before counts three times as much as the next.
+fn share(first: usize, bytes: &[u8]) -> u16 {
+    let own = bytes.iter().fold(0u16, |sum, &byte| sum.wrapping_mul(3).wrapping_add(byte as u16));
+    own.wrapping_mul(3u16.wrapping_pow((0x10000 - first - bytes.len()) as u32))
+}
+
 impl Bench {
     fn new() -> Self {
-        let ram = Arc::new(RwLock::new((0..=0xFFFF).map(pattern).collect()));
+        let bytes: Vec<u8> = (0..=0xFFFF).map(pattern).collect();
+        let ram = Arc::new(RwLock::new(bytes.clone()));
         let pia1 = Arc::new(Mutex::new(pia::Pia1::new(mpsc::channel().0)));
         let pia0 = Arc::new(Mutex::new(pia::Pia0::new(pia1.clone())));
         let (sam, vdg) = (Arc::new(Mutex::new(sam::Sam)), Arc::new(Mutex::new(vdg::Vdg)));
         let core = Core::new(ram, sam, vdg, pia0, pia1, 0xFFFF, None);
-        Bench { inst: Instance::new(&core.reg, None), core }
+        let digest = share(0, &bytes);
+        Bench { inst: Instance::new(&core.reg, None), core, unchanged: (bytes, digest) }
+    }
+    /// The machine of 44 to 47: a seed's registers, and a ram_top that System writes must not look at.
+    fn set_up(&mut self, seed: u16) {
+        self.core.reg = seeded(seed);
+        self.core.ram_top = seed;
+        (self.core.in_cwai, self.core.in_sync) = (false, false);
+    }
+    /// Puts a word at a vector, logged as `lay_out` does it.
+    fn point(&mut self, vector: u16, to: u16) {
+        for (address, byte) in (vector..=vector + 1).zip(to.to_be_bytes()) {
+            self.core.debug_check_for_watch_hit(address);
+            self.core.raw_ram[place(address) as usize] = byte;
+        }
+    }
+    /// What 45 and 46 show of the machine afterwards, three words of it at a time.
+    fn view(&self, number: u16) -> Answer {
+        let reg = &self.core.reg;
+        let stacked = |k: u16| reg.s.checked_add(k).map_or(0, |address| self.raw(address, place));
+        match number {
+            0 => Ok([reg.pc, reg.s, reg.cc.reg as u16]),
+            1 => Ok([stacked(0), stacked(2), stacked(4)]),
+            2 => Ok([stacked(6), stacked(8), stacked(10)]),
+            3 => Ok([others(reg), self.digest(), self.core.in_cwai as u16]),
+            _ => Err("a view above 3".into()),
+        }
+    }
+    /// The whole memory's digest.
+    fn digest(&self) -> u16 {
+        const PART: usize = 256;
+        let (bytes, digest) = &self.unchanged;
+        let parts = self.core.raw_ram.chunks(PART).zip(bytes.chunks(PART)).enumerate();
+        parts.filter(|(_, (now, before))| now != before).fold(*digest, |sum, (i, (now, before))| {
+            sum.wrapping_add(share(PART * i, now)).wrapping_sub(share(PART * i, before))
+        })
     }
     /// Two bytes of the memory itself, at an address or where the map has it.
     fn raw(&self, address: u16, place: fn(u16) -> u16) -> u16 {
@@ -247,6 +308,60 @@ impl Bench {
     }
     /// A byte that changed without an access in the log would have made every later answer doubtful.
     fn is_settled(&self) -> bool { (0..=0xFFFF).all(|place| self.core.raw_ram[place as usize] == pattern(place)) }
+}
+
+/// The registers that an interrupt leaves alone. D is among them: the Rust stores it beside A and B.
+fn others(reg: &Set) -> u16 {
+    let d = reg.get_register(Name::D).u16();
+    [(1u16, reg.a as u16), (3, reg.b as u16), (5, reg.dp as u16), (7, reg.x), (9, reg.y), (11, reg.u), (13, d)]
+        .iter()
+        .fold(0u16, |sum, (factor, register)| sum.wrapping_add(register.wrapping_mul(*factor)))
+}
+
+/// System pushes, frames, interrupts and reset.
+fn call_system(function: u16, w: &mut Words, bench: &mut Bench) -> Answer {
+    match function {
+        0x44 => {
+            let (name, s, seed) = (w.register()?, w.word(), w.word());
+            bench.set_up(seed);
+            bench.core.reg.s = s;
+            bench.core.system_psh(name)?;
+            let s = bench.core.reg.s;
+            Ok([s, bench.raw(s, place), bench.digest()])
+        }
+        0x45 => {
+            let (kind, s, seed) = (w.word(), w.word(), w.word());
+            let entire = truth(kind / 16)?;
+            bench.set_up(seed);
+            bench.core.reg.s = s;
+            bench.core.stack_for_interrupt(entire)?;
+            bench.view(kind % 16)
+        }
+        0x46 => {
+            let (kind, s, seed, to) = (w.word(), w.word(), w.word(), w.word());
+            let (in_cwai, interrupt) = (truth(kind / 256)?, interrupt_type(kind / 16 % 16)?);
+            bench.set_up(seed);
+            bench.core.reg.s = s;
+            bench.core.in_cwai = in_cwai;
+            // The Rust's callers look at the masks, ours looks at them in the call.
+            match interrupt {
+                InterruptType::Irq => bench.core.reg.cc.reg &= !0x10,
+                InterruptType::Firq => bench.core.reg.cc.reg &= !0x40,
+                _ => (),
+            }
+            bench.point(interrupt.vector(), to);
+            bench.core.start_interrupt(interrupt)?;
+            bench.view(kind % 16)
+        }
+        _ => {
+            let (read, to, seed) = (w.register()?, w.word(), w.word());
+            bench.set_up(seed);
+            bench.point(InterruptType::Reset.vector(), to);
+            bench.core.reset()?;
+            let [size, number, _] = sized(bench.core.reg.get_register(read));
+            Ok([size, number, bench.digest()])
+        }
+    }
 }
 
 /// The call that a case asks for. A panic of the Rust passes through: `panicked` knows which of them are refusals.
@@ -366,7 +481,7 @@ fn call(function: u16, w: &mut Words, bench: &mut Bench) -> Answer {
             let [second, third] = rest.to_be_bytes();
             bench.lay_out(pc, opcode_size, [byte(first % 1024)?, second, third]);
             ctx.pc = pc;
-            let Bench { core, inst } = bench;
+            let Bench { core, inst, .. } = bench;
             core.reg = ctx;
             *inst = Instance::new(&ctx, None);
             (inst.size, inst.opsize) = (opcode_size, opcode_size);
@@ -379,6 +494,7 @@ fn call(function: u16, w: &mut Words, bench: &mut Bench) -> Answer {
                 .fold(0u16, |sum, (factor, register)| sum.wrapping_add(register.wrapping_mul(*factor)));
             Ok([inst.ea, inst.size, digest])
         }
+        0x44..=0x47 => call_system(function, w, bench),
         _ => Err("a function that the table does not have".into()),
     }
 }
@@ -388,6 +504,7 @@ fn returned(function: u16, error: &Error) -> Option<u16> {
     match error.kind {
         ErrorKind::Syntax if function == 0x43 => Some(5),
         ErrorKind::Runtime if function == 0x43 && error.msg.starts_with("Instruction overflow") => Some(4),
+        ErrorKind::Runtime if matches!(function, 0x44..=0x46) && error.msg == "interal_push stack overflow" => Some(8),
         _ => None,
     }
 }
@@ -401,6 +518,7 @@ fn panicked(function: u16, message: &str, inst: &Instance) -> Option<u16> {
         0x0E if message == "assertion failed: !self.is_u8()" => Some(14),
         0x08 if message.starts_with("index out of bounds") => Some(15),
         0x41 | 0x42 if message == "attempt to add with overflow" => Some(6),
+        0x46 if message.ends_with("vector points to zero instruction") => Some(9),
         // The Rust follows a pointer only once it has the pointer's address: before that it was at the instruction's own bytes.
         0x43 if message == "attempt to add with overflow" => {
             Some(if inst.flavor.mode == AddressingMode::Indexed && inst.ea == 0xFFFF { 6 } else { 4 })

@@ -1,4 +1,4 @@
-// The memory that 40 to 43 act on, and 40 to 42 themselves.
+// The memory that 40 to 47 act on, and 40 to 42 themselves.
 ghost use Prim.Native.Nat.{_≤_};
 use super::case::Case;
 use super::case::Reply;
@@ -50,12 +50,28 @@ fn raw(mem: &Memory, at: u32) -> u8 {
     if at <= 0xFFFF { mem[at as usize] } else { 0 }
 }
 
-fn raw_at_place(mem: &Memory, at: u32) -> u8 {
+pub fn raw_at_place(mem: &Memory, at: u32) -> u8 {
     if at <= 0xFFFF {
         mem[memory::place(at as u16) as usize]
     } else {
         0
     }
+}
+
+// All of the memory in one word. Three is odd, so that a change of any one byte shows.
+pub fn digest(mem: &Memory) -> u16 {
+    let mut sum = 0u16;
+    let mut place = 0;
+    while place < BYTES {
+        sum = tripled_plus(sum, mem[place]);
+        place += 1;
+    }
+    sum
+}
+
+fn tripled_plus(sum: u16, b: u8) -> u16 {
+    let doubled = std::num::wrapping_add_u16(sum, sum);
+    std::num::wrapping_add_u16(std::num::wrapping_add_u16(sum, doubled), b as u16)
 }
 
 pub fn answer(case: Case, mem: &mut Memory) -> Reply {

@@ -3,9 +3,11 @@ mod addresses;
 mod arithmetic;
 mod case;
 mod codes;
+mod frames;
 mod machine_memory;
 mod operands;
 mod register_set;
+mod served;
 mod table;
 mod text;
 mod values;
@@ -37,7 +39,11 @@ fn answer(case: Case, mem: &mut Memory) -> Reply {
         0x27..=0x39 => arithmetic::answer(case),
         0x3A..=0x3D => register_set::answer(case),
         0x40..=0x42 => machine_memory::answer(case, mem),
-        _ => addresses::answer(case, mem),
+        0x43 => addresses::answer(case, mem),
+        0x44 => frames::push(case, mem),
+        0x45 => frames::frame(case, mem),
+        0x46 => served::interrupt(case, mem),
+        _ => served::reset(case, mem),
     }
 }
 

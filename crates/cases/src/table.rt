@@ -17,6 +17,7 @@ pub fn fits(case: Case) -> bool {
         0x27..=0x39 => is_byte(case.w1) & fits_arithmetic(case),
         0x3A..=0x3D => fits_register_set(case),
         0x40..=0x43 => fits_memory(case),
+        0x44..=0x47 => fits_system(case),
         _ => false,
     }
 }
@@ -74,5 +75,16 @@ fn fits_memory(case: Case) -> bool {
         0x40 | 0x41 => case.w2 | case.w3 | case.w4 == 0,
         0x42 => is_access(kind / 16) & is_value(kind % 16, case.w3),
         _ => is_instruction(case.w1),
+    }
+}
+
+// Of 45 and 46 the low digit of the first word is what is shown, from 0 to 3.
+fn fits_system(case: Case) -> bool {
+    let function = case.function;
+    let kind = case.w1;
+    match function {
+        0x45 => (kind / 16 < 2) & (kind % 16 < 4) & (case.w4 == 0),
+        0x46 => (kind / 256 < 2) & (kind / 16 % 16 < 7) & (kind % 16 < 4),
+        _ => is_register(kind) & (case.w4 == 0),
     }
 }

@@ -1,0 +1,195 @@
+-- What the calls answer, test by test, and what then is left in memory and journal.
+-- Assumes nothing.
+use Prim.Native.Nat.{ℕ, _+_, _-_, _*_, _/_, _≤_, _<_}
+use mathlib.Core.Path.{_≡_, refl, sym, ap, _∙_}
+use mathlib.Core.Bool.{Bool, true, false}
+use mathlib.Core.List.{List, [], _++_, append-assoc, append-nil}
+use native.Mathlib.Omega.{arith}
+use lib.Dec.{leb, eqb}
+use lib.ListN.{length, take, drop, length-append, length-drop}
+use lib.Seq.{take-all, drop-drop, drop-length}
+use borrow.Author.Tests.{eq-eqb, ne-eqb, le-leb, lt-leb, lt-ltb, le-ltb, eqb-true, leb-true}
+use Rattle.memory.specs.Writes.{writesOf, listed, stored, reported}
+use Rattle.memory.specs.declared.Answer.{Answer}
+use Rattle.memory.specs.declared.Answer.the-variants.{Done, Refused}
+use Rattle.memory.specs.declared.Refusal.{Refusal}
+use Rattle.memory.specs.declared.Refusal.the-variants.{MemoryLength, JournalFull, NoRecord, JournalLength}
+use Rattle.memory.specs.declared.Write.{Write}
+use Rattle.memory.specs.declared.Writes.{Writes}
+use Rattle.step.specs.declared.Found.{Found}
+use Rattle.step.specs.declared.Machine.{Machine}
+use Rattle.journal.specs.Record.{encode, machineOf, waitAt, countOf, entriesOf, read}
+use Rattle.journal.specs.Calls.{State, ending, Leaves, need, unless, admitted, callAnswer, savedFor, recorded, concluded, called, recordAt, withRecord, newestOf, newestIn, undoAnswer, putBack, restored, undone}
+use Rattle.journal.specs.declared.Outcome.{Outcome}
+
+-- ---- before a recorded call
+
+module _ (memory journal used : ℕ) (early : Answer) where
+  pub short-memory : (memory ≡ 65536 → ⊥) → Refused MemoryLength ≡ admitted memory journal used early
+  unfolding admitted
+  short-memory h = rw (ne-eqb memory 65536 h)
+
+  module _ (size : memory ≡ 65536) where
+    pub short-journal : journal / 68 < used → Refused JournalLength ≡ admitted memory journal used early
+    unfolding admitted
+    short-journal h = rw (eq-eqb memory 65536 size, lt-leb (used * 68) journal (omega arith))
+
+    module _ (within : used ≤ journal / 68) where
+      pub early-refused : (x : Refusal) → early ≡ Refused x → Refused x ≡ admitted memory journal used early
+      unfolding admitted
+      early-refused x e = rw (eq-eqb memory 65536 size, le-leb (used * 68) journal (omega arith), e)
+
+      pub room : early ≡ Done → used < journal / 68 → Done ≡ admitted memory journal used early
+      unfolding admitted
+      room e h = rw (eq-eqb memory 65536 size, le-leb (used * 68) journal (omega arith), e, le-leb (used * 68 + 68) journal (omega arith))
+
+      pub full : early ≡ Done → journal / 68 ≤ used → Refused JournalFull ≡ admitted memory journal used early
+      unfolding admitted
+      full e h = rw (eq-eqb memory 65536 size, le-leb (used * 68) journal (omega arith), e, lt-leb (used * 68 + 68) journal (omega arith))
+
+need-done : (b : Bool) (x : Refusal) (rest : Answer) → need b x rest ≡ Done → (b ≡ true) × (rest ≡ Done)
+need-done true x rest e = (refl, e)
+need-done false x rest e = let z : _≡_ {A = ℕ} 0 1 = cc in absurd (omega arith)
+
+pub unless-done : (a rest : Answer) → unless a rest ≡ Done → (a ≡ Done) × (rest ≡ Done)
+unless-done Done rest e = (refl, e)
+unless-done (Refused x) rest e = let z : _≡_ {A = ℕ} 0 1 = cc in absurd (omega arith)
+
+-- what a call that is admitted has shown
+pub record Admitted (memory journal used : ℕ) (early : Answer) : Type 0 where
+  pub size : memory ≡ 65536
+  pub space : used * 68 + 68 ≤ journal
+  pub on-time : early ≡ Done
+
+pub admitted-done : (memory journal used : ℕ) (early : Answer) → admitted memory journal used early ≡ Done → Admitted memory journal used early
+unfolding admitted
+admitted-done memory journal used early e =
+    let e1 = need-done (eqb memory 65536) MemoryLength _ e in
+    let e2 = need-done (leb (used * 68) journal) JournalLength _ (e1 .1) in
+    let e3 = unless-done early _ (e2 .1) in
+    let e4 = need-done (leb (used * 68 + 68) journal) JournalFull Done (e3 .1) in
+    record { size = eqb-true memory 65536 (e1 .0); space = leb-true (used * 68 + 68) journal (e4 .0); on-time = e3 .0 }
+
+-- ---- a recorded call
+
+-- a refusal
+pub refused-leaves : (a : Answer) (s new : State) (ds : List Write) (x : Refusal) (r : Outcome) → a ≡ Refused x
+    → r ≡ record { devices = writesOf []; twin = s .twin; answer = Refused x } → Leaves r (s .memory) (s .journal) (ending a s new ds)
+refused-leaves a s new ds x r e p = rw e (record { result = p; memory-is = refl; journal-is = refl })
+
+-- the record, the writes and the count
+pub recorded-leaves : (top : ℕ) (f : Found) (s : State) (d : Writes) (mem j : List ℕ) → f .answer ≡ Done → d ≡ writesOf (reported top (listed (f .writes)))
+    → mem ≡ stored top (listed (f .writes)) (s .memory)
+    → j ≡ withRecord (s .twin .used) (encode (s .twin .machine) (savedFor top (listed (f .writes)) (s .memory))) (s .journal)
+    → Leaves (record { devices = d; twin = record { machine = f .machine; used = s .twin .used + 1 }; answer = f .answer }) mem j (concluded (f .answer) top f s)
+unfolding recorded
+recorded-leaves top f s d mem j e p q t = rw e (record { result = rw p; memory-is = q; journal-is = t })
+
+module _ (early : Answer) (top : ℕ) (f : Found) (s : State) where
+  pub called-refused : (x : Refusal) (r : Outcome) → admitted (length (s .memory)) (length (s .journal)) (s .twin .used) early ≡ Refused x
+      → r ≡ record { devices = writesOf []; twin = s .twin; answer = Refused x } → Leaves r (s .memory) (s .journal) (called early top f s)
+  unfolding called
+  called-refused x r e p = refused-leaves (callAnswer early f s) s (recorded top f s) (reported top (listed (f .writes))) x r (rw e) p
+
+  pub called-done : (r : Outcome) (mem j : List ℕ) → admitted (length (s .memory)) (length (s .journal)) (s .twin .used) early ≡ Done
+      → Leaves r mem j (concluded (f .answer) top f s) → Leaves r mem j (called early top f s)
+  unfolding called
+  called-done r mem j e h = rw e h
+
+-- the unused rest with the record at its front, back in the journal
+pub placed : (u : ℕ) (r j last : List ℕ) → u * 68 + 68 ≤ length j → last ≡ r ++ drop 68 (take (length j - u * 68) (drop (u * 68) j))
+    → length last ≡ length (take (length j - u * 68) (drop (u * 68) j))
+    → take (u * 68) j ++ (last ++ drop (length j - u * 68) (drop (u * 68) j)) ≡ withRecord u r j
+unfolding withRecord
+placed u r j last h e l =
+    let n : length (drop (u * 68) j) ≡ length j - u * 68 = length-drop (u * 68) j in
+    let t : take (length j - u * 68) (drop (u * 68) j) ≡ drop (u * 68) j = take-all (length j - u * 68) (drop (u * 68) j) (omega arith) in
+    let e2 : last ≡ r ++ drop (u * 68 + 68) j = e ∙ rw (t, drop-drop 68 (u * 68) j) in
+    let l2 : length last ≡ length j - u * 68 = l ∙ rw (t, n) in
+    let m : length r + (length j - (u * 68 + 68)) ≡ length last = sym (ap length e2 ∙ simp (length-append, length-drop)) in
+    let w : length r ≡ 68 = omega arith in
+    let z : drop (length j - u * 68) (drop (u * 68) j) ≡ [] = rw (← n) (drop-length (drop (u * 68) j)) in
+    rw (z, e2, append-nil, w) (sym (append-assoc (take (u * 68) j) r (drop (u * 68 + 68) j)))
+
+-- ---- the newest record
+
+module _ (j : List ℕ) (used : ℕ) where
+  pub none-used : used ≡ 0 → [] ≡ newestOf j used
+  unfolding newestOf
+  none-used h = rw (le-ltb 0 used (omega arith))
+
+  module _ (some : used ≡ 0 → ⊥) where
+    pub beyond : length j / 68 < used → [] ≡ newestOf j used
+    unfolding newestOf
+    beyond h = rw (lt-ltb 0 used (omega arith), lt-leb (used * 68) (length j) (omega arith))
+
+    pub whole : used ≤ length j / 68 → take ((used - 1) * 68 + 68 - (used - 1) * 68) (drop ((used - 1) * 68) j) ≡ newestOf j used
+    unfolding newestOf recordAt
+    whole h =
+        let e : (used - 1) * 68 + 68 - (used - 1) * 68 ≡ 68 = omega arith in
+        rw (lt-ltb 0 used (omega arith), le-leb (used * 68) (length j) (omega arith), e)
+
+-- ---- undo
+
+-- the part of the journal that the code lends
+pub newest-part : (s : State) → newestIn s ≡ take ((s .twin .used - 1) * 68 + 68 - (s .twin .used - 1) * 68) (drop ((s .twin .used - 1) * 68) (s .journal))
+unfolding recordAt
+newest-part s =
+    let e : (s .twin .used - 1) * 68 + 68 - (s .twin .used - 1) * 68 ≡ 68 = omega arith in
+    rw e
+
+pub undo-refused : (s : State) (x : Refusal) (r : Outcome) → undoAnswer s ≡ Refused x
+    → r ≡ record { devices = writesOf []; twin = s .twin; answer = Refused x } → Leaves r (s .memory) (s .journal) (undone s)
+unfolding undone
+undo-refused s x r e p = refused-leaves (undoAnswer s) s (restored s) [] x r e p
+
+pub undo-done : (s : State) (m : Machine) (mem : List ℕ) (d : Writes) → undoAnswer s ≡ Done → m ≡ machineOf (newestIn s)
+    → mem ≡ putBack (s .memory) (read (countOf (newestIn s)) (drop 32 (newestIn s))) → d ≡ writesOf []
+    → Leaves (record { devices = d; twin = record { machine = m; used = s .twin .used - 1 }; answer = Done }) mem (s .journal) (undone s)
+unfolding undone restored entriesOf
+undo-done s m mem d e p q t = rw e (record { result = rw (p, t); memory-is = q; journal-is = refl })
+
+module _ (s : State) where
+  pub undo-1 : (length (s .memory) ≡ 65536 → ⊥) → undoAnswer s ≡ Refused MemoryLength
+  unfolding undoAnswer
+  undo-1 h = rw (ne-eqb (length (s .memory)) 65536 h)
+
+  module _ (size : length (s .memory) ≡ 65536) where
+    pub undo-12 : length (s .journal) / 68 < s .twin .used → undoAnswer s ≡ Refused JournalLength
+    unfolding undoAnswer
+    undo-12 h = rw (eq-eqb (length (s .memory)) 65536 size, lt-leb (s .twin .used * 68) (length (s .journal)) (omega arith))
+
+    module _ (within : s .twin .used ≤ length (s .journal) / 68) where
+      pub undo-11 : s .twin .used ≡ 0 → undoAnswer s ≡ Refused NoRecord
+      unfolding undoAnswer
+      undo-11 h = rw (eq-eqb (length (s .memory)) 65536 size, le-leb (s .twin .used * 68) (length (s .journal)) (omega arith), le-ltb 0 (s .twin .used) (omega arith))
+
+      module _ (some : s .twin .used ≡ 0 → ⊥) where
+        pub undo-wait : 2 < waitAt (newestIn s) → undoAnswer s ≡ Refused JournalLength
+        unfolding undoAnswer
+        undo-wait h = rw (
+          eq-eqb (length (s .memory)) 65536 size,
+          le-leb (s .twin .used * 68) (length (s .journal)) (omega arith),
+          lt-ltb 0 (s .twin .used) (omega arith),
+          lt-leb (waitAt (newestIn s)) 2 h,
+        )
+
+        pub undo-count : waitAt (newestIn s) ≤ 2 → 12 < countOf (newestIn s) → undoAnswer s ≡ Refused JournalLength
+        unfolding undoAnswer
+        undo-count w h = rw (
+          eq-eqb (length (s .memory)) 65536 size,
+          le-leb (s .twin .used * 68) (length (s .journal)) (omega arith),
+          lt-ltb 0 (s .twin .used) (omega arith),
+          le-leb (waitAt (newestIn s)) 2 w,
+          lt-leb (countOf (newestIn s)) 12 h,
+        )
+
+        pub undo-0 : waitAt (newestIn s) ≤ 2 → countOf (newestIn s) ≤ 12 → undoAnswer s ≡ Done
+        unfolding undoAnswer
+        undo-0 w h = rw (
+          eq-eqb (length (s .memory)) 65536 size,
+          le-leb (s .twin .used * 68) (length (s .journal)) (omega arith),
+          lt-ltb 0 (s .twin .used) (omega arith),
+          le-leb (waitAt (newestIn s)) 2 w,
+          le-leb (countOf (newestIn s)) 12 h,
+        )

@@ -1,0 +1,94 @@
+-- The invariant of a sequence: record by record, the journal leads back through the past.
+-- Assumes nothing.
+use mathlib.Core.Path.{_≡_, sym, ap, _∙_}
+use mathlib.Core.List.{List, [], _∷_, _++_, append-assoc}
+use Prim.Native.Nat.{ℕ, _+_, _*_, _≤_, _<_}
+use native.Mathlib.Omega.{arith}
+use lib.ListN.{length, take, drop, length-append, length-drop, take-append-drop}
+use lib.Seq.{take-append-le, drop-append-le, take-at, drop-at, length-take-le}
+use Rattle.memory.specs.Fits.{Bytes}
+use Rattle.step.specs.Laws.{MachineFits}
+use Rattle.journal.specs.Record.{Saved, encode}
+use Rattle.journal.specs.Calls.{State, putBack, recordAt, withRecord}
+use Rattle.journal.specs.Sequence.{Same, Snap, All}
+use Rattle.journal.proofs.Reading.{SavedFits}
+use Rattle.journal.proofs.Stores.{same-trans, same-putBack}
+
+-- ---- the journal by records
+
+record-front : (k u : ℕ) (p q : List ℕ) → length p ≡ u * 68 → k < u → recordAt k (p ++ q) ≡ recordAt k p
+unfolding recordAt
+record-front k u p q l h =
+    let a : k * 68 ≤ length p = omega arith in
+    let b : 68 ≤ length (drop (k * 68) p) = simp length-drop (omega arith) in
+    rw (drop-append-le (k * 68) p q a) (take-append-le 68 (drop (k * 68) p) q b)
+
+module _ (u : ℕ) (r j : List ℕ) (whole : length r ≡ 68) (space : u * 68 + 68 ≤ length j) where
+  front : length (take (u * 68) j) ≡ u * 68
+  front = length-take-le (u * 68) j (omega arith)
+
+  parts : withRecord u r j ≡ take (u * 68) j ++ (r ++ drop (u * 68 + 68) j)
+  unfolding withRecord
+  parts = rw whole (append-assoc (take (u * 68) j) r (drop (u * 68 + 68) j))
+
+  -- the bytes before a record stay
+  pub earlier-stay : take (u * 68) (withRecord u r j) ≡ take (u * 68) j
+  earlier-stay = rw parts (take-at (take (u * 68) j) (r ++ drop (u * 68 + 68) j) (u * 68) front)
+
+  -- so do earlier records
+  pub record-kept : (k : ℕ) → k < u → recordAt k j ≡ recordAt k (withRecord u r j)
+  record-kept k h =
+      ap (recordAt k) (sym (take-append-drop (u * 68) j))
+      ∙ record-front k u (take (u * 68) j) (drop (u * 68) j) front h
+      ∙ sym (record-front k u (take (u * 68) j) (r ++ drop (u * 68 + 68) j) front h)
+      ∙ ap (recordAt k) (sym parts)
+
+  pub record-own : recordAt u (withRecord u r j) ≡ r
+  unfolding recordAt
+  record-own = rw (parts, drop-at (take (u * 68) j) (r ++ drop (u * 68 + 68) j) (u * 68) front) (take-at r (drop (u * 68 + 68) j) 68 whole)
+
+  pub length-withRecord : length (withRecord u r j) ≡ length j
+  length-withRecord = rw parts (simp (length-append, length-drop, front, whole) (omega arith))
+
+-- ---- the chain
+
+-- record r leads from memory m back to the snapshot s
+pub record Leads (r m : List ℕ) (s : Snap) : Type 0 where
+  pub saved : List Saved
+  pub is : r ≡ encode (s .machine) saved
+  pub few : length saved ≤ 12
+  pub fit : All SavedFits saved
+  pub sound : MachineFits (s .machine)
+  pub leads : Same (putBack m saved) (s .memory)
+
+abbrev pub Chain : List ℕ → List ℕ → List Snap → Type 0
+Chain j m [] = Unit {0}
+Chain j m (s ∷ ss) = Leads (recordAt (length ss) j) m s × Chain j (s .memory) ss
+
+-- later records do not matter to it
+pub chain-kept : (j k m : List ℕ) (past : List Snap) → ((i : ℕ) → i < length past → recordAt i j ≡ recordAt i k) → Chain j m past → Chain k m past
+chain-kept j k m [] h c = tt
+chain-kept j k m (s ∷ ss) h c = (rw (h (length ss) (omega arith)) at (c .0), chain-kept j k (s .memory) ss (λ i l. h i (omega arith)) (c .1))
+
+-- nor does the window
+pub chain-same : (j m n : List ℕ) (past : List Snap) → Same n m → Chain j m past → Chain j n past
+chain-same j m n [] e c = tt
+chain-same j m n (s ∷ ss) e c = (
+  record {
+    saved = c .0 .saved;
+    is = c .0 .is;
+    few = c .0 .few;
+    fit = c .0 .fit;
+    sound = c .0 .sound;
+    leads = same-trans (same-putBack n m (c .0 .saved) e) (c .0 .leads);
+  },
+  c .1,
+)
+
+pub record Inv (s : State) (past : List Snap) : Type 0 where
+  pub sound : MachineFits (s .twin .machine)
+  pub bytes : Bytes (s .memory)
+  pub count : s .twin .used ≡ length past
+  pub room : s .twin .used * 68 ≤ length (s .journal)
+  pub size : 0 < length past → length (s .memory) ≡ 65536
+  pub chain : Chain (s .journal) (s .memory) past

@@ -1,0 +1,159 @@
+-- The recorded calls, undo and the newest record (document 01, sections "Journal" and "Numbers returned").
+-- Assumes nothing.
+use Prim.Native.Nat.{ℕ, _+_, _-_, _*_}
+use mathlib.Core.Bool.{Bool, true, false, cond, _&&_}
+use mathlib.Core.List.{List, [], _∷_, _++_}
+use mathlib.Core.Path.{_≡_}
+use lib.Dec.{leb, ltb, eqb}
+use lib.ListN.{length, getD, take, drop, set}
+use Rattle.memory.specs.Map.{landingOf}
+use Rattle.memory.specs.Writes.{writesOf, listed, stored, reported}
+use Rattle.memory.specs.declared.Answer.{Answer}
+use Rattle.memory.specs.declared.Answer.the-variants.{Done, Refused}
+use Rattle.memory.specs.declared.Landing.{Landing}
+use Rattle.memory.specs.declared.Landing.the-variants.{Stored, Device, Ignored}
+use Rattle.memory.specs.declared.Refusal.{Refusal}
+use Rattle.memory.specs.declared.Refusal.the-variants.{MemoryLength, Waiting, JournalFull, NoRecord, JournalLength}
+use Rattle.memory.specs.declared.Write.{Write}
+use Rattle.memory.specs.declared.Writes.{Writes}
+use Rattle.evaluate.specs.declared.Wait.{Wait}
+use Rattle.evaluate.specs.declared.Wait.the-variants.{Running, Cwai, Sync}
+use Rattle.step.specs.Step.{foundOf}
+use Rattle.step.specs.declared.Found.{Found}
+use Rattle.step.specs.declared.Settings.{Settings}
+use Rattle.interrupts.specs.Interrupts.{interruptFound, resetFound}
+use Rattle.interrupts.specs.declared.InterruptType.{InterruptType}
+use Rattle.journal.specs.Record.{Saved, encode, laid, machineOf, waitAt, countOf, entriesOf}
+use Rattle.journal.specs.declared.Outcome.{Outcome}
+use Rattle.journal.specs.declared.Twin.{Twin}
+
+-- What a call has in hand: the machine with the count of its records, the lent memory and the lent journal
+pub record State : Type 0 where
+  pub twin : Twin
+  pub memory : List ℕ
+  pub journal : List ℕ
+
+abbrev pub inHand : List ℕ → List ℕ → Twin → State
+inHand memory journal twin = record { twin = twin; memory = memory; journal = journal }
+
+-- How a call ends: its answer, what is in hand afterwards, and the device writes that it reports
+pub record Ended : Type 0 where
+  pub answer : Answer
+  pub state : State
+  pub devices : Writes
+
+-- a refused call leaves what it had in hand and reports nothing
+abbrev pub ending : Answer → State → State → List Write → Ended
+ending Done now new devices = record { answer = Done; state = new; devices = writesOf devices }
+ending (Refused x) now new devices = record { answer = Refused x; state = now; devices = writesOf [] }
+
+-- what the code returns, and leaves in memory and journal, is that end
+abbrev pub returned : Ended → Outcome
+returned e = record { devices = e .devices; twin = e .state .twin; answer = e .answer }
+
+pub record Leaves (r : Outcome) (memory journal : List ℕ) (e : Ended) : Type 0 where
+  pub result : r ≡ returned e
+  pub memory-is : memory ≡ e .state .memory
+  pub journal-is : journal ≡ e .state .journal
+
+-- `need test x rest`: refused by x where the test fails; `unless a rest`: refused as a is; else the rest
+abbrev pub need : Bool → Refusal → Answer → Answer
+need true x rest = rest
+need false x rest = Refused x
+
+abbrev pub unless : Answer → Answer → Answer
+unless Done rest = rest
+unless (Refused x) rest = Refused x
+
+-- Record k of the journal, and the journal with a record laid there
+unfoldable pub recordAt : ℕ → List ℕ → List ℕ
+recordAt k j = take 68 (drop (k * 68) j)
+
+unfoldable pub withRecord : ℕ → List ℕ → List ℕ → List ℕ
+withRecord k r j = laid (k * 68) r j
+
+-- The entries of a call's writes: one for each that is stored, with the byte from before the whole call
+abbrev pub savedAt : List ℕ → Landing → List Saved
+savedAt mem (Stored p) = record { place = p; byte = getD mem p 0 } ∷ []
+savedAt mem Device = []
+savedAt mem Ignored = []
+
+unfoldable pub savedFor : ℕ → List Write → List ℕ → List Saved
+savedFor top [] mem = []
+savedFor top (w ∷ ws) mem = savedAt mem (landingOf (w .at) top (w .system)) ++ savedFor top ws mem
+
+-- Before a recorded call looks further: 1, 12, then a refusal of its own (step's 2), then 10
+unfoldable pub admitted : ℕ → ℕ → ℕ → Answer → Answer
+admitted memory journal used early =
+    need (eqb memory 65536) MemoryLength
+    (need (leb (used * 68) journal) JournalLength
+    (unless early
+    (need (leb (used * 68 + 68) journal) JournalFull Done)))
+
+abbrev pub callAnswer : Answer → Found → State → Answer
+callAnswer early f s = unless (admitted (length (s .memory)) (length (s .journal)) (s .twin .used) early) (f .answer)
+
+-- An accepted call: the new machine, its writes in memory, its record after the used ones
+unfoldable pub recorded : ℕ → Found → State → State
+recorded top f s =
+    record {
+      twin = record { machine = f .machine; used = s .twin .used + 1 };
+      memory = stored top (listed (f .writes)) (s .memory);
+      journal = withRecord (s .twin .used) (encode (s .twin .machine) (savedFor top (listed (f .writes)) (s .memory))) (s .journal);
+    }
+
+-- so answered, a call that found this ends so
+abbrev pub concluded : Answer → ℕ → Found → State → Ended
+concluded a top f s = ending a s (recorded top f s) (reported top (listed (f .writes)))
+
+-- Any forward call, recorded: its own refusal between 12 and 10, its ram_top, and what it found
+unfoldable pub called : Answer → ℕ → Found → State → Ended
+called early top f s = concluded (callAnswer early f s) top f s
+
+-- The recorded step: 2 while waiting
+abbrev pub whileWaiting : Wait → Answer
+whileWaiting Running = Done
+whileWaiting Cwai = Refused Waiting
+whileWaiting Sync = Refused Waiting
+
+abbrev pub stepped : Settings → State → Ended
+stepped t s = called (whileWaiting (s .twin .machine .wait)) (t .«ram_top») (foundOf (s .memory) (s .twin .machine) t) s
+
+-- The recorded interrupt and reset
+abbrev pub interrupted : Settings → InterruptType → State → Ended
+interrupted t i s = called Done (t .«ram_top») (interruptFound (s .memory) (s .twin .machine) t i) s
+
+abbrev pub wasReset : Settings → State → Ended
+wasReset t s = called Done (t .«ram_top») (resetFound (s .memory) (s .twin .machine)) s
+
+-- The newest record on request: an empty part where no whole record is there
+unfoldable pub newestOf : List ℕ → ℕ → List ℕ
+newestOf j used = cond (ltb 0 used && leb (used * 68) (length j)) (recordAt (used - 1) j) []
+
+-- Undo: 1, 12 by the length, 11, 12 by the record
+abbrev pub newestIn : State → List ℕ
+newestIn s = recordAt (s .twin .used - 1) (s .journal)
+
+unfoldable pub undoAnswer : State → Answer
+undoAnswer s =
+    need (eqb (length (s .memory)) 65536) MemoryLength
+    (need (leb (s .twin .used * 68) (length (s .journal))) JournalLength
+    (need (ltb 0 (s .twin .used)) NoRecord
+    (need (leb (waitAt (newestIn s)) 2) JournalLength
+    (need (leb (countOf (newestIn s)) 12) JournalLength Done))))
+
+-- old bytes put back raw, last entry first
+unfoldable pub putBack : List ℕ → List Saved → List ℕ
+putBack mem [] = mem
+putBack mem (e ∷ es) = set (putBack mem es) (e .place) (e .byte)
+
+unfoldable pub restored : State → State
+restored s =
+    record {
+      twin = record { machine = machineOf (newestIn s); used = s .twin .used - 1 };
+      memory = putBack (s .memory) (entriesOf (newestIn s));
+      journal = s .journal;
+    }
+
+unfoldable pub undone : State → Ended
+undone s = ending (undoAnswer s) s (restored s) []
