@@ -51,7 +51,7 @@ operations-stand file (suc n) at {os} {end} e = go (operationAt file at) refl e 
 
 module _ (file : List ℕ) (f : RunFile) where
   abbrev Last : Type 0
-  Last = Stand file (f .operations) (length file - length (f .operations))
+  Last = (length (f .operations) ≤ length file) × Stand file (f .operations) (length file - length (f .operations))
 
   third : (s : Settings) (ps : List Piece) (m start : ℕ) (r : Read (List Operation)) → operationsAt file m start ≡ r
       → wholly (length file) (then r λ os end. got (record { settings = s; pieces = ps; operations = os }) end) ≡ says f → Last
@@ -63,7 +63,8 @@ module _ (file : List ℕ) (f : RunFile) where
           let l = operations-length file m start e in
           let d : start ≡ length file - length os = omega arith in
           let w : _≡_ {A = RunFile} (record { settings = s; pieces = ps; operations = os }) f = cc in
-          rw (← w, ← d) (operations-stand file m start e)
+          let n : length os ≤ length file = omega arith in
+          rw (← w, ← d) (n, operations-stand file m start e)
       ends false k h = let z : _≡_ {A = ℕ} 0 1 = cc in absurd (omega arith)
   third s ps m start missing e h = let z : _≡_ {A = ℕ} 0 1 = cc in absurd (omega arith)
 
@@ -92,14 +93,28 @@ module _ (file : List ℕ) (f : RunFile) where
   counted (got count at) h = settled (settingsAt file count at) h
   counted missing h = let z : _≡_ {A = ℕ} 0 1 = cc in absurd (omega arith)
 
-  pub in-order : parsed file ≡ says f → (i : ℕ) → i < length (f .operations)
-      → nextOf (operationAt file (length file - length (f .operations) + i)) ≡ Is (getD (f .operations) i Step)
+  all : parsed file ≡ says f → Last
   unfolding parsed sectionsOf
-  in-order h = short (leb (length file) 32768) h
+  all h = short (leb (length file) 32768) h
     where
       short : (t : Bool) → cond t (wholly (length file) (sectionsOf file)) malformed ≡ says f → Last
       short true h = counted (wordAt file 0) h
       short false h = let z : _≡_ {A = ℕ} 0 1 = cc in absurd (omega arith)
+
+  pub they-fit : parsed file ≡ says f → length (f .operations) ≤ length file
+  they-fit h = all h .0
+
+  pub in-order : parsed file ≡ says f → (i : ℕ) → i < length (f .operations)
+      → nextOf (operationAt file (length file - length (f .operations) + i)) ≡ Is (getD (f .operations) i Step)
+  in-order h = all h .1
+
+  pub not-longer : parsed file ≡ says f → length file ≤ 32768
+  unfolding parsed
+  not-longer h = go (leb (length file) 32768) refl h
+    where
+      go : (t : Bool) → leb (length file) 32768 ≡ t → cond t (wholly (length file) (sectionsOf file)) malformed ≡ says f → length file ≤ 32768
+      go true e h = leb-true (length file) 32768 e
+      go false e h = let z : _≡_ {A = ℕ} 0 1 = cc in absurd (omega arith)
 
 -- and none stands after them
 pub then-none : (file : List ℕ) → nextOf (operationAt file (length file)) ≡ None
