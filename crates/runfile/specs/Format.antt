@@ -1,0 +1,133 @@
+-- The run file (document 01, section "The run program"): what its bytes say. `file` is the list of its bytes.
+-- Assumes nothing.
+use Prim.Native.Nat.{ℕ, zero, suc, _+_, _*_}
+use mathlib.Core.Bool.{Bool, cond, _&&_}
+use mathlib.Core.List.{List, [], _∷_}
+use lib.Dec.{eqb, leb}
+use lib.ListN.{length, getD, take, drop}
+use Rattle.registers.specs.declared.Flags.{Flags}
+use Rattle.registers.specs.declared.Flags.the-variants.{Bought, Manual}
+use Rattle.runfile.specs.declared.Operation.{Operation}
+use Rattle.runfile.specs.declared.Operation.the-variants.{Step, Irq, Firq, Nmi, Reset, Undo}
+
+-- what is read at a place of the file, and the place after it; or that it does not stand there
+pub data Read (A : Type 0) : Type 0 where
+  got : A → ℕ → Read A
+  missing : Read A
+
+-- one thing after another
+abbrev pub then : {A B : Type 0} → Read A → (A → ℕ → Read B) → Read B
+then (got a at) f = f a at
+then missing f = missing
+
+-- n bytes stand from a place on
+abbrev pub room : List ℕ → ℕ → ℕ → Bool
+room file at n = leb (at + n) (length file)
+
+-- two bytes, high byte first
+unfoldable pub wordAt : List ℕ → ℕ → Read ℕ
+wordAt file at = cond (room file at 2) (got (256 * getD file at 0 + getD file (at + 1) 0) (at + 2)) missing
+
+-- ---- settings
+
+pub record Settings : Type 0 where
+  pub ramTop : ℕ
+  pub flags : Flags
+
+-- 0 as bought, 1 manual
+abbrev pub flagNumbered : ℕ → ℕ → Read Flags
+flagNumbered b next = cond (eqb b 0) (got Bought next) (cond (eqb b 1) (got Manual next) missing)
+
+unfoldable pub flagAt : List ℕ → ℕ → Read Flags
+flagAt file at = cond (room file at 1) (flagNumbered (getD file at 0) (at + 1)) missing
+
+-- the setting of a file that gives none
+abbrev pub defaultFlags : Flags
+defaultFlags = Bought
+
+abbrev pub flaggedAt : List ℕ → ℕ → ℕ → Read Settings
+flaggedAt file top at = then (flagAt file at) λ f next. got (record { ramTop = top; flags = f }) next
+
+-- count 2: ram_top; count 3: ram_top and flags
+unfoldable pub settingsAt : List ℕ → ℕ → ℕ → Read Settings
+settingsAt file count at =
+    then (wordAt file at) λ top next.
+    cond (eqb count 2) (got (record { ramTop = top; flags = defaultFlags }) next)
+    (cond (eqb count 3) (flaggedAt file top next)
+    missing)
+
+-- ---- memory pieces
+
+pub record Piece : Type 0 where
+  pub address : ℕ
+  pub bytes : List ℕ
+
+-- a piece's address and length, and the place of its bytes: all of them are there, and none is to go past FFFF
+unfoldable pub spanAt : List ℕ → ℕ → Read (ℕ × ℕ)
+spanAt file at =
+    then (wordAt file at) λ address next.
+    then (wordAt file next) λ size from.
+    cond (room file from size && leb (address + size) 0x10000) (got (address, size) from) missing
+
+unfoldable pub pieceAt : List ℕ → ℕ → Read Piece
+pieceAt file at = then (spanAt file at) λ s from. got (record { address = s .0; bytes = take (s .1) (drop from file) }) (from + s .1)
+
+-- so many pieces
+unfoldable pub piecesAt : List ℕ → ℕ → ℕ → Read (List Piece)
+piecesAt file zero at = got [] at
+piecesAt file (suc n) at =
+    then (pieceAt file at) λ p next.
+    then (piecesAt file n next) λ ps end.
+    got (p ∷ ps) end
+
+-- ---- operations
+
+-- the operation of each number
+abbrev pub operationNumbered : ℕ → Operation
+operationNumbered b = getD (Step ∷ Irq ∷ Firq ∷ Nmi ∷ Reset ∷ Undo ∷ []) b Step
+
+unfoldable pub operationAt : List ℕ → ℕ → Read Operation
+operationAt file at = cond (room file at 1 && leb (getD file at 0) 5) (got (operationNumbered (getD file at 0)) (at + 1)) missing
+
+-- so many operations
+unfoldable pub operationsAt : List ℕ → ℕ → ℕ → Read (List Operation)
+operationsAt file zero at = got [] at
+operationsAt file (suc n) at =
+    then (operationAt file at) λ o next.
+    then (operationsAt file n next) λ os end.
+    got (o ∷ os) end
+
+-- ---- the file
+
+pub record RunFile : Type 0 where
+  pub settings : Settings
+  pub pieces : List Piece
+  pub operations : List Operation
+
+-- the second and the third section, each after its count
+abbrev pub afterSettings : List ℕ → Settings → ℕ → Read RunFile
+afterSettings file s at =
+    then (wordAt file at) λ n from.
+    then (piecesAt file n from) λ ps next.
+    then (wordAt file next) λ m start.
+    then (operationsAt file m start) λ os end.
+    got (record { settings = s; pieces = ps; operations = os }) end
+
+unfoldable pub sectionsOf : List ℕ → Read RunFile
+sectionsOf file =
+    then (wordAt file 0) λ count at.
+    then (settingsAt file count at) λ s next.
+    afterSettings file s next
+
+pub data Parsed : Type 0 where
+  says : RunFile → Parsed
+  malformed : Parsed
+
+-- nothing stands after the sections
+abbrev pub wholly : ℕ → Read RunFile → Parsed
+wholly size (got f end) = cond (eqb end size) (says f) malformed
+wholly size missing = malformed
+
+-- what a file says; it is malformed if it is longer than 32,768 bytes, if a section does not stand there, or if bytes are to spare
+unfoldable pub parsed : List ℕ → Parsed
+parsed file = cond (leb (length file) 32768) (wholly (length file) (sectionsOf file)) malformed
