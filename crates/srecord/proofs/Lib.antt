@@ -5,3 +5,4 @@ pub mod Laying
 pub mod Bytes
 pub mod Shapes
 pub mod Lines
+pub mod Rows

@@ -20,6 +20,8 @@ use Rattle.srecord.specs.declared.Line.{Line}
 use Rattle.srecord.specs.declared.Line.the-variants.{Header, Data, End, Bad}
 use Rattle.srecord.specs.declared.Refusal.{Refusal}
 use Rattle.srecord.specs.declared.Refusal.the-variants.{Shape, Checksum, PastTop}
+use Rattle.srecord.proofs.Bytes.{data-length}
+use Rattle.srecord.proofs.Laying.{laid-length}
 use Rattle.srecord.proofs.Shapes.{shaped-length, shaped-room}
 
 pub line-length : (t : List ℕ) → 0 < length t → (0 < lineLength t) × (lineLength t ≤ length t)
@@ -102,19 +104,31 @@ on-bad (piece b d) ms r e = let z : _≡_ {A = ℕ} 0 1 = cc in absurd (omega ar
 on-bad (start b) ms r e = let z : _≡_ {A = ℕ} 0 1 = cc in absurd (omega arith)
 on-bad (refused s) ms r e = let f : s ≡ r = cc in rw f
 
-abbrev Line-none : Line → Type 0
-Line-none Header = Unit {0}
-Line-none (Data a n) = ⊥
-Line-none (End a) = Unit {0}
-Line-none (Bad r) = Unit {0}
-
 -- a line that is no S1 leaves memory as it is
-pub lands-not : (m : Meaning) (ms : List Meaning) (mem : List ℕ) → Line-none (shown m) → landed (m ∷ ms) mem ≡ landed ms mem
+pub lands-header : (m : Meaning) (ms : List Meaning) (mem : List ℕ) → shown m ≡ Header → landed (m ∷ ms) mem ≡ landed ms mem
 unfolding landed
-lands-not (heading d) ms mem n = refl
-lands-not (piece a d) ms mem n = absurd n
-lands-not (start a) ms mem n = refl
-lands-not (refused r) ms mem n = refl
+lands-header (heading d) ms mem e = refl
+lands-header (piece a d) ms mem e = let z : _≡_ {A = ℕ} 0 1 = cc in absurd (omega arith)
+lands-header (start a) ms mem e = refl
+lands-header (refused r) ms mem e = refl
+
+pub lands-end : (m : Meaning) (ms : List Meaning) (mem : List ℕ) {b : ℕ} → shown m ≡ End b → landed (m ∷ ms) mem ≡ landed ms mem
+unfolding landed
+lands-end (heading d) ms mem e = refl
+lands-end (piece a d) ms mem e = let z : _≡_ {A = ℕ} 0 1 = cc in absurd (omega arith)
+lands-end (start a) ms mem e = refl
+lands-end (refused r) ms mem e = refl
+
+pub lands-bad : (m : Meaning) (ms : List Meaning) (mem : List ℕ) {r : Refusal} → shown m ≡ Bad r → landed (m ∷ ms) mem ≡ landed ms mem
+unfolding landed
+lands-bad (heading d) ms mem e = refl
+lands-bad (piece a d) ms mem e = let z : _≡_ {A = ℕ} 0 1 = cc in absurd (omega arith)
+lands-bad (start a) ms mem e = refl
+lands-bad (refused r) ms mem e = refl
+
+pub lands-none : (mem : List ℕ) → landed [] mem ≡ mem
+unfolding landed
+lands-none mem = refl
 
 pub lands : (m : Meaning) (ms : List Meaning) (mem : List ℕ) (a : ℕ) (d : List ℕ) → m ≡ piece a d → landed (m ∷ ms) mem ≡ landed ms (laid a d mem)
 unfolding landed
@@ -174,3 +188,10 @@ module _ (text : List ℕ) (a n : ℕ) where
             fits = omega arith;
             room = omega arith
           }
+
+-- memory keeps its length
+pub data-kept : (text : List ℕ) (a n : ℕ) (mem new : List ℕ) → IsData text a n → length mem ≡ 65536 → new ≡ laid a (take n (drop 3 (bytes text))) mem → length new ≡ 65536
+data-kept text a n mem new d e s =
+    let f = d .fits in
+    let c = data-length text n (d .room) in
+    ap length s ∙ laid-length a (take n (drop 3 (bytes text))) mem (omega arith) ∙ e

@@ -1,78 +1,41 @@
+-- `rows_length` meets its contract.
+-- Assumes nothing.
+use borrow.Author.Needs.{needs}
+use borrow.Author.Tests.{not-true, not-false}
+use Prim.Native.Nat.{_+_, _-_, _*_, _≤_}
+use mathlib.Core.Path.{_≡_, refl, ap, _∙_}
+use mathlib.Core.Logic.{⊎-elim}
+use native.Mathlib.Omega.{arith}
+use lib.ListN.{length}
+use denote.Ref.{now}
+use Rattle.srecord.proofs.Rows.{row-skip, row-length}
+use Rattle.srecord.specs.Written.{rowsText}
 use Rattle.srecord.proofs.rows_length.Statement.{statement}
 use Rattle.srecord.proofs.rows_length.Tie as tie
-use Rattle.srecord.proofs.rows_length.Reads as reads
-use Rattle.srecord.proofs.rows_length.Lts as lts
-use Rattle.srecord.proofs.all_zero.Reads as all-zero-reads
 
 abbrev Inv-loop : tie.InvT-loop
-Inv-loop mem n₀ k₀ n k = ?
+Inv-loop mem n₀ k₀ n k = (k ≤ 2048) × ((n ≤ 75 * k) × (n ≡ length (rowsText mem k)))
 
 abbrev μ-loop : tie.MeasureT-loop
-μ-loop mem n₀ k₀ n k = ?
+μ-loop mem n₀ k₀ n k = 2048 - k
 
--- src/lib.rt:348:5
 loop-holds : tie.Need-loop-holds Inv-loop μ-loop
-loop-holds c = ?
+unfolding rowsText
+loop-holds c = (omega arith, (omega arith, refl))
 
--- src/lib.rt:349:20
-mul-from : tie.Need-mul-from Inv-loop μ-loop
-mul-from c = ?
-
--- src/lib.rt:350:19
-add-end : tie.Need-add-end Inv-loop μ-loop
-add-end c = ?
-
--- src/lib.rt:351:22
-sub-all-zero : tie.Need-sub-all-zero Inv-loop μ-loop
-sub-all-zero c = ?
-
--- src/lib.rt:351:22
-part-all-zero-start : tie.Need-part-all-zero-start Inv-loop μ-loop
-part-all-zero-start c = ?
-
--- src/lib.rt:351:22
-part-all-zero-end : tie.Need-part-all-zero-end Inv-loop μ-loop
-part-all-zero-end c = ?
-
--- src/lib.rt:351:13
-all-zero-requires : tie.Need-all-zero-requires Inv-loop μ-loop
-all-zero-requires c κs = ?
-
--- src/lib.rt:352:13
-add-n : tie.Need-add-n Inv-loop μ-loop
-add-n c = ?
-
--- src/lib.rt:354:9
-add-k : tie.Need-add-k Inv-loop μ-loop
-add-k c = ?
-
--- src/lib.rt:348:5
-loop-less : tie.Need-loop-less Inv-loop μ-loop
-loop-less c = ?
-
--- src/lib.rt:348:5
 loop-again : tie.Need-loop-again Inv-loop μ-loop
-loop-again c = ?
+loop-again c = 
+    ⊎-elim
+      (λ v.
+        let r = row-length (now (c .before .before .before .before .before .before .args .mem)) (c .before .before .before .before .loop .k) (32 * (c .before .before .before .before .loop .k) + 32 - 32 * (c .before .before .before .before .loop .k)) (omega arith) _ (c .before .all-zero .ensures) (c .before .before .before .before .before .before .pre) (c .before .before .before .loop-test .taken) (not-true _ (v .0 .taken)) in
+        (omega arith, (omega (arith, v .1), omega (arith, v .1))))
+      (λ v.
+        let r = ap length (row-skip (now (c .before .before .before .before .before .before .args .mem)) (c .before .before .before .before .loop .k) (32 * (c .before .before .before .before .loop .k) + 32 - 32 * (c .before .before .before .before .loop .k)) (omega arith) _ (c .before .all-zero .ensures) (not-false _ (v .0 .left))) in
+        (omega arith, (omega (arith, v .1), omega (arith, v .1))))
+      (c .if1 .came)
 
--- src/lib.rt:342:1
 returns : tie.Need-returns Inv-loop μ-loop
-returns c = ?
+returns c = let e : c .before .loop .k ≡ 2048 = omega arith in c .before .loop .inv .1 .1 ∙ rw e
 
 pub rows-length-spec : {M : Type 1} → statement M
-rows-length-spec =
-    tie.close
-    (tie.spec
-    Inv-loop
-    μ-loop
-    loop-holds
-    mul-from
-    add-end
-    sub-all-zero
-    part-all-zero-start
-    part-all-zero-end
-    all-zero-requires
-    add-n
-    add-k
-    loop-less
-    loop-again
-    returns)
+rows-length-spec = tie.close (tie.spec Inv-loop μ-loop loop-holds (search needs) (search needs) (search needs) (search needs) (search needs) (search needs) (search needs) (search needs) (search needs) loop-again returns)

@@ -1,122 +1,72 @@
+-- `store_lines` meets its contract.
+-- Assumes nothing.
+use borrow.Author.Needs.{needs}
+use Prim.Native.Nat.{_-_, _≤_}
+use mathlib.Core.Path.{_≡_, refl, sym, ap, _∙_}
+use mathlib.Core.List.{List}
+use native.Mathlib.Omega.{arith}
+use lib.ListN.{length, drop}
+use denote.Ref.{now}
+use Rattle.srecord.proofs.Lines.{line-fits, next-line, no-lines, data-line, lands, lands-none, data-kept, lands-header, lands-end, lands-bad}
+use Rattle.srecord.specs.File.{meaningsOf, landed}
+use Rattle.srecord.specs.Line.{Meaning}
 use Rattle.srecord.proofs.store_lines.Statement.{statement}
 use Rattle.srecord.proofs.store_lines.Tie as tie
-use Rattle.srecord.proofs.store_lines.Reads as reads
-use Rattle.srecord.proofs.store_lines.Lts as lts
-use Rattle.srecord.proofs.line_end.Reads as line-end-reads
-use Rattle.srecord.proofs.line_of.Reads as line-of-reads
-use Rattle.srecord.proofs.store_data.Reads as store-data-reads
 
 abbrev Inv-loop : tie.InvT-loop
-Inv-loop mem₀ file from₀ mem from = ?
+Inv-loop mem₀ file from₀ mem from = (from ≤ length file) × ((length mem ≡ 65536) × (landed (meaningsOf (drop from file)) mem ≡ landed (meaningsOf file) mem₀))
 
 abbrev μ-loop : tie.MeasureT-loop
-μ-loop mem₀ file from₀ mem from = ?
+μ-loop mem₀ file from₀ mem from = length file - from
 
--- src/lib.rt:301:5
 loop-holds : tie.Need-loop-holds Inv-loop μ-loop
-loop-holds c = ?
+loop-holds c = (omega arith, (omega arith, refl))
 
--- src/lib.rt:302:13
-line-end-requires : tie.Need-line-end-requires Inv-loop μ-loop
-line-end-requires c κs = ?
-
--- src/lib.rt:303:20
 sub-text : tie.Need-sub-text Inv-loop μ-loop
-sub-text c = ?
+sub-text c = omega (arith, line-fits (now (c .before .before .before .before .before .args .file)) (c .before .before .loop .from) (c .before .loop-test .taken))
 
--- src/lib.rt:303:20
 part-text-start : tie.Need-part-text-start Inv-loop μ-loop
-part-text-start c = ?
+part-text-start c = omega (arith, line-fits (now (c .before .before .before .before .before .args .file)) (c .before .before .loop .from) (c .before .loop-test .taken))
 
--- src/lib.rt:303:20
 part-text-end : tie.Need-part-text-end Inv-loop μ-loop
-part-text-end c = ?
+part-text-end c = omega (arith, line-fits (now (c .before .before .before .before .before .args .file)) (c .before .before .loop .from) (c .before .loop-test .taken))
 
--- src/lib.rt:304:15
-line-of-requires : tie.Need-line-of-requires Inv-loop μ-loop
-line-of-requires c κs = ?
-
-enum-told : tie.Need-enum-told Inv-loop μ-loop
-enum-told c = ?
-
--- src/lib.rt:306:26
-enum-known-address : tie.Need-enum-known-address Inv-loop μ-loop
-enum-known-address c = ?
-
--- src/lib.rt:306:46
 store-data-requires : tie.Need-store-data-requires Inv-loop μ-loop
-store-data-requires c κs = ?
+store-data-requires c κs = let d = data-line _ _ _ (sym (c .before .before .before .before .line-of .ensures) ∙ c .before .before .address .given .1) in (omega arith, omega arith)
 
-enum-told-2 : tie.Need-enum-told-2 Inv-loop μ-loop
-enum-told-2 c = ?
-
-enum-told-3 : tie.Need-enum-told-3 Inv-loop μ-loop
-enum-told-3 c = ?
-
--- src/lib.rt:301:5
 loop-less : tie.Need-loop-less Inv-loop μ-loop
-loop-less c = ?
+loop-less c = omega (arith, line-fits (now (c .before .before .before .before .before .before .before .before .before .args .file)) (c .before .before .before .before .before .before .loop .from) (c .before .before .before .before .before .loop-test .taken))
 
--- src/lib.rt:301:5
 loop-again : tie.Need-loop-again Inv-loop μ-loop
-loop-again c = ?
+loop-again c = (omega (arith, line-fits (now (c .before .before .before .before .before .before .before .before .before .args .file)) (c .before .before .before .before .before .before .loop .from) (c .before .before .before .before .before .loop-test .taken)), (c .before .before .before .before .before .before .loop .inv .1 .0, sym (ap (λ (ms : List Meaning). landed ms (c .before .before .before .before .before .before .loop .mem)) (next-line (now (c .before .before .before .before .before .before .before .before .before .args .file)) (c .before .before .before .before .before .before .loop .from) (c .before .before .before .before .before .loop-test .taken) (c .before .before .before .before .line-end .result) (c .before .before .before .before .line-end .ensures)) ∙ lands-header _ _ _ (sym (c .before .before .line-of .ensures) ∙ c .enum-told .given .1)) ∙ c .before .before .before .before .before .before .loop .inv .1 .1))
 
--- src/lib.rt:301:5
 loop-less-2 : tie.Need-loop-less-2 Inv-loop μ-loop
-loop-less-2 c = ?
+loop-less-2 c = omega (arith, line-fits (now (c .before .before .before .before .before .before .before .before .before .before .before .before .before .before .args .file)) (c .before .before .before .before .before .before .before .before .before .before .before .loop .from) (c .before .before .before .before .before .before .before .before .before .before .loop-test .taken))
 
--- src/lib.rt:301:5
 loop-again-2 : tie.Need-loop-again-2 Inv-loop μ-loop
-loop-again-2 c = ?
+loop-again-2 c = 
+    let d = data-line _ _ _ (sym (c .before .before .before .before .before .before .before .line-of .ensures) ∙ c .before .before .before .before .before .address .given .1) in
+    let s = c .before .before .store-data .ensures in
+    (omega (arith, line-fits (now (c .before .before .before .before .before .before .before .before .before .before .before .before .before .before .args .file)) (c .before .before .before .before .before .before .before .before .before .before .before .loop .from) (c .before .before .before .before .before .before .before .before .before .before .loop-test .taken)), (data-kept _ _ _ _ _ d (c .before .before .before .before .before .before .before .before .before .before .before .loop .inv .1 .0) s, rw s (sym (ap (λ (ms : List Meaning). landed ms (c .before .before .before .before .before .before .before .before .before .before .before .loop .mem)) (next-line (now (c .before .before .before .before .before .before .before .before .before .before .before .before .before .before .args .file)) (c .before .before .before .before .before .before .before .before .before .before .before .loop .from) (c .before .before .before .before .before .before .before .before .before .before .loop-test .taken) (c .before .before .before .before .before .before .before .before .before .line-end .result) (c .before .before .before .before .before .before .before .before .before .line-end .ensures)) ∙ lands _ _ _ _ _ (d .means)) ∙ c .before .before .before .before .before .before .before .before .before .before .before .loop .inv .1 .1)))
 
--- src/lib.rt:301:5
 loop-less-3 : tie.Need-loop-less-3 Inv-loop μ-loop
-loop-less-3 c = ?
+loop-less-3 c = omega (arith, line-fits (now (c .before .before .before .before .before .before .before .before .before .args .file)) (c .before .before .before .before .before .before .loop .from) (c .before .before .before .before .before .loop-test .taken))
 
--- src/lib.rt:301:5
 loop-again-3 : tie.Need-loop-again-3 Inv-loop μ-loop
-loop-again-3 c = ?
+loop-again-3 c = (omega (arith, line-fits (now (c .before .before .before .before .before .before .before .before .before .args .file)) (c .before .before .before .before .before .before .loop .from) (c .before .before .before .before .before .loop-test .taken)), (c .before .before .before .before .before .before .loop .inv .1 .0, sym (ap (λ (ms : List Meaning). landed ms (c .before .before .before .before .before .before .loop .mem)) (next-line (now (c .before .before .before .before .before .before .before .before .before .args .file)) (c .before .before .before .before .before .before .loop .from) (c .before .before .before .before .before .loop-test .taken) (c .before .before .before .before .line-end .result) (c .before .before .before .before .line-end .ensures)) ∙ lands-end _ _ _ (sym (c .before .before .line-of .ensures) ∙ c .enum-told2 .given .1)) ∙ c .before .before .before .before .before .before .loop .inv .1 .1))
 
--- src/lib.rt:301:5
 loop-less-4 : tie.Need-loop-less-4 Inv-loop μ-loop
-loop-less-4 c = ?
+loop-less-4 c = omega (arith, line-fits (now (c .before .before .before .before .before .before .before .before .before .args .file)) (c .before .before .before .before .before .before .loop .from) (c .before .before .before .before .before .loop-test .taken))
 
--- src/lib.rt:301:5
 loop-again-4 : tie.Need-loop-again-4 Inv-loop μ-loop
-loop-again-4 c = ?
+loop-again-4 c = (omega (arith, line-fits (now (c .before .before .before .before .before .before .before .before .before .args .file)) (c .before .before .before .before .before .before .loop .from) (c .before .before .before .before .before .loop-test .taken)), (c .before .before .before .before .before .before .loop .inv .1 .0, sym (ap (λ (ms : List Meaning). landed ms (c .before .before .before .before .before .before .loop .mem)) (next-line (now (c .before .before .before .before .before .before .before .before .before .args .file)) (c .before .before .before .before .before .before .loop .from) (c .before .before .before .before .before .loop-test .taken) (c .before .before .before .before .line-end .result) (c .before .before .before .before .line-end .ensures)) ∙ lands-bad _ _ _ (sym (c .before .before .line-of .ensures) ∙ c .enum-told3 .given .1)) ∙ c .before .before .before .before .before .before .loop .inv .1 .1))
 
--- src/lib.rt:296:1
 same-length : tie.Need-same-length Inv-loop μ-loop
-same-length c = ?
+same-length c = omega arith
 
--- src/lib.rt:296:1
 returns : tie.Need-returns Inv-loop μ-loop
-returns c = ?
+returns c = 
+    sym (ap (λ (ms : List Meaning). landed ms (c .before .loop .mem)) (no-lines (now (c .before .before .before .before .args .file)) (c .before .loop .from) (c .loop-test .left)) ∙ lands-none _) ∙ c .before .loop .inv .1 .1
 
 pub store-lines-spec : {M : Type 1} → statement M
-store-lines-spec =
-    tie.close
-    (tie.spec
-    Inv-loop
-    μ-loop
-    loop-holds
-    line-end-requires
-    sub-text
-    part-text-start
-    part-text-end
-    line-of-requires
-    enum-told
-    enum-known-address
-    store-data-requires
-    enum-told-2
-    enum-told-3
-    loop-less
-    loop-again
-    loop-less-2
-    loop-again-2
-    loop-less-3
-    loop-again-3
-    loop-less-4
-    loop-again-4
-    same-length
-    returns)
+store-lines-spec = tie.close (tie.spec Inv-loop μ-loop loop-holds (search needs) sub-text part-text-start part-text-end (search needs) (search needs) (search needs) store-data-requires (search needs) (search needs) loop-less loop-again loop-less-2 loop-again-2 loop-less-3 loop-again-3 loop-less-4 loop-again-4 same-length returns)
