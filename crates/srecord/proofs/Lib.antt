@@ -6,3 +6,5 @@ pub mod Bytes
 pub mod Shapes
 pub mod Lines
 pub mod Rows
+pub mod Calls
+pub mod Unique

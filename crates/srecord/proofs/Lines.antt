@@ -186,7 +186,7 @@ module _ (text : List ℕ) (a n : ℕ) where
           record {
             means = s ∙ k .0 ∙ rw (k .1 .0, m);
             fits = omega arith;
-            room = omega arith
+            room = omega arith;
           }
 
 -- memory keeps its length

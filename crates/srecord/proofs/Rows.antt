@@ -139,5 +139,5 @@ module _ (mem : List ℕ) (k w : ℕ) (wide : w ≡ 32) (z : Bool) (e : z ≡ is
       record {
         ends = omega arith;
         keeps = ap length g ∙ laid-length at (textOf 49 (32 * k) (take w (drop (32 * k) mem))) out (omega arith) ∙ q;
-        holds = g ∙ rw (o, r) (laid-two 0 at (rowsText mem k) (textOf 49 (32 * k) (take w (drop (32 * k) mem))) out₀ (omega arith) (omega arith))
+        holds = g ∙ rw (o, r) (laid-two 0 at (rowsText mem k) (textOf 49 (32 * k) (take w (drop (32 * k) mem))) out₀ (omega arith) (omega arith));
       }

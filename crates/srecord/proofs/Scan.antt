@@ -95,6 +95,7 @@ same-lengths [] [] n = absurd (n refl)
 same-lengths [] (b ∷ m) n = refl
 same-lengths (a ∷ l) [] n = refl
 same-lengths (a ∷ l) (b ∷ m) n = rw (same-lengths l m (λ e. n (ap suc e))) (and-false (eqb a b))
+
 pub total-more : (l : List ℕ) (b : ℕ) → total (l ++ (b ∷ [])) ≡ total l + b
 unfolding total
 total-more [] b = omega arith

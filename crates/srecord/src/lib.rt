@@ -262,7 +262,10 @@ fn judge(file: &[u8]) -> Loaded
         let end = line_end(file, from);
         match line_of(&file[from..end]) {
             Line::Header => {}
-            Line::Data { address: _, count: _ } => {}
+            Line::Data {
+                address: _,
+                count: _,
+            } => {}
             Line::End(start) => {
                 if end < file.len() {
                     return refused(Refusal::Shape);
@@ -417,7 +420,11 @@ fn put_line(out: &mut [u8], at: usize, kind: u8, address: u16, list: &[u8])
 {
     let head = [83, kind];
     put_text(out, at, &head);
-    let fields = [(list.len() + 3) as u8, (address / 256) as u8, (address % 256) as u8];
+    let fields = [
+        (list.len() + 3) as u8,
+        (address / 256) as u8,
+        (address % 256) as u8,
+    ];
     put_pairs(out, at + 2, &fields);
     put_pairs(out, at + 8, list);
     let sum = std::num::wrapping_add_u8(sum_of(&fields), sum_of(list));

@@ -30,18 +30,18 @@ part-line-of-end : tie.Need-part-line-of-end Inv-loop μ-loop
 part-line-of-end c = omega (arith, line-fits (now (c .before .before .before .before .args .file)) (c .before .before .loop .from) (c .before .loop-test .taken))
 
 returns : tie.Need-returns Inv-loop μ-loop
-returns c = 
+returns c =
     let more = ap judged (next-line (now (c .before .before .before .before .before .before .before .before .before .before .before .args .file)) (c .before .before .before .before .before .before .before .before .before .loop .from) (c .before .before .before .before .before .before .before .before .loop-test .taken) (c .before .before .before .before .before .before .before .line-end .result) (c .before .before .before .before .before .before .before .line-end .ensures)) ∙ on-end _ _ _ (sym (c .before .before .before .before .before .line-of .ensures) ∙ c .before .before .before .start .given .1) in
     let after = next-line (now (c .before .before .before .before .before .before .before .before .before .before .before .args .file)) (c .before .before .before .before .before .before .before .line-end .result) (c .before .if1 .taken) _ refl in
     c .refused .ensures ∙ sym (sym (c .before .before .before .before .before .before .before .before .before .loop .inv .1) ∙ more ∙ ap (ended _) after)
 
 returns-2 : tie.Need-returns-2 Inv-loop μ-loop
-returns-2 c = 
+returns-2 c =
     let more = ap judged (next-line (now (c .before .before .before .before .before .before .before .before .before .before .args .file)) (c .before .before .before .before .before .before .before .before .loop .from) (c .before .before .before .before .before .before .before .loop-test .taken) (c .before .before .before .before .before .before .line-end .result) (c .before .before .before .before .before .before .line-end .ensures)) ∙ on-end _ _ _ (sym (c .before .before .before .before .line-of .ensures) ∙ c .before .before .start .given .1) in
     sym (sym (c .before .before .before .before .before .before .before .before .loop .inv .1) ∙ more ∙ ap (ended _) (no-lines (now (c .before .before .before .before .before .before .before .before .before .before .args .file)) (c .before .before .before .before .before .before .line-end .result) (c .if1 .left)))
 
 returns-3 : tie.Need-returns-3 Inv-loop μ-loop
-returns-3 c = 
+returns-3 c =
     let more = ap judged (next-line (now (c .before .before .before .before .before .before .before .before .before .before .args .file)) (c .before .before .before .before .before .before .before .before .loop .from) (c .before .before .before .before .before .before .before .loop-test .taken) (c .before .before .before .before .before .before .line-end .result) (c .before .before .before .before .before .before .line-end .ensures)) ∙ on-bad _ _ _ (sym (c .before .before .before .before .line-of .ensures) ∙ c .before .before .refusal .given .1) in
     c .refused2 .ensures ∙ sym (sym (c .before .before .before .before .before .before .before .before .loop .inv .1) ∙ more)
 

@@ -23,13 +23,13 @@ loop-holds : tie.Need-loop-holds Inv-loop μ-loop
 loop-holds c = (omega arith, refl)
 
 returns : tie.Need-returns Inv-loop μ-loop
-returns c = 
+returns c =
     let d : isDigit (getD (now (c .before .before .before .before .before .before .before .before .args .text)) (c .before .before .before .before .before .before .loop .i) 0) && isDigit (getD (now (c .before .before .before .before .before .before .before .before .args .text)) (c .before .before .before .before .before .before .loop .i + 1) 0) ≡ false =
     rw (← c .before .before .before .is-digit .ensures, ← c .before .is-digit2 .ensures) (not-true _ (c .if1 .taken)) in
     sym (paired-not (now (c .before .before .before .before .before .before .before .before .args .text)) (c .before .before .before .before .before .before .loop .i) (omega arith) d) ∙ c .before .before .before .before .before .before .loop .inv .1
 
 loop-again : tie.Need-loop-again Inv-loop μ-loop
-loop-again c = 
+loop-again c =
     let d : isDigit (getD (now (c .before .before .before .before .before .before .before .before .args .text)) (c .before .before .before .before .before .before .loop .i) 0) && isDigit (getD (now (c .before .before .before .before .before .before .before .before .args .text)) (c .before .before .before .before .before .before .loop .i + 1) 0) ≡ true =
     rw (← c .before .before .before .is-digit .ensures, ← c .before .is-digit2 .ensures) (not-false _ (c .if1 .left)) in
     (omega arith, sym (paired-on (now (c .before .before .before .before .before .before .before .before .args .text)) (c .before .before .before .before .before .before .loop .i) (omega arith) d) ∙ c .before .before .before .before .before .before .loop .inv .1)

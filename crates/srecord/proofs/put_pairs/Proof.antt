@@ -24,7 +24,7 @@ unfolding pairs
 loop-holds c = (omega arith, (refl, sym (laid-none _ _)))
 
 loop-again : tie.Need-loop-again Inv-loop μ-loop
-loop-again c = 
+loop-again c =
     let e = c .before .before .put-pair .ensures in
     let l = c .before .before .before .before .before .before .loop in
     (omega arith, (ap length e ∙ laid-length _ _ _ (omega arith) ∙ l .inv .1 .0, e ∙ pairs-more (c .before .before .before .before .before .before .before .before .before .args .at) (l .i) (now (c .before .before .before .before .before .before .before .before .before .args .list)) (now (c .before .before .before .before .before .before .before .before .before .args .out)) (l .out) (omega arith) (omega arith) (l .inv .1 .1)))

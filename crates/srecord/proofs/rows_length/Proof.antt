@@ -24,15 +24,15 @@ unfolding rowsText
 loop-holds c = (omega arith, (omega arith, refl))
 
 loop-again : tie.Need-loop-again Inv-loop μ-loop
-loop-again c = 
+loop-again c =
     ⊎-elim
-      (λ v.
-        let r = row-length (now (c .before .before .before .before .before .before .args .mem)) (c .before .before .before .before .loop .k) (32 * (c .before .before .before .before .loop .k) + 32 - 32 * (c .before .before .before .before .loop .k)) (omega arith) _ (c .before .all-zero .ensures) (c .before .before .before .before .before .before .pre) (c .before .before .before .loop-test .taken) (not-true _ (v .0 .taken)) in
-        (omega arith, (omega (arith, v .1), omega (arith, v .1))))
-      (λ v.
-        let r = ap length (row-skip (now (c .before .before .before .before .before .before .args .mem)) (c .before .before .before .before .loop .k) (32 * (c .before .before .before .before .loop .k) + 32 - 32 * (c .before .before .before .before .loop .k)) (omega arith) _ (c .before .all-zero .ensures) (not-false _ (v .0 .left))) in
-        (omega arith, (omega (arith, v .1), omega (arith, v .1))))
-      (c .if1 .came)
+    (λ v.
+    let r = row-length (now (c .before .before .before .before .before .before .args .mem)) (c .before .before .before .before .loop .k) (32 * (c .before .before .before .before .loop .k) + 32 - 32 * (c .before .before .before .before .loop .k)) (omega arith) _ (c .before .all-zero .ensures) (c .before .before .before .before .before .before .pre) (c .before .before .before .loop-test .taken) (not-true _ (v .0 .taken)) in
+    (omega arith, (omega (arith, v .1), omega (arith, v .1))))
+    (λ v.
+    let r = ap length (row-skip (now (c .before .before .before .before .before .before .args .mem)) (c .before .before .before .before .loop .k) (32 * (c .before .before .before .before .loop .k) + 32 - 32 * (c .before .before .before .before .loop .k)) (omega arith) _ (c .before .all-zero .ensures) (not-false _ (v .0 .left))) in
+    (omega arith, (omega (arith, v .1), omega (arith, v .1))))
+    (c .if1 .came)
 
 returns : tie.Need-returns Inv-loop μ-loop
 returns c = let e : c .before .loop .k ≡ 2048 = omega arith in c .before .loop .inv .1 .1 ∙ rw e

@@ -24,7 +24,7 @@ loop-holds : tie.Need-loop-holds Inv-loop μ-loop
 loop-holds c = (omega arith, (refl, sym (laid-none _ _)))
 
 loop-again : tie.Need-loop-again Inv-loop μ-loop
-loop-again c = 
+loop-again c =
     let l = c .before .before .loop in
     let a = c .before .before .before .before .before .args in
     let n = data-length (now (a .text)) (a .count) (omega arith) in
@@ -34,7 +34,7 @@ same-length : tie.Need-same-length Inv-loop μ-loop
 same-length c = c .before .loop .inv .1 .0
 
 returns : tie.Need-returns Inv-loop μ-loop
-returns c = 
+returns c =
     let a = c .before .before .before .before .args in
     let n = data-length (now (a .text)) (a .count) (omega arith) in
     c .before .loop .inv .1 .1 ∙ rw (take-all (c .before .loop .i) (take (a .count) (drop 3 (bytes (now (a .text))))) (omega arith))

@@ -44,7 +44,7 @@ loop-less-2 : tie.Need-loop-less-2 Inv-loop μ-loop
 loop-less-2 c = omega (arith, line-fits (now (c .before .before .before .before .before .before .before .before .before .before .before .before .before .before .args .file)) (c .before .before .before .before .before .before .before .before .before .before .before .loop .from) (c .before .before .before .before .before .before .before .before .before .before .loop-test .taken))
 
 loop-again-2 : tie.Need-loop-again-2 Inv-loop μ-loop
-loop-again-2 c = 
+loop-again-2 c =
     let d = data-line _ _ _ (sym (c .before .before .before .before .before .before .before .line-of .ensures) ∙ c .before .before .before .before .before .address .given .1) in
     let s = c .before .before .store-data .ensures in
     (omega (arith, line-fits (now (c .before .before .before .before .before .before .before .before .before .before .before .before .before .before .args .file)) (c .before .before .before .before .before .before .before .before .before .before .before .loop .from) (c .before .before .before .before .before .before .before .before .before .before .loop-test .taken)), (data-kept _ _ _ _ _ d (c .before .before .before .before .before .before .before .before .before .before .before .loop .inv .1 .0) s, rw s (sym (ap (λ (ms : List Meaning). landed ms (c .before .before .before .before .before .before .before .before .before .before .before .loop .mem)) (next-line (now (c .before .before .before .before .before .before .before .before .before .before .before .before .before .before .args .file)) (c .before .before .before .before .before .before .before .before .before .before .before .loop .from) (c .before .before .before .before .before .before .before .before .before .before .loop-test .taken) (c .before .before .before .before .before .before .before .before .before .line-end .result) (c .before .before .before .before .before .before .before .before .before .line-end .ensures)) ∙ lands _ _ _ _ _ (d .means)) ∙ c .before .before .before .before .before .before .before .before .before .before .before .loop .inv .1 .1)))
@@ -65,7 +65,7 @@ same-length : tie.Need-same-length Inv-loop μ-loop
 same-length c = omega arith
 
 returns : tie.Need-returns Inv-loop μ-loop
-returns c = 
+returns c =
     sym (ap (λ (ms : List Meaning). landed ms (c .before .loop .mem)) (no-lines (now (c .before .before .before .before .args .file)) (c .before .loop .from) (c .loop-test .left)) ∙ lands-none _) ∙ c .before .loop .inv .1 .1
 
 pub store-lines-spec : {M : Type 1} → statement M

@@ -24,7 +24,7 @@ unfolding total
 loop-holds c = (omega arith, refl)
 
 loop-again : tie.Need-loop-again Inv-loop μ-loop
-loop-again c = 
+loop-again c =
     let l = c .before .before .before .loop in
     let t = now (c .before .before .before .before .before .args .text) in
     let b = line-bytes t in

@@ -1,64 +1,24 @@
+-- `write` meets its contract.
+-- Assumes nothing.
 use borrow.Author.Needs.{needs}
+use mathlib.Core.Path.{_∙_}
+use native.Mathlib.Omega.{arith}
+use denote.Ref.{now}
+use Rattle.srecord.proofs.Calls.{rows-bound, write-length, write-short, write-done}
 use Rattle.srecord.proofs.write.Statement.{statement}
 use Rattle.srecord.proofs.write.Tie as tie
-use Rattle.srecord.proofs.write.Reads as reads
-use Rattle.srecord.proofs.write.Lts as lts
-use Rattle.srecord.proofs.put_end.Reads as put-end-reads
-use Rattle.srecord.proofs.put_rows.Reads as put-rows-reads
-use Rattle.srecord.proofs.rows_length.Reads as rows-length-reads
-use Rattle.srecord.proofs.unwritten.Reads as unwritten-reads
 
--- src/lib.rt:466:9
-unwritten-requires : tie.Need-unwritten-requires
-unwritten-requires c κs = search needs
-
--- src/lib.rt:466:9
 returns : tie.Need-returns
-returns c = ?
+returns c = let r = write-length (now (c .before .before .before .before .args .mem)) (c .before .before .before .before .args .start) (now (c .before .before .before .before .args .out)) (c .before .if1 .taken) in (c .unwritten .ensures ∙ r .0, r .1)
 
--- src/lib.rt:468:17
-rows-length-requires : tie.Need-rows-length-requires
-rows-length-requires c κs = search needs
-
--- src/lib.rt:468:17
 add-count : tie.Need-add-count
-add-count c = ?
+add-count c = omega (arith, rows-bound (now (c .before .before .before .before .args .mem)) 2048)
 
--- src/lib.rt:470:9
-unwritten-requires-2 : tie.Need-unwritten-requires-2
-unwritten-requires-2 c κs = search needs
-
--- src/lib.rt:470:9
 returns-2 : tie.Need-returns-2
-returns-2 c = ?
+returns-2 c = let r = write-short (now (c .before .before .before .before .before .before .args .mem)) (c .before .before .before .before .before .before .args .start) (now (c .before .before .before .before .before .before .args .out)) (c .before .before .before .if1 .left) (omega arith) in (c .unwritten2 .ensures ∙ r .0, r .1)
 
--- src/lib.rt:472:9
-put-rows-requires : tie.Need-put-rows-requires
-put-rows-requires c κs = search needs
-
--- src/lib.rt:473:5
-put-end-requires : tie.Need-put-end-requires
-put-end-requires c κs = search needs
-
--- src/lib.rt:462:1
-same-length : tie.Need-same-length
-same-length c = search needs
-
--- src/lib.rt:462:1
 returns-3 : tie.Need-returns-3
-returns-3 c = ?
+returns-3 c = write-done (now (c .before .before .before .before .before .before .before .before .before .before .before .before .before .args .mem)) (c .before .before .before .before .before .before .before .before .before .before .before .before .before .args .start) (now (c .before .before .before .before .before .before .before .before .before .before .before .before .before .args .out)) (c .before .before .before .before .before .before .before .before .before .before .if1 .left) _ _ _ _ (omega arith) (omega arith) (c .before .before .before .before .before .before .put-rows .ensures .0) (c .before .before .before .before .before .before .put-rows .ensures .1) (c .before .before .put-end .ensures)
 
 pub write-spec : {M : Type 1} → statement M
-write-spec =
-    tie.close
-    (tie.spec
-    unwritten-requires
-    returns
-    rows-length-requires
-    add-count
-    unwritten-requires-2
-    returns-2
-    put-rows-requires
-    put-end-requires
-    same-length
-    returns-3)
+write-spec = tie.close (tie.spec (search needs) returns (search needs) add-count (search needs) returns-2 (search needs) (search needs) (search needs) returns-3)
