@@ -59,7 +59,7 @@ unfolding pairs
 pairs-append [] m = refl
 pairs-append (b ∷ l) m = rw (pairs-append l m)
 
-pairs-one : (b : ℕ) → pairs (b ∷ []) ≡ pair b
+pub pairs-one : (b : ℕ) → pairs (b ∷ []) ≡ pair b
 unfolding pairs
 pairs-one b = refl
 

@@ -8,3 +8,5 @@ pub mod Lines
 pub mod Rows
 pub mod Calls
 pub mod Unique
+pub mod Sound
+pub mod Back

@@ -4,3 +4,4 @@ pub mod Line
 pub mod File
 pub mod Code
 pub mod Written
+pub mod Promises
