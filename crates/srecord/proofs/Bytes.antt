@@ -1,0 +1,49 @@
+-- The bytes of a line, each at its two digits.
+-- Assumes nothing.
+use Prim.Native.Nat.{ℕ, zero, suc, _+_, _-_, _*_, _/_, _≤_, _<_}
+use native.Mathlib.Omega.{arith}
+use native.Mathlib.Numerals.{add-one}
+use mathlib.Core.Path.{_≡_, refl, sym, ap, _∙_}
+use mathlib.Core.List.{List, [], _∷_, _++_}
+use lib.ListN.{length, getD, take, drop, length-drop}
+use lib.Seq.{getD-drop, getD-take, length-take-le}
+use Rattle.srecord.specs.Text.{bytesOf, byteOf}
+use Rattle.srecord.specs.Line.{bytes}
+
+pub bytes-length : (t : List ℕ) → length (bytesOf t) ≡ length t / 2
+unfolding bytesOf
+bytes-length [] = refl
+bytes-length (c ∷ []) = refl
+bytes-length (a ∷ b ∷ t) = let h = bytes-length t in omega arith
+
+bytes-get : (t : List ℕ) (i : ℕ) → 2 * i + 1 < length t → getD (bytesOf t) i 0 ≡ byteOf (getD t (2 * i) 0) (getD t (2 * i + 1) 0)
+unfolding bytesOf
+bytes-get [] i h = absurd (omega arith)
+bytes-get (c ∷ []) i h = absurd (omega arith)
+bytes-get (a ∷ b ∷ t) zero h = refl
+bytes-get (a ∷ b ∷ t) (suc i) h =
+    let e : 2 * suc i ≡ suc (suc (2 * i)) = omega arith in
+    let f : suc (suc (2 * i)) + 1 ≡ suc (suc (2 * i + 1)) = omega arith in
+    rw (e, f) (bytes-get t i (omega arith))
+
+pub line-bytes : (text : List ℕ) → length (bytes text) ≡ (length text - 2) / 2
+line-bytes text = bytes-length (drop 2 text) ∙ rw (length-drop 2 text)
+
+-- byte i of a line
+pub byte-of : (text : List ℕ) (i : ℕ) → 2 + 2 * i + 1 < length text → getD (bytes text) i 0 ≡ byteOf (getD text (2 + 2 * i) 0) (getD text (2 + 2 * i + 1) 0)
+byte-of text i h =
+    let n : length (drop 2 text) ≡ length text - 2 = length-drop 2 text in
+    let e : 2 + 2 * i + 1 ≡ 2 + (2 * i + 1) = omega arith in
+    bytes-get (drop 2 text) i (omega arith) ∙ rw (getD-drop 2 text (2 * i) 0, getD-drop 2 text (2 * i + 1) 0, e)
+
+module _ (text : List ℕ) (n : ℕ) (room : 11 + 2 * n ≤ length text) where
+  pub data-length : length (take n (drop 3 (bytes text))) ≡ n
+  data-length =
+      let b = line-bytes text in
+      let d = length-drop 3 (bytes text) in
+      length-take-le n (drop 3 (bytes text)) (omega arith)
+
+  pub data-at : (i : ℕ) → i < n → getD (take n (drop 3 (bytes text))) i 0 ≡ byteOf (getD text (8 + 2 * i) 0) (getD text (8 + 2 * i + 1) 0)
+  data-at i h =
+      let e : 2 + 2 * (3 + i) ≡ 8 + 2 * i = omega arith in
+      getD-take n (drop 3 (bytes text)) i 0 h ∙ getD-drop 3 (bytes text) i 0 ∙ rw (← e) (byte-of text (3 + i) (omega arith))

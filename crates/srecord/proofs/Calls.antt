@@ -1,0 +1,85 @@
+-- What the two calls answer, case by case.
+-- Assumes nothing.
+use Prim.Native.Nat.{ℕ, zero, suc, _+_, _-_, _*_, _≤_, _<_}
+use native.Mathlib.Omega.{arith}
+use mathlib.Core.Path.{_≡_, refl, sym, ap, _∙_}
+use mathlib.Core.Bool.{Bool, true, false, cond}
+use mathlib.Core.List.{List, [], _∷_, _++_}
+use lib.Dec.{eqb, ltb}
+use lib.ListN.{length, take, drop, length-append, length-take}
+use borrow.Author.Tests.{eq-eqb, ne-eqb, lt-ltb, le-ltb}
+use Rattle.srecord.specs.Text.{textOf}
+use Rattle.srecord.specs.File.{meaningsOf, judged, failed, laid, landed, allowed, loadedOf, memoryAfter}
+use Rattle.srecord.specs.Written.{rowOf, isZero, rowText, rowsText, textFor, stopped, writtenOf, outputAfter}
+use Rattle.srecord.specs.declared.Answer.the-variants.{Done, Refused}
+use Rattle.srecord.specs.declared.Loaded.{Loaded}
+use Rattle.srecord.specs.declared.Refusal.{Refusal}
+use Rattle.srecord.specs.declared.Refusal.the-variants.{MemoryLength, OutputShort}
+use Rattle.srecord.specs.declared.Written.{Written}
+use Rattle.srecord.proofs.Laying.{laid-two}
+use Rattle.srecord.proofs.Rows.{text-length}
+
+module _ (mem file : List ℕ) where
+  pub read-length : (length mem ≡ 65536 → ⊥) → (failed MemoryLength ≡ loadedOf mem file) × (mem ≡ memoryAfter mem file)
+  unfolding loadedOf memoryAfter
+  read-length n = rw (ne-eqb (length mem) 65536 n) (refl, refl)
+
+  module _ (e : length mem ≡ 65536) (l : Loaded) (j : l ≡ judged (meaningsOf file)) where
+    loaded : loadedOf mem file ≡ l
+    unfolding loadedOf
+    loaded = rw (eq-eqb (length mem) 65536 e) (sym j)
+
+    pub read-done : l .answer ≡ Done → (l ≡ loadedOf mem file) × (landed (meaningsOf file) mem ≡ memoryAfter mem file)
+    unfolding memoryAfter
+    read-done d = (sym loaded, rw (loaded, d))
+
+    pub read-refused : (r : Refusal) → l .answer ≡ Refused r → (l ≡ loadedOf mem file) × (mem ≡ memoryAfter mem file)
+    unfolding memoryAfter
+    read-refused r d = (sym loaded, rw (loaded, d))
+
+row-bound : (mem : List ℕ) (k : ℕ) → length (rowText mem k) ≤ 75
+unfolding rowText
+row-bound mem k = go (isZero (rowOf mem k)) refl
+  where
+    go : (w : Bool) → isZero (rowOf mem k) ≡ w → length (cond (isZero (rowOf mem k)) [] (textOf 49 (32 * k) (rowOf mem k))) ≤ 75
+    go true e = rw e (omega arith)
+    go false e =
+        let n = text-length 49 (32 * k) (rowOf mem k) in
+        let m = length-take 32 (drop (32 * k) mem) in
+        rw e (omega arith)
+
+pub rows-bound : (mem : List ℕ) (k : ℕ) → length (rowsText mem k) ≤ 75 * k
+unfolding rowsText
+rows-bound mem zero = omega arith
+rows-bound mem (suc k) =
+    let h = rows-bound mem k in
+    let r = row-bound mem k in
+    simp length-append (omega arith)
+
+module _ (mem : List ℕ) (a : ℕ) (out : List ℕ) where
+  pub write-length : (length mem ≡ 65536 → ⊥) → (stopped MemoryLength ≡ writtenOf mem a out) × (out ≡ outputAfter mem a out)
+  unfolding writtenOf outputAfter
+  write-length n = rw (ne-eqb (length mem) 65536 n) (refl, refl)
+
+  all-length : length (textFor mem a) ≡ length (rowsText mem 2048) + 11
+  unfolding textFor
+  all-length = length-append (rowsText mem 2048) (textOf 57 a []) ∙ rw (text-length 57 a [])
+
+  module _ (e : length mem ≡ 65536) where
+    pub write-short : length out < length (rowsText mem 2048) + 11 → (stopped OutputShort ≡ writtenOf mem a out) × (out ≡ outputAfter mem a out)
+    unfolding writtenOf outputAfter
+    write-short h =
+        let n = all-length in
+        rw (eq-eqb (length mem) 65536 e, lt-ltb (length out) (length (textFor mem a)) (omega arith)) (refl, refl)
+
+    pub write-done : (size at : ℕ) (mid new : List ℕ) → size ≡ length (rowsText mem 2048) + 11 → size ≤ length out → at ≡ length (rowsText mem 2048)
+        → mid ≡ laid 0 (rowsText mem 2048) out → new ≡ laid at (textOf 57 a []) mid
+        → (_≡_ {A = Written} (record { count = size; answer = Done }) (writtenOf mem a out)) × (new ≡ outputAfter mem a out)
+    unfolding writtenOf outputAfter textFor
+    write-done size at mid new s h p f g =
+        let n = all-length in
+        let t = text-length 57 a [] in
+        let k : size ≡ length (textFor mem a) = omega arith in
+        let o : new ≡ laid 0 (textFor mem a) out =
+        g ∙ rw f (laid-two 0 at (rowsText mem 2048) (textOf 57 a []) out (omega arith) (omega arith)) in
+        rw (eq-eqb (length mem) 65536 e, le-ltb (length out) (length (textFor mem a)) (omega arith), k) (refl, o)

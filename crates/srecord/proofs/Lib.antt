@@ -1,0 +1,12 @@
+pub mod Bools
+pub mod Digits
+pub mod Scan
+pub mod Laying
+pub mod Bytes
+pub mod Shapes
+pub mod Lines
+pub mod Rows
+pub mod Calls
+pub mod Unique
+pub mod Sound
+pub mod Back

@@ -1,0 +1,143 @@
+-- The text that the writer lays, line by line and row by row.
+-- Assumes nothing.
+use Prim.Native.Nat.{ℕ, zero, suc, _+_, _-_, _*_, _/_, _%_, _^_, _≤_, _<_}
+use native.Mathlib.Omega.{arith}
+use native.Mathlib.Numerals.{add-one}
+use mathlib.Core.Path.{_≡_, refl, sym, ap, _∙_}
+use mathlib.Core.Bool.{Bool, true, false, cond}
+use mathlib.Core.List.{List, [], _∷_, _++_, append-assoc, append-nil}
+use lib.ListN.{length, take, drop, length-append, length-drop}
+use lib.Seq.{length-take-le}
+use Rattle.srecord.specs.Text.{pair, pairs, total, checksum, summed, textOf, digitOf}
+use Rattle.srecord.specs.File.{laid}
+use Rattle.srecord.specs.Written.{rowOf, isZero, rowText, rowsText, plainEnd}
+use Rattle.srecord.proofs.Laying.{laid-length, laid-two, pairs-length}
+
+pub text-length : (kind a : ℕ) (d : List ℕ) → length (textOf kind a d) ≡ 11 + 2 * length d
+unfolding textOf
+text-length kind a d =
+    let h = pairs-length (summed a d) in
+    simp length-append (omega arith)
+
+pub sum-fields : (c h l t : ℕ) (d : List ℕ) → t ≡ (total (c ∷ h ∷ l ∷ []) % 256 + total d % 256) % 2 ^ 8 → t ≡ total (c ∷ h ∷ l ∷ d) % 256
+unfolding total
+sum-fields c h l t d e = omega arith
+
+-- the parts of a line, one laid behind the other
+module _ (at kind a sum : ℕ) (d out o₁ o₂ o₃ o₄ o₅ : List ℕ) (room : at + (11 + 2 * length d) ≤ length out)
+    (e₁ : o₁ ≡ laid at (83 ∷ kind ∷ []) out)
+    (e₂ : o₂ ≡ laid (at + 2) (pairs ((length d + 3) ∷ a / 256 ∷ a % 256 ∷ [])) o₁)
+    (e₃ : o₃ ≡ laid (at + 8) (pairs d) o₂)
+    (e₄ : o₄ ≡ laid (at + 8 + 2 * length d) (pair (255 - sum)) o₃)
+    (e₅ : o₅ ≡ laid (at + 8 + 2 * length d + 2) (10 ∷ []) o₄)
+    (s : sum ≡ total (summed a d) % 256) where
+  abbrev f : List ℕ
+  f = pairs ((length d + 3) ∷ a / 256 ∷ a % 256 ∷ [])
+
+  abbrev h : List ℕ
+  h = 83 ∷ kind ∷ []
+
+  two : o₂ ≡ laid at (h ++ f) out
+  two =
+      let n = pairs-length ((length d + 3) ∷ a / 256 ∷ a % 256 ∷ []) in
+      e₂ ∙ rw e₁ (laid-two at (at + 2) h f out (omega arith) (omega arith))
+
+  three : o₃ ≡ laid at ((h ++ f) ++ pairs d) out
+  three =
+      let n = pairs-length ((length d + 3) ∷ a / 256 ∷ a % 256 ∷ []) in
+      let m = pairs-length d in
+      let k = length-append h f in
+      e₃ ∙ rw two (laid-two at (at + 8) (h ++ f) (pairs d) out (omega arith) (omega arith))
+
+  four : o₄ ≡ laid at (((h ++ f) ++ pairs d) ++ pair (255 - sum)) out
+  four =
+      let n = pairs-length ((length d + 3) ∷ a / 256 ∷ a % 256 ∷ []) in
+      let m = pairs-length d in
+      let k = length-append h f in
+      let j = length-append (h ++ f) (pairs d) in
+      e₄ ∙ rw three (laid-two at (at + 8 + 2 * length d) ((h ++ f) ++ pairs d) (pair (255 - sum)) out (omega arith) (omega arith))
+
+  pub line-laid : o₅ ≡ laid at (textOf kind a d) out
+  unfolding textOf pairs
+  line-laid =
+      let n = pairs-length ((length d + 3) ∷ a / 256 ∷ a % 256 ∷ []) in
+      let m = pairs-length d in
+      let k = length-append h f in
+      let j = length-append (h ++ f) (pairs d) in
+      let i = length-append ((h ++ f) ++ pairs d) (pair (255 - sum)) in
+      let last : laid (at + 8 + 2 * length d + 2) (10 ∷ []) o₄ ≡ laid at ((((h ++ f) ++ pairs d) ++ pair (255 - sum)) ++ (10 ∷ [])) out =
+      rw four (laid-two at (at + 8 + 2 * length d + 2) (((h ++ f) ++ pairs d) ++ pair (255 - sum)) (10 ∷ []) out (omega arith) (omega arith)) in
+      let same : ((((h ++ f) ++ pairs d) ++ pair (255 - sum)) ++ (10 ∷ [])) ≡ textOf kind a d = rw s (ap (λ (l : List ℕ). (h ++ f) ++ l) (append-assoc (pairs d) (pair (255 - total (summed a d) % 256)) (10 ∷ []))) in
+      e₅ ∙ last ∙ ap (λ (l : List ℕ). laid at l out) same
+
+pub plain-text : textOf 57 0 [] ≡ plainEnd
+unfolding textOf pairs digitOf total
+plain-text = refl
+
+-- the rows of memory
+module _ (mem : List ℕ) (k w : ℕ) (wide : w ≡ 32) (z : Bool) (e : z ≡ isZero (take w (drop (32 * k) mem))) where
+  pub row-skip : z ≡ true → rowsText mem (k + 1) ≡ rowsText mem k
+  unfolding rowsText rowText
+  row-skip t =
+      let f : isZero (rowOf mem k) ≡ true = ap (λ (v : ℕ). isZero (take v (drop (32 * k) mem))) (sym wide) ∙ sym e ∙ t in
+      rw (add-one k) (rw f (append-nil (rowsText mem k)))
+
+  pub row-more : z ≡ false → rowsText mem (k + 1) ≡ rowsText mem k ++ textOf 49 (32 * k) (take w (drop (32 * k) mem))
+  unfolding rowsText rowText
+  row-more t =
+      let f : isZero (rowOf mem k) ≡ false = ap (λ (v : ℕ). isZero (take v (drop (32 * k) mem))) (sym wide) ∙ sym e ∙ t in
+      rw (add-one k) (rw (f, wide))
+
+  module _ (full : length mem ≡ 65536) (h : k < 2048) where
+    pub row-width : length (take w (drop (32 * k) mem)) ≡ 32
+    row-width =
+        let d = length-drop (32 * k) mem in
+        length-take-le w (drop (32 * k) mem) (omega arith) ∙ wide
+
+    pub row-length : z ≡ false → length (rowsText mem (k + 1)) ≡ length (rowsText mem k) + 75
+    row-length t =
+        let n = row-width in
+        let m = text-length 49 (32 * k) (take w (drop (32 * k) mem)) in
+        ap length (row-more t) ∙ length-append (rowsText mem k) (textOf 49 (32 * k) (take w (drop (32 * k) mem))) ∙ omega arith
+
+pub rows-none : (mem : List ℕ) → rowsText mem 0 ≡ []
+unfolding rowsText
+rows-none mem = refl
+
+grow : (mem : List ℕ) (j d : ℕ) → length (rowsText mem j) ≤ length (rowsText mem (j + d))
+unfolding rowsText
+grow mem j zero = let e : j + 0 ≡ j = omega arith in rw e (omega arith)
+grow mem j (suc d) =
+    let h = grow mem j d in
+    let e : j + suc d ≡ suc (j + d) = omega arith in
+    rw e (simp length-append (omega arith))
+
+pub rows-grow : (mem : List ℕ) (j n : ℕ) → j ≤ n → length (rowsText mem j) ≤ length (rowsText mem n)
+rows-grow mem j n h = let e : j + (n - j) ≡ n = omega arith in rw e at (grow mem j (n - j))
+
+-- a turn of the writer's loop
+module _ (mem : List ℕ) (k w : ℕ) (wide : w ≡ 32) (z : Bool) (e : z ≡ isZero (take w (drop (32 * k) mem))) (full : length mem ≡ 65536) (h : k < 2048)
+    (at : ℕ) (out out₀ : List ℕ) (p : at ≡ length (rowsText mem k)) (q : length out ≡ length out₀) (o : out ≡ laid 0 (rowsText mem k) out₀)
+    (room : length (rowsText mem 2048) ≤ length out₀) where
+  pub record Turned (at′ : ℕ) (out′ : List ℕ) : Type 0 where
+    pub ends : at′ ≡ length (rowsText mem (k + 1))
+    pub keeps : length out′ ≡ length out₀
+    pub holds : out′ ≡ laid 0 (rowsText mem (k + 1)) out₀
+
+  pub turn-skip : (at′ : ℕ) (out′ : List ℕ) → at′ ≡ at → out′ ≡ out → z ≡ true → Turned at′ out′
+  turn-skip at′ out′ f g t =
+      let r = row-skip mem k w wide z e t in
+      record { ends = f ∙ p ∙ ap length (sym r); keeps = ap length g ∙ q; holds = g ∙ o ∙ ap (λ (l : List ℕ). laid 0 l out₀) (sym r) }
+
+  pub turn-more : (at′ : ℕ) (out′ : List ℕ) → at′ ≡ at + 75 → out′ ≡ laid at (textOf 49 (32 * k) (take w (drop (32 * k) mem))) out → z ≡ false → Turned at′ out′
+  turn-more at′ out′ f g t =
+      let r = row-more mem k w wide z e t in
+      let l = row-length mem k w wide z e full h t in
+      let n = row-width mem k w wide z e full h in
+      let m = text-length 49 (32 * k) (take w (drop (32 * k) mem)) in
+      let grown = rows-grow mem (k + 1) 2048 (omega arith) in
+      record {
+        ends = omega arith;
+        keeps = ap length g ∙ laid-length at (textOf 49 (32 * k) (take w (drop (32 * k) mem))) out (omega arith) ∙ q;
+        holds = g ∙ rw (o, r) (laid-two 0 at (rowsText mem k) (textOf 49 (32 * k) (take w (drop (32 * k) mem))) out₀ (omega arith) (omega arith));
+      }

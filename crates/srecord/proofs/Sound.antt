@@ -1,0 +1,125 @@
+-- A line of the format means what it says.
+-- Assumes nothing.
+use Prim.Native.Nat.{ℕ, zero, suc, _+_, _-_, _*_, _/_, _%_, _≤_, _<_}
+use native.Mathlib.Omega.{arith}
+use mathlib.Core.Path.{_≡_, refl, sym, ap, _∙_}
+use mathlib.Core.Bool.{Bool, true, false, cond, _&&_}
+use mathlib.Core.List.{List, [], _∷_, _++_, append-assoc}
+use lib.Dec.{eqb, leb}
+use lib.ListN.{length, getD, take, drop, length-append}
+use lib.Seq.{take-append-seam, getD-append-seam}
+use borrow.Author.Tests.{eq-eqb, le-leb, leb-true, eqb-true}
+use Rattle.srecord.specs.Text.{isDigit, digitOf, byteOf, pair, pairs, isPaired, bytesOf, total, checksum, summed, textOf}
+use Rattle.srecord.specs.Line.{Meaning, most, mayHold, isShaped, isSummed, isCounted, bytes, addressOf, dataOf, meant, lineOf}
+use Rattle.srecord.specs.Promises.{Bytes, LineReads}
+use Rattle.srecord.proofs.Bools.{and-parts}
+use Rattle.srecord.proofs.Digits.{is-digit, byte-pair}
+use Rattle.srecord.proofs.Laying.{pairs-append, pairs-one}
+use Rattle.srecord.proofs.Lines.{sound}
+
+-- every element is a byte, one by one
+abbrev pub Each : List ℕ → Type 0
+Each [] = Unit {0}
+Each (b ∷ l) = (b < 256) × Each l
+
+pub each : (l : List ℕ) → Bytes l → Each l
+each [] h = tt
+each (b ∷ l) h = (h 0, each l (λ i. h (suc i)))
+
+pub each-take : (n : ℕ) (l : List ℕ) → Each l → Each (take n l)
+each-take zero l h = tt
+each-take (suc n) [] h = tt
+each-take (suc n) (b ∷ l) h = (h .0, each-take n l (h .1))
+
+pub each-drop : (n : ℕ) (l : List ℕ) → Each l → Each (drop n l)
+each-drop zero l h = h
+each-drop (suc n) [] h = tt
+each-drop (suc n) (b ∷ l) h = each-drop n l (h .1)
+
+-- the digits of bytes are pairs of digits, and stand for the bytes
+pub pairs-paired : (l : List ℕ) → Each l → isPaired (pairs l ++ (10 ∷ [])) ≡ true
+unfolding isPaired pairs
+pairs-paired [] h = refl
+pairs-paired (b ∷ l) h = rw (is-digit (b / 16) (omega (arith, h .0)), is-digit (b % 16) (omega arith)) (pairs-paired l (h .1))
+
+pub pairs-bytes : (l : List ℕ) → Each l → bytesOf (pairs l ++ (10 ∷ [])) ≡ l
+unfolding bytesOf pairs
+pairs-bytes [] h = refl
+pairs-bytes (b ∷ l) h = rw (byte-pair b (h .0), pairs-bytes l (h .1))
+
+pub bytes-append : (l m : List ℕ) → Each l → Each m → Each (l ++ m)
+bytes-append [] m h k = k
+bytes-append (b ∷ l) m h k = (h .0, bytes-append l m (h .1) k)
+
+-- the kinds, and how many data bytes each may have
+pub hold-kinds : (kind n : ℕ) → mayHold kind n ≡ true → (10 < kind) × (n ≤ most)
+hold-kinds kind n h = go (eqb kind 48) refl (eqb kind 49) refl
+  where
+    go : (u : Bool) → eqb kind 48 ≡ u → (v : Bool) → eqb kind 49 ≡ v → (10 < kind) × (n ≤ most)
+    go true e v f = let k = eqb-true kind 48 e in (omega arith, leb-true n most (rw e at h))
+    go false e true f =
+        let k = eqb-true kind 49 f in
+        (omega arith, leb-true n most (and-parts (leb 1 n) (leb n most) (rw (e, f) at h) .1))
+    go false e false f =
+        let p = and-parts (eqb kind 57) (eqb n 0) (rw (e, f) at h) in
+        let k = eqb-true kind 57 (p .0) in
+        let z = eqb-true n 0 (p .1) in
+        (omega arith, omega arith)
+
+module _ (kind a : ℕ) (d : List ℕ) (low : a < 65536) (are : Each d) (may : mayHold kind (length d) ≡ true) where
+  abbrev sum : ℕ
+  sum = checksum (summed a d)
+
+  -- all bytes of the line
+  abbrev pub all : List ℕ
+  all = summed a d ++ (sum ∷ [])
+
+  pub are-bytes : Each all
+  are-bytes =
+      let n = hold-kinds kind (length d) may .1 in
+      (omega arith, (omega arith, (omega arith, bytes-append d (sum ∷ []) are (omega arith, tt))))
+
+  pub text-is : textOf kind a d ≡ 83 ∷ kind ∷ (pairs all ++ (10 ∷ []))
+  unfolding textOf
+  text-is =
+      rw (pairs-append (summed a d) (sum ∷ []), pairs-one sum)
+      (ap (λ (l : List ℕ). 83 ∷ kind ∷ l) (sym (append-assoc (pairs (summed a d)) (pair sum) (10 ∷ []))))
+
+  all-length : length all ≡ length d + 4
+  all-length = length-append (summed a d) (sum ∷ []) ∙ omega arith
+
+  bytes-are : bytes (83 ∷ kind ∷ (pairs all ++ (10 ∷ []))) ≡ all
+  bytes-are = pairs-bytes all are-bytes
+
+  is-shaped : isShaped (83 ∷ kind ∷ (pairs all ++ (10 ∷ []))) ≡ true
+  unfolding isShaped
+  is-shaped =
+      let n = all-length in
+      let one : length all - 1 ≡ length d + 3 = omega arith in
+      let four : length all - 4 ≡ length d = omega arith in
+      rw (pairs-paired all are-bytes, bytes-are, le-leb 4 (length all) (omega arith), one, four, eq-eqb (length d + 3) (length d + 3) refl, may)
+
+  is-summed : isSummed all ≡ true
+  unfolding isSummed
+  is-summed =
+      let n = all-length in
+      let one : length all - 1 ≡ length (summed a d) = omega arith in
+      rw (one, getD-append-seam (summed a d) sum [] 0, take-append-seam (summed a d) (sum ∷ [])) (eq-eqb sum sum refl)
+
+  address-is : addressOf all ≡ a
+  address-is = omega arith
+
+  data-is : dataOf all ≡ d
+  data-is =
+      let n = all-length in
+      let four : length all - 4 ≡ length d = omega arith in
+      rw four (take-append-seam d (sum ∷ []))
+
+  pub reads : lineOf (textOf kind a d) ≡ meant kind a d
+  reads =
+      let s = is-shaped in
+      let b = bytes-are in
+      rw (text-is, sound (83 ∷ kind ∷ (pairs all ++ (10 ∷ []))) s (rw b is-summed), b, address-is, data-is)
+
+pub line-reads : LineReads
+line-reads kind a d low are may = reads kind a d low (each d are) may

@@ -1,0 +1,69 @@
+-- What a file of S-records means: its lines in order, the answer, and memory afterwards.
+-- Assumes nothing.
+use Prim.Native.Nat.{ℕ, _+_}
+use mathlib.Core.Bool.{Bool, true, false, cond}
+use mathlib.Core.List.{List, [], _∷_, _++_, map}
+use lib.Dec.{eqb}
+use lib.ListN.{length, take, drop}
+use Rattle.srecord.specs.Text.{lineFeed}
+use Rattle.srecord.specs.Line.{Meaning, heading, piece, start, refused, lineOf}
+use Rattle.srecord.specs.declared.Answer.{Answer}
+use Rattle.srecord.specs.declared.Answer.the-variants.{Done, Refused}
+use Rattle.srecord.specs.declared.Loaded.{Loaded}
+use Rattle.srecord.specs.declared.Refusal.{Refusal}
+use Rattle.srecord.specs.declared.Refusal.the-variants.{MemoryLength, Shape, NoEnd}
+
+-- a character before the lines that follow it
+abbrev pub joined : ℕ → List (List ℕ) → List (List ℕ)
+joined c [] = (c ∷ []) ∷ []
+joined c (l ∷ ls) = (c ∷ l) ∷ ls
+
+-- a text cut after each line feed; only the last line may have none
+unfoldable pub linesOf : List ℕ → List (List ℕ)
+linesOf [] = []
+linesOf (c ∷ t) = cond (eqb c lineFeed) ((c ∷ []) ∷ linesOf t) (joined c (linesOf t))
+
+unfoldable pub meaningsOf : List ℕ → List Meaning
+meaningsOf file = map lineOf (linesOf file)
+
+abbrev pub done : ℕ → Loaded
+done a = record { start = a; answer = Done }
+
+abbrev pub failed : Refusal → Loaded
+failed r = record { start = 0; answer = Refused r }
+
+-- S9 and nothing after it
+abbrev pub ended : ℕ → List Meaning → Loaded
+ended a [] = done a
+ended a (m ∷ ms) = failed Shape
+
+-- the first bad line decides, and a line after S9 is bad; if none is, there has to be an S9
+unfoldable pub judged : List Meaning → Loaded
+judged [] = failed NoEnd
+judged (heading d ∷ ms) = judged ms
+judged (piece a d ∷ ms) = judged ms
+judged (start a ∷ ms) = ended a ms
+judged (refused r ∷ ms) = failed r
+
+-- a list with another over its part from a on
+unfoldable pub laid : ℕ → List ℕ → List ℕ → List ℕ
+laid a d mem = take a mem ++ (d ++ drop (a + length d) mem)
+
+-- memory with the data of the S1 lines, in order
+unfoldable pub landed : List Meaning → List ℕ → List ℕ
+landed [] mem = mem
+landed (heading d ∷ ms) mem = landed ms mem
+landed (piece a d ∷ ms) mem = landed ms (laid a d mem)
+landed (start a ∷ ms) mem = landed ms mem
+landed (refused r ∷ ms) mem = landed ms mem
+
+unfoldable pub loadedOf : List ℕ → List ℕ → Loaded
+loadedOf mem file = cond (eqb (length mem) 65536) (judged (meaningsOf file)) (failed MemoryLength)
+
+-- a refused file leaves memory as it was
+abbrev pub allowed : Answer → List ℕ → List ℕ → List ℕ
+allowed Done new old = new
+allowed (Refused r) new old = old
+
+unfoldable pub memoryAfter : List ℕ → List ℕ → List ℕ
+memoryAfter mem file = allowed (loadedOf mem file .answer) (landed (meaningsOf file) mem) mem

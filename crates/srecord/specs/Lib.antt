@@ -1,0 +1,7 @@
+pub mod Answers
+pub mod Text
+pub mod Line
+pub mod File
+pub mod Code
+pub mod Written
+pub mod Promises

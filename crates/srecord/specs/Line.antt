@@ -1,0 +1,69 @@
+-- What one line means: its kind, address and data, or why it is refused. A line is its text with its line feed.
+-- Assumes nothing.
+use Prim.Native.Nat.{ℕ, _+_, _-_, _*_}
+use mathlib.Core.Bool.{Bool, true, false, cond, _&&_, _||_}
+use mathlib.Core.List.{List}
+use lib.Dec.{eqb, leb}
+use lib.ListN.{length, getD, take, drop}
+use Rattle.srecord.specs.Text.{letterS, kind0, kind1, kind9, isPaired, bytesOf, checksum}
+use Rattle.srecord.specs.declared.Line.{Line}
+use Rattle.srecord.specs.declared.Line.the-variants.{Header, Data, End, Bad}
+use Rattle.srecord.specs.declared.Refusal.{Refusal}
+use Rattle.srecord.specs.declared.Refusal.the-variants.{Shape, Checksum, PastTop}
+
+pub data Meaning : Type 0 where
+  -- S0: its data lands nowhere
+  heading : List ℕ → Meaning
+  -- S1: an address, and the data from there on
+  piece : ℕ → List ℕ → Meaning
+  -- S9: the start
+  start : ℕ → Meaning
+  refused : Refusal → Meaning
+
+-- the most data bytes of a line
+abbrev pub most : ℕ
+most = 252
+
+-- whether a line of this kind may have n data bytes
+abbrev pub mayHold : ℕ → ℕ → Bool
+mayHold kind n = cond (eqb kind kind0) (leb n most) (cond (eqb kind kind1) (leb 1 n && leb n most) (eqb kind kind9 && eqb n 0))
+
+-- of the bytes of a line: the count is that of the bytes after it, and the data between address and checksum are as many as the kind may have
+abbrev pub isCounted : ℕ → List ℕ → Bool
+isCounted kind bs = leb 4 (length bs) && (eqb (getD bs 0 0) (length bs - 1) && mayHold kind (length bs - 4))
+
+abbrev pub bytes : List ℕ → List ℕ
+bytes text = bytesOf (drop 2 text)
+
+unfoldable pub isShaped : List ℕ → Bool
+isShaped text = eqb (getD text 0 0) letterS && (isPaired (drop 2 text) && isCounted (getD text 1 0) (bytes text))
+
+-- the last byte is the checksum of those before it
+unfoldable pub isSummed : List ℕ → Bool
+isSummed bs = eqb (getD bs (length bs - 1) 0) (checksum (take (length bs - 1) bs))
+
+abbrev pub addressOf : List ℕ → ℕ
+addressOf bs = 256 * getD bs 1 0 + getD bs 2 0
+
+abbrev pub dataOf : List ℕ → List ℕ
+dataOf bs = take (length bs - 4) (drop 3 bs)
+
+-- the address and data of a line of this kind; data end at FFFF at the latest
+abbrev pub meant : ℕ → ℕ → List ℕ → Meaning
+meant kind a d =
+    cond (eqb kind kind0) (heading d)
+    (cond (eqb kind kind9) (start a)
+    (cond (leb (a + length d) 65536) (piece a d) (refused PastTop)))
+
+unfoldable pub lineOf : List ℕ → Meaning
+lineOf text =
+    cond (isShaped text)
+    (cond (isSummed (bytes text)) (meant (getD text 1 0) (addressOf (bytes text)) (dataOf (bytes text))) (refused Checksum))
+    (refused Shape)
+
+-- what `line_of` answers: of the data, how many
+abbrev pub shown : Meaning → Line
+shown (heading d) = Header
+shown (piece a d) = Data a (length d)
+shown (start a) = End a
+shown (refused r) = Bad r

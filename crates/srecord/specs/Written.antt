@@ -1,0 +1,54 @@
+-- The text that is written of a memory and a start.
+-- Assumes nothing.
+use Prim.Native.Nat.{ℕ, zero, suc, _*_}
+use mathlib.Core.Bool.{Bool, true, false, cond, _&&_}
+use mathlib.Core.List.{List, [], _∷_, _++_}
+use lib.Dec.{eqb, ltb}
+use lib.ListN.{length, take, drop}
+use Rattle.srecord.specs.Text.{kind1, kind9, textOf}
+use Rattle.srecord.specs.File.{laid}
+use Rattle.srecord.specs.declared.Answer.the-variants.{Done, Refused}
+use Rattle.srecord.specs.declared.Refusal.{Refusal}
+use Rattle.srecord.specs.declared.Refusal.the-variants.{MemoryLength, OutputShort}
+use Rattle.srecord.specs.declared.Written.{Written}
+
+-- the k-th 32 bytes of memory
+abbrev pub rowOf : List ℕ → ℕ → List ℕ
+rowOf mem k = take 32 (drop (32 * k) mem)
+
+unfoldable pub isZero : List ℕ → Bool
+isZero [] = true
+isZero (b ∷ bs) = eqb b 0 && isZero bs
+
+-- an S1 line, or nothing if its bytes are all zero
+unfoldable pub rowText : List ℕ → ℕ → List ℕ
+rowText mem k = cond (isZero (rowOf mem k)) [] (textOf kind1 (32 * k) (rowOf mem k))
+
+-- the first k rows, upwards
+unfoldable pub rowsText : List ℕ → ℕ → List ℕ
+rowsText mem zero = []
+rowsText mem (suc k) = rowsText mem k ++ rowText mem k
+
+-- all 2,048 rows, and S9
+unfoldable pub textFor : List ℕ → ℕ → List ℕ
+textFor mem a = rowsText mem 2048 ++ textOf kind9 a []
+
+-- the line S9030000FC
+abbrev pub plainEnd : List ℕ
+plainEnd = 83 ∷ 57 ∷ 48 ∷ 51 ∷ 48 ∷ 48 ∷ 48 ∷ 48 ∷ 70 ∷ 67 ∷ 10 ∷ []
+
+abbrev pub stopped : Refusal → Written
+stopped r = record { count = 0; answer = Refused r }
+
+-- the answer; and the output, its bytes past the text as they were, all of them if refused
+unfoldable pub writtenOf : List ℕ → ℕ → List ℕ → Written
+writtenOf mem a out =
+    cond (eqb (length mem) 65536)
+    (cond (ltb (length out) (length (textFor mem a))) (stopped OutputShort) (record { count = length (textFor mem a); answer = Done }))
+    (stopped MemoryLength)
+
+unfoldable pub outputAfter : List ℕ → ℕ → List ℕ → List ℕ
+outputAfter mem a out =
+    cond (eqb (length mem) 65536)
+    (cond (ltb (length out) (length (textFor mem a))) out (laid 0 (textFor mem a) out))
+    out
