@@ -16,4 +16,6 @@ returns-2 : tie.Need-returns-2
 returns-2 c = by-difference _ _ _ (c .if1 .left)
 
 pub has-spec : {M : Type 1} → statement M
-has-spec = tie.close (tie.spec returns returns-2)
+has-spec =
+    tie.close
+    (tie.spec returns returns-2)

@@ -10,4 +10,6 @@ unfolding zeros
 returns c = refl
 
 pub empty-journal-spec : {M : Type 1} → statement M
-empty-journal-spec = tie.close (tie.spec returns)
+empty-journal-spec =
+    tie.close
+    (tie.spec returns)

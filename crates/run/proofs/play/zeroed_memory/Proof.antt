@@ -10,4 +10,6 @@ unfolding zeros
 returns c = refl
 
 pub zeroed-memory-spec : {M : Type 1} → statement M
-zeroed-memory-spec = tie.close (tie.spec returns)
+zeroed-memory-spec =
+    tie.close
+    (tie.spec returns)
