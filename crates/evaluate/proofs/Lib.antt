@@ -2,4 +2,5 @@ pub mod Waits
 pub mod Sound
 pub mod Parting
 pub mod Transfers
+pub mod QuietLaws
 pub mod Unique

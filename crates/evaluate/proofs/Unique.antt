@@ -12,3 +12,9 @@ serve κs a x y ws vs p q = (p ∙ sym q, refl)
 
 pub evaluate : Determines 1 proofs.evaluate.Kinds.ps proofs.evaluate.Kinds.r proofs.evaluate.Reads.Post
 evaluate κs a x y ws vs p q = (p ∙ sym q, refl)
+
+pub evaluate-quiet : Determines 1 proofs.evaluate_quiet.Kinds.ps proofs.evaluate_quiet.Kinds.r proofs.evaluate_quiet.Reads.Post
+evaluate-quiet κs a x y ws vs p q = (p ∙ sym q, refl)
+
+pub evaluate-rest : Determines 1 proofs.evaluate_rest.Kinds.ps proofs.evaluate_rest.Kinds.r proofs.evaluate_rest.Reads.Post
+evaluate-rest κs a x y ws vs p q = (p ∙ sym q, refl)

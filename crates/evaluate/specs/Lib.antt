@@ -6,4 +6,5 @@ pub mod Stack
 pub mod Interrupts
 pub mod Rest
 pub mod Evaluate
+pub mod Quiet
 pub mod Parting

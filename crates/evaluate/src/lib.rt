@@ -13,6 +13,7 @@ ghost use Rattle.evaluate.specs.Stack.{pushedByte, pushedWord, pushedAll
 ghost use Rattle.evaluate.specs.Interrupts.{called, vectored, served, vectorOf, maskOf, orCodes, andCodes, waiting};
 ghost use Rattle.evaluate.specs.Rest.{correction, corrected, daaOf, sexOf, mulOf, abxOf, transferable, transferName, transfer, exchange, synchronized};
 ghost use Rattle.evaluate.specs.Evaluate.{evaluateOf};
+ghost use Rattle.evaluate.specs.Quiet.{quietly, quietOf, restOf};
 use memory::Answer;
 use memory::Refusal;
 use memory::WordRead;
@@ -45,6 +46,14 @@ pub struct Effect {
     pub regs: Set,
     pub wait: Wait,
     pub answer: Answer,
+}
+
+// What an instruction does that neither writes, nor uses a stack, nor waits: the registers after it, or its refusal. Most are such; a
+// list of writes need not be carried along for them.
+pub enum Quiet {
+    After(Set),
+    Refused(Refusal),
+    No,
 }
 
 // ---- effects
@@ -243,12 +252,12 @@ fn store8(regs: Set, acc: Acc, ea: u16) -> Effect
 
 // ---- words
 
-fn load16(mem: &[u8], regs: Set, name: Name, ea: u16) -> Effect
-    ensures { λ r. ⌜ r ≡ load16 (now (mem .entry)) regs name ea ⌝ }
+fn load16(mem: &[u8], regs: Set, name: Name, ea: u16) -> Quiet
+    ensures { λ r. ⌜ r ≡ quietly (load16 (now (mem .entry)) regs name ea) ⌝ }
 {
     match memory::read_u16(mem, ea) {
-        WordRead::Word(m) => changes(with_word(with_codes(regs, regs.cc.tst_u16(m)), name, m)),
-        WordRead::Refused(refusal) => refuses(regs, refusal),
+        WordRead::Word(m) => Quiet::After(with_word(with_codes(regs, regs.cc.tst_u16(m)), name, m)),
+        WordRead::Refused(refusal) => Quiet::Refused(refusal),
     }
 }
 
@@ -267,36 +276,39 @@ fn store16(regs: Set, name: Name, ea: u16) -> Effect
     }
 }
 
-fn compare16(mem: &[u8], regs: Set, name: Name, ea: u16) -> Effect
-    ensures { λ r. ⌜ r ≡ compare16 (now (mem .entry)) regs name ea ⌝ }
+fn compare16(mem: &[u8], regs: Set, name: Name, ea: u16) -> Quiet
+    ensures { λ r. ⌜ r ≡ quietly (compare16 (now (mem .entry)) regs name ea) ⌝ }
 {
     match memory::read_u16(mem, ea) {
-        WordRead::Word(m) => changes(with_codes(regs, regs.cc.cmp_u16(word_of(regs, name), m))),
-        WordRead::Refused(refusal) => refuses(regs, refusal),
+        WordRead::Word(m) => Quiet::After(with_codes(
+            regs,
+            regs.cc.cmp_u16(word_of(regs, name), m),
+        )),
+        WordRead::Refused(refusal) => Quiet::Refused(refusal),
     }
 }
 
-fn add_d(mem: &[u8], regs: Set, ea: u16) -> Effect
-    ensures { λ r. ⌜ r ≡ addD (now (mem .entry)) regs ea ⌝ }
+fn add_d(mem: &[u8], regs: Set, ea: u16) -> Quiet
+    ensures { λ r. ⌜ r ≡ quietly (addD (now (mem .entry)) regs ea) ⌝ }
 {
     match memory::read_u16(mem, ea) {
         WordRead::Word(m) => {
             let out = regs.cc.add_u16(word_of(regs, Name::D), m);
-            changes(with_word(with_codes(regs, out.cc), Name::D, out.value))
+            Quiet::After(with_word(with_codes(regs, out.cc), Name::D, out.value))
         }
-        WordRead::Refused(refusal) => refuses(regs, refusal),
+        WordRead::Refused(refusal) => Quiet::Refused(refusal),
     }
 }
 
-fn subtract_d(mem: &[u8], regs: Set, ea: u16) -> Effect
-    ensures { λ r. ⌜ r ≡ subtractD (now (mem .entry)) regs ea ⌝ }
+fn subtract_d(mem: &[u8], regs: Set, ea: u16) -> Quiet
+    ensures { λ r. ⌜ r ≡ quietly (subtractD (now (mem .entry)) regs ea) ⌝ }
 {
     match memory::read_u16(mem, ea) {
         WordRead::Word(m) => {
             let out = regs.cc.sub_u16(word_of(regs, Name::D), m);
-            changes(with_word(with_codes(regs, out.cc), Name::D, out.value))
+            Quiet::After(with_word(with_codes(regs, out.cc), Name::D, out.value))
         }
-        WordRead::Refused(refusal) => refuses(regs, refusal),
+        WordRead::Refused(refusal) => Quiet::Refused(refusal),
     }
 }
 
@@ -765,28 +777,28 @@ fn transfer_name(code: u8) -> Name
     }
 }
 
-fn transfer(regs: Set, m: u8) -> Effect
-    ensures { λ r. ⌜ r ≡ transfer regs m ⌝ }
+fn transfer(regs: Set, m: u8) -> Quiet
+    ensures { λ r. ⌜ r ≡ quietly (transfer regs m) ⌝ }
 {
     if transferable(m) {
         let value = regs.get_register(transfer_name(m / 16));
-        changes(regs.set_register(transfer_name(m % 16), value))
+        Quiet::After(regs.set_register(transfer_name(m % 16), value))
     } else {
-        refuses(regs, Refusal::TransferCode)
+        Quiet::Refused(Refusal::TransferCode)
     }
 }
 
-fn exchange(regs: Set, m: u8) -> Effect
-    ensures { λ r. ⌜ r ≡ exchange regs m ⌝ }
+fn exchange(regs: Set, m: u8) -> Quiet
+    ensures { λ r. ⌜ r ≡ quietly (exchange regs m) ⌝ }
 {
     if transferable(m) {
         let first = transfer_name(m / 16);
         let second = transfer_name(m % 16);
         let one = regs.get_register(first);
         let two = regs.get_register(second);
-        changes(regs.set_register(first, two).set_register(second, one))
+        Quiet::After(regs.set_register(first, two).set_register(second, one))
     } else {
-        refuses(regs, Refusal::TransferCode)
+        Quiet::Refused(Refusal::TransferCode)
     }
 }
 
@@ -815,42 +827,69 @@ fn with_operand(flags: Flags, op: Alu, acc: Acc, regs: Set, m: u8) -> Set
     with_accumulator(regs, acc, alu(flags, op, cc, accumulator(regs, acc), m))
 }
 
-pub fn evaluate(op: Op, flags: Flags, ram_top: u16, mem: &[u8], regs: Set, ea: u16) -> Effect
-    ensures { λ r. ⌜ r ≡ evaluateOf op flags «ram_top» (now (mem .entry)) regs ea ⌝ }
+// Accumulators, words, branches and transfers: what neither writes, nor uses a stack, nor waits.
+pub fn evaluate_quiet(op: Op, flags: Flags, mem: &[u8], regs: Set, ea: u16) -> Quiet
+    ensures { λ r. ⌜ r ≡ quietOf op flags (now (mem .entry)) regs ea ⌝ }
 {
     match op {
-        Op::Illegal => refuses(regs, Refusal::Opcode),
-        Op::Alu(alu, acc) => changes(with_operand(flags, alu, acc, regs, memory::read_u8(mem, ea))),
-        Op::Store8(acc) => store8(regs, acc, ea),
-        Op::OnAcc(unary, acc) => changes(on_accumulator(flags, unary, acc, regs)),
-        Op::OnMemory(unary) => on_memory(flags, unary, mem, regs, ea),
+        Op::Alu(alu, acc) => Quiet::After(with_operand(
+            flags,
+            alu,
+            acc,
+            regs,
+            memory::read_u8(mem, ea),
+        )),
+        Op::OnAcc(unary, acc) => Quiet::After(on_accumulator(flags, unary, acc, regs)),
         Op::Addd => add_d(mem, regs, ea),
         Op::Subd => subtract_d(mem, regs, ea),
         Op::Load16(name) => load16(mem, regs, name, ea),
-        Op::Store16(name) => store16(regs, name, ea),
         Op::Cmp16(name) => compare16(mem, regs, name, ea),
-        Op::Lea(name) => changes(load_address(regs, name, ea)),
-        Op::Branch(cond) => changes(branch(regs, cond, ea)),
+        Op::Lea(name) => Quiet::After(load_address(regs, name, ea)),
+        Op::Branch(cond) => Quiet::After(branch(regs, cond, ea)),
+        Op::Jmp => Quiet::After(jump(regs, ea)),
+        Op::Nop => Quiet::After(regs),
+        Op::Daa => Quiet::After(decimal_adjust(regs)),
+        Op::Sex => Quiet::After(sign_extend(regs)),
+        Op::Mul => Quiet::After(multiply(regs)),
+        Op::Abx => Quiet::After(add_b_to_x(regs)),
+        Op::Andcc => Quiet::After(and_codes(regs, memory::read_u8(mem, ea))),
+        Op::Orcc => Quiet::After(or_codes(regs, memory::read_u8(mem, ea))),
+        Op::Exg => exchange(regs, memory::read_u8(mem, ea)),
+        Op::Tfr => transfer(regs, memory::read_u8(mem, ea)),
+        _ => Quiet::No,
+    }
+}
+
+// The others: stores, the stacks, interrupts.
+pub fn evaluate_rest(op: Op, flags: Flags, ram_top: u16, mem: &[u8], regs: Set, ea: u16) -> Effect
+    ensures { λ r. ⌜ r ≡ restOf op flags «ram_top» (now (mem .entry)) regs ea ⌝ }
+{
+    match op {
+        Op::Illegal => refuses(regs, Refusal::Opcode),
+        Op::Store8(acc) => store8(regs, acc, ea),
+        Op::OnMemory(unary) => on_memory(flags, unary, mem, regs, ea),
+        Op::Store16(name) => store16(regs, name, ea),
         Op::Bsr => call(regs, ea),
         Op::Jsr => call(regs, ea),
-        Op::Jmp => changes(jump(regs, ea)),
         Op::Rts => pulling(mem, regs, Name::S, Name::U, 0x80),
         Op::Rti => return_from_interrupt(mem, regs),
         Op::Swi(which) => serve(mem, ram_top, regs, true, mask_of(which), vector_of(which)),
         Op::Cwai => wait_for_interrupt(regs, memory::read_u8(mem, ea)),
         Op::Sync => synchronize(regs),
-        Op::Nop => changes(regs),
-        Op::Daa => changes(decimal_adjust(regs)),
-        Op::Sex => changes(sign_extend(regs)),
-        Op::Mul => changes(multiply(regs)),
-        Op::Abx => changes(add_b_to_x(regs)),
-        Op::Andcc => changes(and_codes(regs, memory::read_u8(mem, ea))),
-        Op::Orcc => changes(or_codes(regs, memory::read_u8(mem, ea))),
-        Op::Exg => exchange(regs, memory::read_u8(mem, ea)),
-        Op::Tfr => transfer(regs, memory::read_u8(mem, ea)),
         Op::Pshs => pushing(regs, Name::S, Name::U, memory::read_u8(mem, ea), false),
         Op::Puls => pulling(mem, regs, Name::S, Name::U, memory::read_u8(mem, ea)),
         Op::Pshu => pushing(regs, Name::U, Name::S, memory::read_u8(mem, ea), false),
         Op::Pulu => pulling(mem, regs, Name::U, Name::S, memory::read_u8(mem, ea)),
+        _ => changes(regs),
+    }
+}
+
+pub fn evaluate(op: Op, flags: Flags, ram_top: u16, mem: &[u8], regs: Set, ea: u16) -> Effect
+    ensures { λ r. ⌜ r ≡ evaluateOf op flags «ram_top» (now (mem .entry)) regs ea ⌝ }
+{
+    match evaluate_quiet(op, flags, mem, regs, ea) {
+        Quiet::After(after) => changes(after),
+        Quiet::Refused(refusal) => refuses(regs, refusal),
+        Quiet::No => evaluate_rest(op, flags, ram_top, mem, regs, ea),
     }
 }

@@ -5,6 +5,7 @@ use mathlib.Core.Bool.{Bool, true, false, cond}
 use mathlib.Core.List.{List, []}
 use lib.Dec.{eqb, ltb}
 use lib.ListN.{length}
+use Rattle.registers.specs.declared.Set.{Set}
 use Rattle.memory.specs.Map.{byteAt, lowAt}
 use Rattle.memory.specs.Writes.{writesOf, listed, stored, reported}
 use Rattle.memory.specs.declared.Answer.{Answer}
@@ -25,6 +26,8 @@ use Rattle.evaluate.specs.declared.Wait.the-variants.{Running, Cwai as InCwai, 
 use Rattle.step.specs.declared.Fetched.{Fetched}
 use Rattle.step.specs.declared.Fetched.the-variants.{Instruction, Refused as NotFetched}
 use Rattle.step.specs.declared.Found.{Found}
+use Rattle.step.specs.declared.Located.{Located}
+use Rattle.step.specs.declared.Located.the-variants.{At as Place, Refused as NoPlace}
 use Rattle.step.specs.declared.Machine.{Machine}
 use Rattle.step.specs.declared.Settings.{Settings}
 use Rattle.step.specs.declared.Stepped.{Stepped}
@@ -34,16 +37,30 @@ abbrev pub refusedWith : Machine → Refusal → Found
 refusedWith m x = record { writes = writesOf []; machine = m; answer = Refused x }
 
 -- an instruction that is carried out: instructions and 1, cycles and the table's figure, both wrapping
-abbrev after : Machine → ℕ → Effect → Machine
-after m cycles e =
-    record { cycles = (m .cycles + cycles) % 2 ^ 64; instructions = (m .instructions + 1) % 2 ^ 64; regs = e .regs; wait = e .wait }
+abbrev pub after : Machine → ℕ → Set → Wait → Machine
+after m cycles r w =
+    record { cycles = (m .cycles + cycles) % 2 ^ 64; instructions = (m .instructions + 1) % 2 ^ 64; regs = r; wait = w }
 
 abbrev pub finishedAs : Answer → Machine → ℕ → Effect → Found
-finishedAs Done m cycles e = record { writes = e .writes; machine = after m cycles e; answer = Done }
+finishedAs Done m cycles e = record { writes = e .writes; machine = after m cycles (e .regs) (e .wait); answer = Done }
 finishedAs (Refused x) m cycles e = refusedWith m x
 
 unfoldable pub finished : Machine → ℕ → Effect → Found
 finished m cycles e = finishedAs (e .answer) m cycles e
+
+-- the byte after a prefix: 4 past FFFF
+abbrev pub secondByte : Page → List ℕ → ℕ → Located
+secondByte page mem pc = cond (ltb pc 0xFFFF) (Place page (byteAt mem (lowAt pc)) (pc + 2)) (NoPlace PastEnd)
+
+-- 10 and 11 lead to the second and third page
+abbrev locatedAs : List ℕ → ℕ → ℕ → Located
+locatedAs mem pc code =
+    cond (eqb code 0x10) (secondByte Ten mem pc)
+    (cond (eqb code 0x11) (secondByte Eleven mem pc)
+    (Place Plain code (pc + 1)))
+
+unfoldable pub located : List ℕ → ℕ → Located
+located mem pc = locatedAs mem pc (byteAt mem pc)
 
 -- a place of the table that is not in the manual has no bytes: 3
 abbrev ofEntry : Entry → ℕ → Fetched
@@ -52,27 +69,23 @@ ofEntry e at = cond (eqb (e .size) 0) (NotFetched Opcode) (Instruction e at)
 unfoldable pub opcodeAt : Page → ℕ → ℕ → Fetched
 opcodeAt page code at = ofEntry (entryOf page code) at
 
--- the byte after a prefix: 4 past FFFF
-unfoldable pub secondByte : Page → List ℕ → ℕ → Fetched
-secondByte page mem pc = cond (ltb pc 0xFFFF) (opcodeAt page (byteAt mem (lowAt pc)) (pc + 2)) (NotFetched PastEnd)
-
--- 10 and 11 lead to the second and third page
-abbrev fetchedAs : List ℕ → ℕ → ℕ → Fetched
-fetchedAs mem pc code =
-    cond (eqb code 0x10) (secondByte Ten mem pc)
-    (cond (eqb code 0x11) (secondByte Eleven mem pc)
-    (opcodeAt Plain code (pc + 1)))
+abbrev ofPlace : Located → Fetched
+ofPlace (Place page code at) = opcodeAt page code at
+ofPlace (NoPlace x) = NotFetched x
 
 unfoldable pub fetched : List ℕ → ℕ → Fetched
-fetched mem pc = fetchedAs mem pc (byteAt mem pc)
+fetched mem pc = ofPlace (located mem pc)
 
 -- two bytes of operand follow the opcode
 abbrev pub isWide : ℕ → ℕ → ℕ → Bool
 isWide size pc at = eqb (pc + size) (at + 2)
 
 -- the address, then the operation; the registers have PC at the next instruction
+abbrev pub operated : List ℕ → Machine → Settings → Entry → Set → ℕ → Found
+operated mem m s e r ea = finished m (e .cycles) (evaluateOf (e .op) (s .flags) (s .«ram_top») mem r ea)
+
 abbrev pub ofAddress : List ℕ → Machine → Settings → Entry → Resolved → Found
-ofAddress mem m s e (At a) = finished m (e .cycles) (evaluateOf (e .op) (s .flags) (s .«ram_top») mem (a .regs) (a .ea))
+ofAddress mem m s e (At a) = operated mem m s e (a .regs) (a .ea)
 ofAddress mem m s e (NoAddress x) = refusedWith m x
 
 unfoldable pub executed : List ℕ → Machine → Settings → Entry → ℕ → Found

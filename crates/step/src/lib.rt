@@ -1,9 +1,11 @@
 // One step of the processor (exec_next of runtime.rs): fetch, table, address, evaluate; then the writes are stored.
 // What a step will do is found out first, so that a refusal has nothing to take back.
 ghost use mathlib.Core.Path.{_≡_};
-ghost use Rattle.step.specs.Step.{refusedWith, finished, opcodeAt, secondByte, fetched, isWide, executed, running, foundOf, carriedOut, memoryWith, stepOf, memoryAfterStep};
+ghost use Rattle.evaluate.specs.Effects.{changes};
+ghost use Rattle.step.specs.Step.{refusedWith, after, finished, secondByte, located, fetched, isWide, operated, executed, running, foundOf, carriedOut, memoryWith, stepOf, memoryAfterStep};
 use addressing::Resolved;
 use evaluate::Effect;
+use evaluate::Quiet;
 use evaluate::Wait;
 use memory::Answer;
 use memory::Refusal;
@@ -40,6 +42,12 @@ pub struct Stepped {
     pub answer: Answer,
 }
 
+// An opcode's place in the table, and the address after it.
+enum Located {
+    At(Page, u8, u32),
+    Refused(Refusal),
+}
+
 // An entry of the table and the address after the opcode.
 enum Fetched {
     Instruction(Entry, u32),
@@ -58,6 +66,28 @@ pub fn refused(machine: Machine, refusal: Refusal) -> Found
 }
 
 // An instruction that is carried out counts once, and its base cycles are added.
+fn advance(machine: Machine, cycles: u8, regs: Set, wait: Wait) -> Machine
+    ensures { λ r. ⌜ r ≡ after machine cycles regs wait ⌝ }
+{
+    Machine {
+        cycles: std::num::wrapping_add_u64(machine.cycles, cycles as u64),
+        instructions: std::num::wrapping_add_u64(machine.instructions, 1),
+        regs,
+        wait,
+    }
+}
+
+// An instruction that changes registers alone.
+fn change(machine: Machine, cycles: u8, regs: Set) -> Found
+    ensures { λ r. ⌜ r ≡ finished machine cycles (changes regs) ⌝ }
+{
+    Found {
+        writes: Writes::none(),
+        machine: advance(machine, cycles, regs, Wait::Running),
+        answer: Answer::Done,
+    }
+}
+
 fn finish(machine: Machine, cycles: u8, effect: Effect) -> Found
     ensures { λ r. ⌜ r ≡ finished machine cycles effect ⌝ }
 {
@@ -69,52 +99,50 @@ fn finish(machine: Machine, cycles: u8, effect: Effect) -> Found
         Answer::Refused(refusal) => refused(machine, refusal),
         Answer::Done => Found {
             writes,
-            machine: Machine {
-                cycles: std::num::wrapping_add_u64(machine.cycles, cycles as u64),
-                instructions: std::num::wrapping_add_u64(machine.instructions, 1),
-                regs,
-                wait,
-            },
+            machine: advance(machine, cycles, regs, wait),
             answer,
         },
     }
 }
 
-// A place that is not in the manual has no bytes, and is refused.
-fn opcode_at(page: Page, code: u8, at: u32) -> Fetched
-    ensures { λ r. ⌜ r ≡ opcodeAt page code at ⌝ }
-{
-    let entry = opcodes::lookup(page, code);
-    if entry.size == 0 {
-        Fetched::Refused(Refusal::Opcode)
-    } else {
-        Fetched::Instruction(entry, at)
-    }
-}
-
-fn second_byte(mem: &[u8], page: Page, pc: u16) -> Fetched
+// The byte after a prefix.
+fn second_byte(mem: &[u8], page: Page, pc: u16) -> Located
     ensures { λ r. ⌜ r ≡ secondByte page (now (mem .entry)) pc ⌝ }
 {
     if pc < 0xFFFF {
-        opcode_at(
-            page,
-            memory::read_u8(mem, std::num::wrapping_add_u16(pc, 1)),
-            pc as u32 + 2,
-        )
+        let code = memory::read_u8(mem, std::num::wrapping_add_u16(pc, 1));
+        Located::At(page, code, pc as u32 + 2)
     } else {
-        Fetched::Refused(Refusal::PastEnd)
+        Located::Refused(Refusal::PastEnd)
     }
 }
 
 // 10 and 11 are prefixes.
-fn fetch(mem: &[u8], pc: u16) -> Fetched
-    ensures { λ r. ⌜ r ≡ fetched (now (mem .entry)) pc ⌝ }
+fn locate(mem: &[u8], pc: u16) -> Located
+    ensures { λ r. ⌜ r ≡ located (now (mem .entry)) pc ⌝ }
 {
     let code = memory::read_u8(mem, pc);
     match code {
         0x10 => second_byte(mem, Page::Ten, pc),
         0x11 => second_byte(mem, Page::Eleven, pc),
-        _ => opcode_at(Page::Plain, code, pc as u32 + 1),
+        _ => Located::At(Page::Plain, code, pc as u32 + 1),
+    }
+}
+
+// A place that is not in the manual has no bytes, and is refused. The table is looked up here alone, so that it is compiled in once.
+fn fetch(mem: &[u8], pc: u16) -> Fetched
+    ensures { λ r. ⌜ r ≡ fetched (now (mem .entry)) pc ⌝ }
+{
+    match locate(mem, pc) {
+        Located::Refused(refusal) => Fetched::Refused(refusal),
+        Located::At(page, code, at) => {
+            let entry = opcodes::lookup(page, code);
+            if entry.size == 0 {
+                Fetched::Refused(Refusal::Opcode)
+            } else {
+                Fetched::Instruction(entry, at)
+            }
+        }
     }
 }
 
@@ -125,20 +153,40 @@ fn is_wide(size: u8, pc: u16, at: u32) -> bool
     pc as u64 + size as u64 == at as u64 + 2
 }
 
+// The operation at the address: most change registers alone, and no list of writes is made for them.
+fn operate(
+    mem: &[u8],
+    machine: Machine,
+    settings: Settings,
+    entry: Entry,
+    regs: Set,
+    ea: u16,
+) -> Found
+    ensures { λ r. ⌜ r ≡ operated (now (mem .entry)) machine settings entry regs ea ⌝ }
+{
+    let op = entry.op;
+    let flags = settings.flags;
+    match evaluate::evaluate_quiet(op, flags, mem, regs, ea) {
+        Quiet::After(after) => change(machine, entry.cycles, after),
+        Quiet::Refused(refusal) => refused(machine, refusal),
+        Quiet::No => {
+            let effect = evaluate::evaluate_rest(op, flags, settings.ram_top, mem, regs, ea);
+            finish(machine, entry.cycles, effect)
+        }
+    }
+}
+
 fn execute(mem: &[u8], machine: Machine, settings: Settings, entry: Entry, at: u32) -> Found
     ensures { λ r. ⌜ r ≡ executed (now (mem .entry)) machine settings entry at ⌝ }
 {
     let regs = machine.regs;
-    let op = entry.op;
     let mode = entry.mode;
-    let flags = settings.flags;
     let wide = is_wide(entry.size, regs.pc, at);
     match addressing::address(mem, regs, mode, at, wide) {
         Resolved::Refused(refusal) => refused(machine, refusal),
         Resolved::At(found) => {
             let after = found.regs;
-            let effect = evaluate::evaluate(op, flags, settings.ram_top, mem, after, found.ea);
-            finish(machine, entry.cycles, effect)
+            operate(mem, machine, settings, entry, after, found.ea)
         }
     }
 }

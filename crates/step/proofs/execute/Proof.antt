@@ -11,9 +11,9 @@ returns c = rw (c .refused .ensures, ← (c .before .before .before .before .bef
 
 returns-2 : tie.Need-returns-2
 unfolding executed
-returns-2 c = rw (c .finish .ensures, c .before .evaluate .ensures, ← (c .before .before .before .before .before .before .before .is-wide .ensures), ← (c .before .before .before .before .before .before .address .ensures), c .before .before .before .before .found .given .1)
+returns-2 c = rw (c .operate .ensures, ← (c .before .before .before .before .before .before .is-wide .ensures), ← (c .before .before .before .before .before .address .ensures), c .before .before .before .found .given .1)
 
 pub execute-spec : {M : Type 1} → statement M
 execute-spec =
     tie.close
-    (tie.spec (search needs) (search needs) (search needs) (search needs) (search needs) (search needs) (search needs) returns returns-2)
+    (tie.spec (search needs) (search needs) (search needs) (search needs) (search needs) (search needs) returns returns-2)

@@ -11,9 +11,9 @@ returns c = rw (c .refused .ensures, c .before .before .answer .given .1)
 
 returns-2 : tie.Need-returns-2
 unfolding finished
-returns-2 c = rw (c .wrapping-add-u642 .ensures, c .before .wrapping-add-u64 .ensures, c .before .before .enum-told .given .1)
+returns-2 c = rw (c .advance .ensures, c .before .enum-told .given .1)
 
 pub finish-spec : {M : Type 1} → statement M
 finish-spec =
     tie.close
-    (tie.spec (search needs) (search needs) (search needs) (search needs) (search needs) returns returns-2)
+    (tie.spec (search needs) (search needs) (search needs) (search needs) returns returns-2)
