@@ -2,5 +2,6 @@ pub mod Waits
 pub mod Sound
 pub mod Parting
 pub mod Transfers
+pub mod Pushes
 pub mod QuietLaws
 pub mod Unique

@@ -3,7 +3,7 @@
 use Prim.Native.Nat.{ℕ, _+_, _-_, _*_, _/_, _%_}
 use mathlib.Core.Bool.{Bool, true, false, cond}
 use mathlib.Core.List.{List, []}
-use lib.Dec.{ltb}
+use lib.Dec.{eqb, ltb}
 use Rattle.u8oru16.specs.declared.u8u16.the-variants.{u8}
 use Rattle.registers.specs.ConditionCodes.{bitAt, put}
 use Rattle.registers.specs.RegisterSet.{written}
@@ -45,6 +45,13 @@ pushedAll r other pointer mask system =
     (pushedWord (bitAt 6 mask) other system
     (pushedWord (bitAt 7 mask) (r .pc) system
     (record { writes = writesOf []; pointer = pointer }))))))))
+
+-- what bit 7, 6, 5 or 4 of the mask names, and bit 3, 2, 1 or 0
+abbrev pub wordNamed : Set → ℕ → ℕ → ℕ
+wordNamed r other k = cond (eqb k 7) (r .pc) (cond (eqb k 6) other (cond (eqb k 5) (r .y) (r .x)))
+
+abbrev pub byteNamed : Set → ℕ → ℕ
+byteNamed r k = cond (eqb k 3) (r .dp) (cond (eqb k 2) (r .b) (cond (eqb k 1) (r .a) (r .cc .reg)))
 
 -- how many bytes the mask names: two for each of its four high bits, one for each of its low ones
 abbrev pub bytesOf : ℕ → ℕ

@@ -9,7 +9,7 @@ ghost use Rattle.evaluate.specs.Effects.{changes, stores, refuses, oneWr
 ghost use Rattle.evaluate.specs.Bytes.{aluOf, unaryOf, writesBack, withOperand, onAccumulator, onMemory, store8};
 ghost use Rattle.evaluate.specs.Words.{load16, store16, compare16, addD, subtractD, loadIndex, loadAddress};
 ghost use Rattle.evaluate.specs.Branches.{less, condition, branchIf, jumped};
-ghost use Rattle.evaluate.specs.Stack.{pushedByte, pushedWord, pushedAll, bytesOf, pushing, pulledByte, pulledWordAt, pulledWord, pulledAll, pulling, returning, framed};
+ghost use Rattle.evaluate.specs.Stack.{wordNamed, byteNamed, pushedAll, bytesOf, pushing, pulledByte, pulledWordAt, pulledWord, pulledAll, pulling, returning, framed};
 ghost use Rattle.evaluate.specs.Interrupts.{called, vectored, served, vectorOf, maskOf, orCodes, andCodes, waiting};
 ghost use Rattle.evaluate.specs.Rest.{correction, corrected, daaOf, sexOf, mulOf, abxOf, transferable, transferName, transfer, exchange, synchronized};
 ghost use Rattle.evaluate.specs.Evaluate.{evaluateOf};
@@ -408,52 +408,71 @@ fn bit(byte: u8, k: u8) -> bool
     (byte >> k) % 2 == 1
 }
 
-fn push_byte(p: Pushed, on: bool, byte: u8, system: bool) -> Pushed
-    ensures { λ r. ⌜ r ≡ pushedByte on byte system p ⌝ }
+// What bit 7, 6, 5 or 4 of a mask names; `other` is the stack pointer not in use.
+fn word_named(regs: Set, other: u16, k: u8) -> u16
+    ensures { λ r. ⌜ r ≡ wordNamed regs other k ⌝ }
 {
-    let writes = p.writes;
-    if on {
-        let at = std::num::wrapping_sub_u16(p.pointer, 1);
-        Pushed {
-            writes: writes.add(Write { at, byte, system }),
-            pointer: at,
-        }
-    } else {
-        p
+    match k {
+        7 => regs.pc,
+        6 => other,
+        5 => regs.y,
+        _ => regs.x,
     }
 }
 
-fn push_word(p: Pushed, on: bool, word: u16, system: bool) -> Pushed
-    ensures { λ r. ⌜ r ≡ pushedWord on word system p ⌝ }
+// What bit 3, 2, 1 or 0 names.
+fn byte_named(regs: Set, k: u8) -> u8
+    ensures { λ r. ⌜ r ≡ byteNamed regs k ⌝ }
 {
-    let writes = p.writes;
-    if on {
-        let at = std::num::wrapping_sub_u16(p.pointer, 2);
-        Pushed {
-            writes: writes.add_word(at, word, system),
-            pointer: at,
-        }
-    } else {
-        p
+    match k {
+        3 => regs.dp,
+        2 => regs.b,
+        1 => regs.a,
+        _ => regs.cc.get_as_byte(),
     }
 }
 
-// The registers that the mask names, from PC down to CC; `other` is the stack pointer not in use.
+// The registers that the mask names, from PC down to CC: four words, then four bytes. The list is filled in place: a copy for each
+// register would cost more than the push.
 fn push_all(regs: Set, other: u16, pointer: u16, mask: u8, system: bool) -> Pushed
     ensures { λ r. ⌜ r ≡ pushedAll regs other pointer mask system ⌝ }
 {
-    let none = Pushed {
-        writes: Writes::none(),
-        pointer,
-    };
-    let pc = push_word(none, bit(mask, 7), regs.pc, system);
-    let su = push_word(pc, bit(mask, 6), other, system);
-    let y = push_word(su, bit(mask, 5), regs.y, system);
-    let x = push_word(y, bit(mask, 4), regs.x, system);
-    let dp = push_byte(x, bit(mask, 3), regs.dp, system);
-    let b = push_byte(dp, bit(mask, 2), regs.b, system);
-    let a = push_byte(b, bit(mask, 1), regs.a, system);
-    push_byte(a, bit(mask, 0), regs.cc.get_as_byte(), system)
+    let none = Writes::none();
+    let mut list = none.list;
+    let mut count: usize = 0;
+    let mut at = pointer;
+    let mut k: u8 = 8;
+    while k > 4 {
+        k -= 1;
+        if bit(mask, k) {
+            let word = word_named(regs, other, k);
+            at = std::num::wrapping_sub_u16(at, 2);
+            list[count] = Write {
+                at,
+                byte: (word / 256) as u8,
+                system,
+            };
+            list[count + 1] = Write {
+                at: std::num::wrapping_add_u16(at, 1),
+                byte: (word % 256) as u8,
+                system,
+            };
+            count += 2;
+        }
+    }
+    while k > 0 {
+        k -= 1;
+        if bit(mask, k) {
+            let byte = byte_named(regs, k);
+            at = std::num::wrapping_sub_u16(at, 1);
+            list[count] = Write { at, byte, system };
+            count += 1;
+        }
+    }
+    Pushed {
+        writes: Writes { count, list },
+        pointer: at,
+    }
 }
 
 // How many bytes the mask names.
