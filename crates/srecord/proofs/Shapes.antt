@@ -10,18 +10,18 @@ use lib.ListN.{length, getD, take, drop, length-drop}
 use lib.Seq.{length-take-le}
 use borrow.Author.Tests.{eq-eqb, ne-eqb, le-leb, lt-leb, leb-true}
 use Rattle.srecord.specs.Text.{isPaired, bytesOf, byteOf, isDigit, total}
-use Rattle.srecord.specs.Line.{Meaning, heading, piece, start, refused, mayHold, isCounted, isShaped, isSummed, bytes, addressOf, dataOf, meant, shown}
+use Rattle.srecord.specs.Line.{Meaning, heading, piece, start, refused, most, mayHold, isCounted, isShaped, isSummed, bytes, addressOf, dataOf, meant, shown}
 use Rattle.srecord.specs.declared.Line.the-variants.{Header, Data, End, Bad}
 use Rattle.srecord.specs.declared.Refusal.the-variants.{PastTop}
-use Rattle.srecord.proofs.Bools.{and-false, and-true, and-parts}
+use Rattle.srecord.proofs.Bools.{and-false, and-parts}
 use Rattle.srecord.proofs.Bytes.{line-bytes, byte-of}
 
-module _ (kind n : ℕ) (room : n ≤ 252) where
-  pub hold-0 : kind ≡ 48 → true ≡ mayHold kind n
-  hold-0 e = rw (e, le-leb n 252 room)
+module _ (kind n : ℕ) where
+  pub hold-0 : kind ≡ 48 → leb n most ≡ mayHold kind n
+  hold-0 e = rw e
 
-  pub hold-1 : kind ≡ 49 → ltb 0 n ≡ mayHold kind n
-  hold-1 e = rw (e, le-leb n 252 room) (sym (and-true (ltb 0 n)))
+  pub hold-1 : kind ≡ 49 → (ltb 0 n && leb n most) ≡ mayHold kind n
+  hold-1 e = rw e
 
   pub hold-9 : kind ≡ 57 → eqb n 0 ≡ mayHold kind n
   hold-9 e = rw e

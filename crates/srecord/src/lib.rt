@@ -6,7 +6,7 @@ ghost use Prim.Native.Nat.{_+_, _*_, _%_, _≤_, _<_};
 ghost use lib.ListN.{length, getD, take, drop};
 ghost use Rattle.srecord.specs.Answers.{numberOf, numberOfAnswer};
 ghost use Rattle.srecord.specs.Text.{kind9, isDigit, valueOf, digitOf, pair, byteOf, pairs, isPaired, bytesOf, total, textOf};
-ghost use Rattle.srecord.specs.Line.{isShaped, isSummed, mayHold, bytes, addressOf, dataOf, meant, lineOf, shown};
+ghost use Rattle.srecord.specs.Line.{most, isShaped, isSummed, mayHold, bytes, addressOf, dataOf, meant, lineOf, shown};
 ghost use Rattle.srecord.specs.File.{failed, meaningsOf, judged, laid, landed, loadedOf, memoryAfter};
 ghost use Rattle.srecord.specs.Code.{sameText, lineLength};
 ghost use Rattle.srecord.specs.Written.{stopped, rowsText, rowText, isZero, textFor, writtenOf, outputAfter};
@@ -134,14 +134,16 @@ fn sum_pairs(text: &[u8], n: usize) -> u8
     sum
 }
 
-// Whether a line of this kind may have n data bytes, which are at most 252: the count is a byte.
+// The most data bytes of a line: its count is a byte, and counts two bytes of address and the checksum too.
+const MOST: usize = 252;
+
+// Whether a line of this kind may have n data bytes.
 fn may_hold(kind: u8, n: usize) -> bool
-    requires { ⌜ n ≤ 252 ⌝ }
     ensures { λ r. ⌜ r ≡ mayHold kind n ⌝ }
 {
     match kind {
-        48 => true,
-        49 => 0 < n,
+        48 => n <= MOST,
+        49 => (0 < n) & (n <= MOST),
         57 => n == 0,
         _ => false,
     }
@@ -413,9 +415,9 @@ fn unwritten(refusal: Refusal) -> Written
     }
 }
 
-// One line. The data are at most 252 bytes, so that the count is a byte.
+// One line. The data are not too many, so that the count is a byte.
 fn put_line(out: &mut [u8], at: usize, kind: u8, address: u16, list: &[u8])
-    requires { ⌜ (length (now list) ≤ 252) × (at + (11 + 2 * length (now list)) ≤ length (now out)) ⌝ }
+    requires { ⌜ (length (now list) ≤ most) × (at + (11 + 2 * length (now list)) ≤ length (now out)) ⌝ }
     ensures { λ _. ⌜ now (out .exit) ≡ laid at (textOf kind address (now (list .entry))) (now (out .entry)) ⌝ }
 {
     let head = [83, kind];
