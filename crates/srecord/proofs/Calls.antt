@@ -11,13 +11,32 @@ use borrow.Author.Tests.{eq-eqb, ne-eqb, lt-ltb, le-ltb}
 use Rattle.srecord.specs.Text.{textOf}
 use Rattle.srecord.specs.File.{meaningsOf, judged, failed, laid, landed, allowed, loadedOf, memoryAfter}
 use Rattle.srecord.specs.Written.{rowOf, isZero, rowText, rowsText, textFor, stopped, writtenOf, outputAfter}
+use Rattle.srecord.specs.Answers.{numberOf, numberOfAnswer}
+use Rattle.srecord.specs.declared.Answer.{Answer}
 use Rattle.srecord.specs.declared.Answer.the-variants.{Done, Refused}
 use Rattle.srecord.specs.declared.Loaded.{Loaded}
 use Rattle.srecord.specs.declared.Refusal.{Refusal}
-use Rattle.srecord.specs.declared.Refusal.the-variants.{MemoryLength, OutputShort}
+use Rattle.srecord.specs.declared.Refusal.the-variants.{MemoryLength, OutputShort, Shape, Checksum, PastTop, NoEnd}
 use Rattle.srecord.specs.declared.Written.{Written}
 use Rattle.srecord.proofs.Laying.{laid-two}
 use Rattle.srecord.proofs.Rows.{text-length}
+
+-- only a call that is done has the number 0
+no-zero : (r : Refusal) → numberOf r ≡ 0 → ⊥
+no-zero MemoryLength e = omega arith
+no-zero OutputShort e = omega arith
+no-zero Shape e = omega arith
+no-zero Checksum e = omega arith
+no-zero PastTop e = omega arith
+no-zero NoEnd e = omega arith
+
+is-done : (x : Answer) → numberOfAnswer x ≡ 0 → x ≡ Done
+is-done Done e = refl
+is-done (Refused r) e = absurd (no-zero r e)
+
+kept : (x : Answer) (new old : List ℕ) → (numberOfAnswer x ≡ 0 → ⊥) → allowed x new old ≡ old
+kept Done new old n = absurd (n refl)
+kept (Refused r) new old n = refl
 
 module _ (mem file : List ℕ) where
   pub read-length : (length mem ≡ 65536 → ⊥) → (failed MemoryLength ≡ loadedOf mem file) × (mem ≡ memoryAfter mem file)
@@ -29,13 +48,13 @@ module _ (mem file : List ℕ) where
     unfolding loadedOf
     loaded = rw (eq-eqb (length mem) 65536 e) (sym j)
 
-    pub read-done : l .answer ≡ Done → (l ≡ loadedOf mem file) × (landed (meaningsOf file) mem ≡ memoryAfter mem file)
+    pub read-done : numberOfAnswer (l .answer) ≡ 0 → (l ≡ loadedOf mem file) × (landed (meaningsOf file) mem ≡ memoryAfter mem file)
     unfolding memoryAfter
-    read-done d = (sym loaded, rw (loaded, d))
+    read-done z = (sym loaded, rw (loaded, is-done (l .answer) z))
 
-    pub read-refused : (r : Refusal) → l .answer ≡ Refused r → (l ≡ loadedOf mem file) × (mem ≡ memoryAfter mem file)
+    pub read-refused : (numberOfAnswer (l .answer) ≡ 0 → ⊥) → (l ≡ loadedOf mem file) × (mem ≡ memoryAfter mem file)
     unfolding memoryAfter
-    read-refused r d = (sym loaded, rw (loaded, d))
+    read-refused n = (sym loaded, rw loaded (sym (kept (l .answer) (landed (meaningsOf file) mem) mem n)))
 
 row-bound : (mem : List ℕ) (k : ℕ) → length (rowText mem k) ≤ 75
 unfolding rowText

@@ -325,9 +325,8 @@ pub fn read(mem: &mut [u8], file: &[u8]) -> Loaded
     }
     let loaded = judge(file);
     let answer = loaded.answer;
-    match answer {
-        Answer::Done => store_lines(mem, file),
-        Answer::Refused(_) => {}
+    if answer.number() == 0 {
+        store_lines(mem, file);
     }
     loaded
 }
