@@ -17,7 +17,7 @@ use Rattle.srecord.specs.Promises.{Bytes, zeros, blank, ReadsBack, OneFo
 use Rattle.srecord.specs.declared.Loaded.{Loaded}
 use Rattle.srecord.proofs.Bools.{and-parts}
 use Rattle.srecord.proofs.Digits.{not-feed}
-use Rattle.srecord.proofs.Sound.{Each, each, each-take, each-drop, hold-kinds, all, are-bytes, text-is, reads}
+use Rattle.srecord.proofs.Sound.{Each, each, each-take, each-drop, hold-kinds, allBytes, are-bytes, text-is, reads}
 
 -- no line feed
 abbrev NoFeed : List ℕ → Type 0
@@ -43,8 +43,8 @@ line-cut : (kind a : ℕ) (d rest : List ℕ) → a < 65536 → Each d → mayHo
 unfolding meaningsOf
 line-cut kind a d rest low are may =
     let k = hold-kinds kind (length d) may in
-    let t = text-is kind a d low are may in
-    let p = pairs (all kind a d low are may) in
+    let t = text-is kind a d in
+    let p = pairs (allBytes a d) in
     let c = cut (83 ∷ kind ∷ p) rest ((λ e. omega arith), ((λ e. omega arith), no-feed _ (are-bytes kind a d low are may))) in
     let s : textOf kind a d ++ rest ≡ (83 ∷ kind ∷ p) ++ (10 ∷ rest) =
     rw t (ap (λ (l : List ℕ). 83 ∷ kind ∷ l) (append-assoc p (10 ∷ []) rest)) in
