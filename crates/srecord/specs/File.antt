@@ -23,6 +23,15 @@ unfoldable pub linesOf : List ℕ → List (List ℕ)
 linesOf [] = []
 linesOf (c ∷ t) = cond (eqb c lineFeed) ((c ∷ []) ∷ linesOf t) (joined c (linesOf t))
 
+-- the first line, if there is one
+abbrev pub first : List (List ℕ) → List ℕ
+first [] = []
+first (l ∷ ls) = l
+
+-- where the line that starts at an index ends: past its line feed, or at the end of the text
+unfoldable pub lineEnd : List ℕ → ℕ → ℕ
+lineEnd file from = from + length (first (linesOf (drop from file)))
+
 unfoldable pub meaningsOf : List ℕ → List Meaning
 meaningsOf file = map lineOf (linesOf file)
 

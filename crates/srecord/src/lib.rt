@@ -5,10 +5,9 @@ ghost use mathlib.Core.List.{[], _∷_};
 ghost use Prim.Native.Nat.{_+_, _*_, _%_, _≤_, _<_};
 ghost use lib.ListN.{length, getD, take, drop};
 ghost use Rattle.srecord.specs.Answers.{numberOf, numberOfAnswer};
-ghost use Rattle.srecord.specs.Text.{kind9, isDigit, valueOf, digitOf, pair, byteOf, pairs, isPaired, bytesOf, total, textOf};
+ghost use Rattle.srecord.specs.Text.{kind9, isDigit, valueOf, digitOf, pair, byteOf, pairs, isPaired, bytesOf, total, textOf, isSame};
 ghost use Rattle.srecord.specs.Line.{most, isShaped, isSummed, mayHold, bytes, addressOf, dataOf, meant, lineOf, shown};
-ghost use Rattle.srecord.specs.File.{failed, meaningsOf, judged, laid, landed, loadedOf, memoryAfter};
-ghost use Rattle.srecord.specs.Code.{sameText, lineLength};
+ghost use Rattle.srecord.specs.File.{lineEnd, failed, meaningsOf, judged, laid, landed, loadedOf, memoryAfter};
 ghost use Rattle.srecord.specs.Written.{stopped, rowsText, rowText, isZero, textFor, writtenOf, outputAfter};
 
 // Why a call is refused: numbers 1, 17 and 20 to 23.
@@ -201,7 +200,7 @@ fn meaning(text: &[u8]) -> Line
 }
 
 fn same(a: &[u8], b: &[u8]) -> bool
-    ensures { λ r. ⌜ r ≡ sameText (now (a .entry)) (now (b .entry)) ⌝ }
+    ensures { λ r. ⌜ r ≡ isSame (now (a .entry)) (now (b .entry)) ⌝ }
 {
     if a.len() != b.len() {
         return false;
@@ -234,7 +233,7 @@ pub fn line_of(text: &[u8]) -> Line
 
 // Where the line that starts here ends: past its line feed, or at the end of the file.
 pub fn line_end(file: &[u8], from: usize) -> usize
-    ensures { λ r. ⌜ r ≡ from + lineLength (drop from (now (file .entry))) ⌝ }
+    ensures { λ r. ⌜ r ≡ lineEnd (now (file .entry)) from ⌝ }
 {
     let mut i = from;
     while i < file.len() {
