@@ -7,9 +7,10 @@ use mathlib.Core.Bool.{Bool, true, false, cond}
 use mathlib.Core.List.{List, [], _∷_, _++_}
 use lib.Dec.{eqb, ltb}
 use lib.ListN.{length, take, drop, length-append, length-take}
+use lib.Seq.{sets}
 use borrow.Author.Tests.{eq-eqb, ne-eqb, lt-ltb, le-ltb}
 use Rattle.srecord.specs.Text.{textOf}
-use Rattle.srecord.specs.File.{meaningsOf, judged, failed, laid, landed, allowed, loadedOf, memoryAfter}
+use Rattle.srecord.specs.File.{meaningsOf, judged, failed, landed, allowed, loadedOf, memoryAfter}
 use Rattle.srecord.specs.Written.{rowOf, isZero, rowText, rowsText, textFor, stopped, writtenOf, outputAfter}
 use Rattle.srecord.specs.Answers.{numberOf, numberOfAnswer}
 use Rattle.srecord.specs.declared.Answer.{Answer}
@@ -18,7 +19,7 @@ use Rattle.srecord.specs.declared.Loaded.{Loaded}
 use Rattle.srecord.specs.declared.Refusal.{Refusal}
 use Rattle.srecord.specs.declared.Refusal.the-variants.{MemoryLength, OutputShort, Shape, Checksum, PastTop, NoEnd}
 use Rattle.srecord.specs.declared.Written.{Written}
-use Rattle.srecord.proofs.Laying.{laid-two}
+use Rattle.srecord.proofs.Laying.{sets-two}
 use Rattle.srecord.proofs.Rows.{text-length}
 
 -- only a call that is done has the number 0
@@ -92,13 +93,13 @@ module _ (mem : List ℕ) (a : ℕ) (out : List ℕ) where
         rw (eq-eqb (length mem) 65536 e, lt-ltb (length out) (length (textFor mem a)) (omega arith)) (refl, refl)
 
     pub write-done : (size at : ℕ) (mid new : List ℕ) → size ≡ length (rowsText mem 2048) + 11 → size ≤ length out → at ≡ length (rowsText mem 2048)
-        → mid ≡ laid 0 (rowsText mem 2048) out → new ≡ laid at (textOf 57 a []) mid
+        → mid ≡ sets out 0 (rowsText mem 2048) → new ≡ sets mid at (textOf 57 a [])
         → (_≡_ {A = Written} (record { count = size; answer = Done }) (writtenOf mem a out)) × (new ≡ outputAfter mem a out)
     unfolding writtenOf outputAfter textFor
     write-done size at mid new s h p f g =
         let n = all-length in
         let t = text-length 57 a [] in
         let k : size ≡ length (textFor mem a) = omega arith in
-        let o : new ≡ laid 0 (textFor mem a) out =
-        g ∙ rw f (laid-two 0 at (rowsText mem 2048) (textOf 57 a []) out (omega arith) (omega arith)) in
+        let o : new ≡ sets out 0 (textFor mem a) =
+        g ∙ rw f (sets-two 0 at (rowsText mem 2048) (textOf 57 a []) out (omega arith)) in
         rw (eq-eqb (length mem) 65536 e, le-ltb (length out) (length (textFor mem a)) (omega arith), k) (refl, o)

@@ -8,19 +8,17 @@ use mathlib.Core.Bool.{Bool, true, false, cond, _&&_}
 use mathlib.Core.List.{List, [], _∷_, _++_, map}
 use lib.Dec.{eqb, leb}
 use lib.ListN.{length, getD, take, drop, length-drop, drop-of-length-le}
-use lib.Seq.{drop-drop, length-take-le}
+use lib.Seq.{sets, length-sets, drop-drop, length-take-le}
 use borrow.Author.Tests.{eq-eqb, ne-eqb, leb-true}
 use Rattle.srecord.specs.Text.{isPaired, bytesOf, valueOf, total}
 use Rattle.srecord.specs.Line.{Meaning, heading, piece, start, refused, bytes, isShaped, isSummed, addressOf, dataOf, meant, lineOf, shown}
-use Rattle.srecord.specs.File.{joined, linesOf, first, lineEnd, meaningsOf, done, failed, ended, judged, laid, landed}
+use Rattle.srecord.specs.File.{joined, linesOf, first, lineEnd, meaningsOf, done, failed, ended, judged, landed}
 use Rattle.srecord.specs.Written.{plainEnd}
 use Rattle.srecord.specs.declared.Line.{Line}
 use Rattle.srecord.specs.declared.Line.the-variants.{Header, Data, End, Bad}
 use Rattle.srecord.specs.declared.Refusal.{Refusal}
 use Rattle.srecord.specs.declared.Refusal.the-variants.{Shape, Checksum, PastTop}
 use Rattle.srecord.proofs.Scan.{first-joined}
-use Rattle.srecord.proofs.Bytes.{data-length}
-use Rattle.srecord.proofs.Laying.{laid-length}
 use Rattle.srecord.proofs.Shapes.{shaped-length, shaped-room}
 
 -- a text whose first n characters are its first line
@@ -136,7 +134,7 @@ pub lands-none : (mem : List ℕ) → landed [] mem ≡ mem
 unfolding landed
 lands-none mem = refl
 
-pub lands : (m : Meaning) (ms : List Meaning) (mem : List ℕ) (a : ℕ) (d : List ℕ) → m ≡ piece a d → landed (m ∷ ms) mem ≡ landed ms (laid a d mem)
+pub lands : (m : Meaning) (ms : List Meaning) (mem : List ℕ) (a : ℕ) (d : List ℕ) → m ≡ piece a d → landed (m ∷ ms) mem ≡ landed ms (sets mem a d)
 unfolding landed
 lands m ms mem a d e = rw e
 
@@ -196,8 +194,5 @@ module _ (text : List ℕ) (a n : ℕ) where
           }
 
 -- memory keeps its length
-pub data-kept : (text : List ℕ) (a n : ℕ) (mem new : List ℕ) → IsData text a n → length mem ≡ 65536 → new ≡ laid a (take n (drop 3 (bytes text))) mem → length new ≡ 65536
-data-kept text a n mem new d e s =
-    let f = d .fits in
-    let c = data-length text n (d .room) in
-    ap length s ∙ laid-length a (take n (drop 3 (bytes text))) mem (omega arith) ∙ e
+pub data-kept : (text : List ℕ) (a n : ℕ) (mem new : List ℕ) → IsData text a n → length mem ≡ 65536 → new ≡ sets mem a (take n (drop 3 (bytes text))) → length new ≡ 65536
+data-kept text a n mem new d e s = ap length s ∙ length-sets mem a (take n (drop 3 (bytes text))) ∙ e

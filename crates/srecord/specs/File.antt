@@ -2,9 +2,10 @@
 -- Assumes nothing.
 use Prim.Native.Nat.{ℕ, _+_}
 use mathlib.Core.Bool.{Bool, true, false, cond}
-use mathlib.Core.List.{List, [], _∷_, _++_, map}
+use mathlib.Core.List.{List, [], _∷_, map}
 use lib.Dec.{eqb}
-use lib.ListN.{length, take, drop}
+use lib.ListN.{length, drop}
+use lib.Seq.{sets}
 use Rattle.srecord.specs.Text.{lineFeed}
 use Rattle.srecord.specs.Line.{Meaning, heading, piece, start, refused, lineOf}
 use Rattle.srecord.specs.declared.Answer.{Answer}
@@ -54,15 +55,11 @@ judged (piece a d ∷ ms) = judged ms
 judged (start a ∷ ms) = ended a ms
 judged (refused r ∷ ms) = failed r
 
--- a list with another over its part from a on
-unfoldable pub laid : ℕ → List ℕ → List ℕ → List ℕ
-laid a d mem = take a mem ++ (d ++ drop (a + length d) mem)
-
--- memory with the data of the S1 lines, in order
+-- memory with the data of the S1 lines stored, in order
 unfoldable pub landed : List Meaning → List ℕ → List ℕ
 landed [] mem = mem
 landed (heading d ∷ ms) mem = landed ms mem
-landed (piece a d ∷ ms) mem = landed ms (laid a d mem)
+landed (piece a d ∷ ms) mem = landed ms (sets mem a d)
 landed (start a ∷ ms) mem = landed ms mem
 landed (refused r ∷ ms) mem = landed ms mem
 

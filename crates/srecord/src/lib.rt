@@ -4,10 +4,11 @@ ghost use mathlib.Core.Bool.{true};
 ghost use mathlib.Core.List.{[], _∷_};
 ghost use Prim.Native.Nat.{_+_, _*_, _%_, _≤_, _<_};
 ghost use lib.ListN.{length, getD, take, drop};
+ghost use lib.Seq.{sets};
 ghost use Rattle.srecord.specs.Answers.{numberOf, numberOfAnswer};
 ghost use Rattle.srecord.specs.Text.{kind9, isDigit, valueOf, digitOf, pair, byteOf, pairs, isPaired, bytesOf, total, textOf, isSame};
 ghost use Rattle.srecord.specs.Line.{most, isShaped, isSummed, mayHold, bytes, addressOf, dataOf, meant, lineOf, shown};
-ghost use Rattle.srecord.specs.File.{lineEnd, failed, meaningsOf, judged, laid, landed, loadedOf, memoryAfter};
+ghost use Rattle.srecord.specs.File.{lineEnd, failed, meaningsOf, judged, landed, loadedOf, memoryAfter};
 ghost use Rattle.srecord.specs.Written.{stopped, rowsText, rowText, isZero, textFor, writtenOf, outputAfter};
 
 // Why a call is refused: numbers 1, 17 and 20 to 23.
@@ -286,7 +287,7 @@ fn judge(file: &[u8]) -> Loaded
 // The data of an S1 line, stored from its address on.
 fn store_data(mem: &mut [u8], text: &[u8], address: u16, count: usize)
     requires { ⌜ (address + count ≤ length (now mem)) × (11 + 2 * count ≤ length (now text)) ⌝ }
-    ensures { λ _. ⌜ now (mem .exit) ≡ laid address (take count (drop 3 (bytes (now (text .entry))))) (now (mem .entry)) ⌝ }
+    ensures { λ _. ⌜ now (mem .exit) ≡ sets (now (mem .entry)) address (take count (drop 3 (bytes (now (text .entry))))) ⌝ }
 {
     let first = address as usize;
     let mut i = 0;
@@ -363,7 +364,7 @@ fn rows_length(mem: &[u8]) -> usize
 
 fn put_pair(out: &mut [u8], at: usize, b: u8)
     requires { ⌜ at + 2 ≤ length (now out) ⌝ }
-    ensures { λ _. ⌜ now (out .exit) ≡ laid at (pair b) (now (out .entry)) ⌝ }
+    ensures { λ _. ⌜ now (out .exit) ≡ sets (now (out .entry)) at (pair b) ⌝ }
 {
     out[at] = digit(b / 16);
     out[at + 1] = digit(b % 16);
@@ -371,7 +372,7 @@ fn put_pair(out: &mut [u8], at: usize, b: u8)
 
 fn put_pairs(out: &mut [u8], at: usize, list: &[u8])
     requires { ⌜ at + 2 * length (now list) ≤ length (now out) ⌝ }
-    ensures { λ _. ⌜ now (out .exit) ≡ laid at (pairs (now (list .entry))) (now (out .entry)) ⌝ }
+    ensures { λ _. ⌜ now (out .exit) ≡ sets (now (out .entry)) at (pairs (now (list .entry))) ⌝ }
 {
     let mut i = 0;
     while i < list.len() {
@@ -382,7 +383,7 @@ fn put_pairs(out: &mut [u8], at: usize, list: &[u8])
 
 fn put_text(out: &mut [u8], at: usize, text: &[u8])
     requires { ⌜ at + length (now text) ≤ length (now out) ⌝ }
-    ensures { λ _. ⌜ now (out .exit) ≡ laid at (now (text .entry)) (now (out .entry)) ⌝ }
+    ensures { λ _. ⌜ now (out .exit) ≡ sets (now (out .entry)) at (now (text .entry)) ⌝ }
 {
     let mut i = 0;
     while i < text.len() {
@@ -416,7 +417,7 @@ fn unwritten(refusal: Refusal) -> Written
 // One line. The data are not too many, so that the count is a byte.
 fn put_line(out: &mut [u8], at: usize, kind: u8, address: u16, list: &[u8])
     requires { ⌜ (length (now list) ≤ most) × (at + (11 + 2 * length (now list)) ≤ length (now out)) ⌝ }
-    ensures { λ _. ⌜ now (out .exit) ≡ laid at (textOf kind address (now (list .entry))) (now (out .entry)) ⌝ }
+    ensures { λ _. ⌜ now (out .exit) ≡ sets (now (out .entry)) at (textOf kind address (now (list .entry))) ⌝ }
 {
     let head = [83, kind];
     put_text(out, at, &head);
@@ -436,7 +437,7 @@ fn put_line(out: &mut [u8], at: usize, kind: u8, address: u16, list: &[u8])
 // The rows of memory that are not all zero, each as an S1 line; and where they end.
 fn put_rows(mem: &[u8], out: &mut [u8]) -> usize
     requires { ⌜ (length (now mem) ≡ 65536) × (length (rowsText (now mem) 2048) ≤ length (now out)) ⌝ }
-    ensures { λ r. ⌜ (r ≡ length (rowsText (now (mem .entry)) 2048)) × (now (out .exit) ≡ laid 0 (rowsText (now (mem .entry)) 2048) (now (out .entry))) ⌝ }
+    ensures { λ r. ⌜ (r ≡ length (rowsText (now (mem .entry)) 2048)) × (now (out .exit) ≡ sets (now (out .entry)) 0 (rowsText (now (mem .entry)) 2048)) ⌝ }
 {
     let mut at = 0;
     let mut k: u16 = 0;
@@ -456,7 +457,7 @@ fn put_rows(mem: &[u8], out: &mut [u8]) -> usize
 // The S9 line: a fixed text for the start 0000.
 fn put_end(out: &mut [u8], at: usize, start: u16)
     requires { ⌜ at + 11 ≤ length (now out) ⌝ }
-    ensures { λ _. ⌜ now (out .exit) ≡ laid at (textOf kind9 start []) (now (out .entry)) ⌝ }
+    ensures { λ _. ⌜ now (out .exit) ≡ sets (now (out .entry)) at (textOf kind9 start []) ⌝ }
 {
     if start == 0 {
         put_text(out, at, b"S9030000FC\n");
