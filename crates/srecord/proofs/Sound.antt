@@ -125,4 +125,4 @@ module _ (kind a : ℕ) (d : List ℕ) (low : a < 65536) (are : Each d) (may : m
       rw (text-is kind a d, sound (83 ∷ kind ∷ (pairs all ++ (10 ∷ []))) s (rw b is-summed), b, address-is, data-is)
 
 pub line-reads : LineReads
-line-reads kind a d low are may = reads kind a d low (each d are) may
+line-reads text kind a d l = ap lineOf (l .exact) ∙ reads kind a d (l .address) (each d (l .values)) (l .count)

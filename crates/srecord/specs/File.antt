@@ -55,7 +55,7 @@ judged (piece a d ∷ ms) = judged ms
 judged (start a ∷ ms) = ended a ms
 judged (refused r ∷ ms) = failed r
 
--- memory with the data of the S1 lines stored, in order
+-- memory with the data of each S1 line stored from its address on, raw and in order
 unfoldable pub landed : List Meaning → List ℕ → List ℕ
 landed [] mem = mem
 landed (heading d ∷ ms) mem = landed ms mem

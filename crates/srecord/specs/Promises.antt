@@ -23,17 +23,16 @@ zeros n = replicate n 0
 unfoldable pub blank : List ℕ
 blank = zeros 65536
 
--- a line of the format, of each kind and as many data bytes as it may have, means what it says
-abbrev pub LineReads : Type 0
-LineReads =
-    (kind a : ℕ) (d : List ℕ) → a < 65536 → Bytes d → mayHold kind (length d) ≡ true → lineOf (textOf kind a d) ≡ meant kind a d
-
 -- a line of the format: the text of a kind, an address and as many data bytes as the kind may have
 pub record IsLine (text : List ℕ) (kind a : ℕ) (d : List ℕ) : Type 0 where
   pub address : a < 65536
   pub values : Bytes d
   pub count : mayHold kind (length d) ≡ true
   pub exact : text ≡ textOf kind a d
+
+-- a line of the format means what it says
+abbrev pub LineReads : Type 0
+LineReads = (text : List ℕ) (kind a : ℕ) (d : List ℕ) → IsLine text kind a d → lineOf text ≡ meant kind a d
 
 -- which line a text is, by what it means; the address of an S0 line says nothing
 abbrev pub Stands : List ℕ → Meaning → Type 0
