@@ -170,14 +170,14 @@ fn shaped(text: &[u8]) -> bool
     may_hold(text[1], n)
 }
 
-// Whether the last byte is the checksum of those before it.
+// Whether the last byte is the checksum of those before it: the complement of the low byte of their sum.
 fn summed(text: &[u8]) -> bool
     requires { ⌜ isShaped (now text) ≡ true ⌝ }
     ensures { λ r. ⌜ r ≡ isSummed (bytes (now (text .entry))) ⌝ }
 {
     let n = (text.len() - 11) / 2 + 3;
     let sum = sum_pairs(text, n);
-    byte_at(text, 2 + 2 * n) == 255 - sum
+    byte_at(text, 2 + 2 * n) == !sum
 }
 
 // What a sound line says.
@@ -430,7 +430,7 @@ fn put_line(out: &mut [u8], at: usize, kind: u8, address: u16, list: &[u8])
     put_pairs(out, at + 8, list);
     let sum = std::num::wrapping_add_u8(sum_of(&fields), sum_of(list));
     let after = at + 8 + 2 * list.len();
-    put_pair(out, after, 255 - sum);
+    put_pair(out, after, !sum);
     put_text(out, after + 2, b"\n");
 }
 

@@ -15,4 +15,4 @@ returns c =
     (sum-fields _ _ _ _ _ (c .before .before .before .before .before .before .before .before .before .wrapping-add-u8 .ensures ∙ rw (c .before .before .before .before .before .before .before .before .before .before .before .sum-of .ensures, c .before .before .before .before .before .before .before .before .before .before .sum-of2 .ensures)))
 
 pub put-line-spec : {M : Type 1} → statement M
-put-line-spec = tie.close (tie.spec (search needs) (search needs) (search needs) (search needs) (search needs) (search needs) (search needs) (search needs) (search needs) (search needs) (search needs) (search needs) (search needs) (search needs) (search needs) (search needs) (search needs) (search needs) (search needs) (search needs) (search needs) (search needs) (search needs) (search needs) returns)
+put-line-spec = tie.close (tie.spec (search needs) (search needs) (search needs) (search needs) (search needs) (search needs) (search needs) (search needs) (search needs) (search needs) (search needs) (search needs) (search needs) (search needs) (search needs) (search needs) (search needs) (search needs) (search needs) (search needs) (search needs) (search needs) (search needs) returns)
