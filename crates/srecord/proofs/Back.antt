@@ -3,17 +3,17 @@
 use Prim.Native.Nat.{ℕ, zero, suc, _+_, _-_, _*_, _/_, _%_, _≤_, _<_}
 use native.Mathlib.Omega.{arith}
 use mathlib.Core.Path.{_≡_, refl, sym, ap, _∙_}
-use mathlib.Core.Bool.{Bool, true, false, cond, _&&_}
+use mathlib.Core.Bool.{Bool, true, false, cond}
 use mathlib.Core.List.{List, [], _∷_, _++_, append-assoc, append-nil, map}
-use lib.Dec.{eqb, leb}
-use lib.ListN.{length, getD, take, drop, replicate, length-append, length-take, length-drop, length-replicate, take-append-drop, drop-of-length-le}
-use lib.Seq.{sets, sets-eq, take-at, drop-at, drop-append-add, drop-drop, take-add, length-take-le, take-all}
+use lib.Dec.{eqb}
+use lib.ListN.{length, take, drop, length-append, length-drop, length-replicate, take-append-drop, drop-of-length-le}
+use lib.Seq.{sets, sets-eq, take-at, drop-append-add, drop-drop, take-add, length-take-le, take-all}
 use borrow.Author.Tests.{eq-eqb, ne-eqb, le-leb, eqb-true}
-use Rattle.srecord.specs.Text.{digitOf, pair, pairs, textOf}
-use Rattle.srecord.specs.Line.{Meaning, heading, piece, start, refused, mayHold, meant, lineOf}
-use Rattle.srecord.specs.File.{joined, linesOf, meaningsOf, done, judged, landed, loadedOf, memoryAfter}
+use Rattle.srecord.specs.Text.{pairs, textOf}
+use Rattle.srecord.specs.Line.{Meaning, piece, start, mayHold, meant, lineOf}
+use Rattle.srecord.specs.File.{linesOf, meaningsOf, done, judged, landed, loadedOf, memoryAfter}
 use Rattle.srecord.specs.Written.{rowOf, isZero, rowText, rowsText, textFor}
-use Rattle.srecord.specs.Promises.{Bytes, zeros, blank, ReadsBack, OneForm}
+use Rattle.srecord.specs.Promises.{zeros, blank, ReadsBack, OneForm}
 use Rattle.srecord.specs.declared.Loaded.{Loaded}
 use Rattle.srecord.proofs.Bools.{and-parts}
 use Rattle.srecord.proofs.Digits.{not-feed}

@@ -1,7 +1,7 @@
 -- Tests that are joined.
 -- Assumes nothing.
-use mathlib.Core.Path.{_≡_, refl, sym, ap, _∙_}
-use mathlib.Core.Bool.{Bool, true, false, cond, _&&_}
+use mathlib.Core.Path.{_≡_, refl}
+use mathlib.Core.Bool.{Bool, true, false, _&&_}
 
 pub and-false : (a : Bool) → (a && false) ≡ false
 and-false true = refl

@@ -3,14 +3,14 @@
 use Prim.Native.Nat.{ℕ, zero, suc, _+_, _-_, _*_, _/_, _%_, _≤_, _<_}
 use native.Mathlib.Omega.{arith}
 use mathlib.Core.Path.{_≡_, refl, sym, ap, _∙_}
-use mathlib.Core.Bool.{Bool, true, false, cond, _&&_, _||_}
+use mathlib.Core.Bool.{Bool, true, false, cond, _&&_}
 use mathlib.Core.List.{List, [], _∷_, _++_}
 use lib.Dec.{eqb, leb, ltb}
 use lib.ListN.{length, getD, take, drop}
 use lib.Seq.{length-take-le, take-length}
 use borrow.Author.Tests.{eqb-true, leb-true, lt-ltb, le-ltb}
 use Rattle.srecord.specs.Text.{isFigure, isCapital, isDigit, valueOf, digitOf, byteOf, pairs, isPaired, bytesOf, checksum, summed, textOf}
-use Rattle.srecord.specs.Line.{Meaning, heading, piece, start, refused, mayHold, isShaped, isSummed, isCounted, bytes, addressOf, dataOf, meant, lineOf}
+use Rattle.srecord.specs.Line.{refused, mayHold, isShaped, isSummed, bytes, addressOf, dataOf, meant, lineOf}
 use Rattle.srecord.specs.Promises.{Bytes, IsLine, Stands, LineExact}
 use Rattle.srecord.specs.declared.Refusal.the-variants.{Shape, Checksum}
 use Rattle.srecord.proofs.Bools.{and-parts}

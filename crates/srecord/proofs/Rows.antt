@@ -4,11 +4,11 @@ use Prim.Native.Nat.{ℕ, zero, suc, _+_, _-_, _*_, _/_, _%_, _^_, _≤_, _<_}
 use native.Mathlib.Omega.{arith}
 use native.Mathlib.Numerals.{add-one}
 use mathlib.Core.Path.{_≡_, refl, sym, ap, _∙_}
-use mathlib.Core.Bool.{Bool, true, false, cond}
+use mathlib.Core.Bool.{Bool, true, false}
 use mathlib.Core.List.{List, [], _∷_, _++_, append-assoc, append-nil}
 use lib.ListN.{length, take, drop, length-append, length-drop}
 use lib.Seq.{sets, length-sets, length-take-le}
-use Rattle.srecord.specs.Text.{pair, pairs, total, checksum, summed, textOf, digitOf}
+use Rattle.srecord.specs.Text.{pair, pairs, total, summed, textOf, digitOf}
 use Rattle.srecord.specs.Written.{rowOf, isZero, rowText, rowsText, plainEnd}
 use Rattle.srecord.proofs.Laying.{sets-two, pairs-length}
 

@@ -2,19 +2,19 @@
 -- Assumes nothing.
 use Prim.Native.Nat.{ℕ, _+_, _-_, _*_, _/_, _%_, _≤_, _<_}
 use native.Mathlib.Omega.{arith}
-use mathlib.Core.Path.{_≡_, refl, sym, ap, _∙_}
-use mathlib.Core.Bool.{Bool, true, false, cond, _&&_}
+use mathlib.Core.Path.{_≡_, refl, sym, _∙_}
+use mathlib.Core.Bool.{Bool, true, false, _&&_}
 use mathlib.Core.List.{List, [], _∷_}
 use lib.Dec.{eqb, leb, ltb}
 use lib.ListN.{length, getD, take, drop, length-drop}
 use lib.Seq.{length-take-le}
 use borrow.Author.Tests.{eq-eqb, ne-eqb, le-leb, lt-leb, leb-true, eqb-true}
 use Rattle.srecord.specs.Text.{isPaired, bytesOf, byteOf, isDigit, total}
-use Rattle.srecord.specs.Line.{Meaning, heading, piece, start, refused, most, mayHold, isCounted, isShaped, isSummed, bytes, addressOf, dataOf, meant, shown}
+use Rattle.srecord.specs.Line.{most, mayHold, isCounted, isShaped, isSummed, bytes, addressOf, dataOf, meant, shown}
 use Rattle.srecord.specs.declared.Line.the-variants.{Header, Data, End, Bad}
 use Rattle.srecord.specs.declared.Refusal.the-variants.{PastTop}
 use Rattle.srecord.proofs.Bools.{and-false, and-parts}
-use Rattle.srecord.proofs.Bytes.{line-bytes, byte-of}
+use Rattle.srecord.proofs.Bytes.{byte-of}
 
 module _ (kind n : ℕ) where
   pub hold-0 : kind ≡ 48 → leb n most ≡ mayHold kind n

@@ -1,15 +1,15 @@
 // Motorola S-records (document 02, request [1]): a file of S0, S1 and S9 lines read into a memory, and a memory written as one.
 ghost use mathlib.Core.Path.{_≡_};
 ghost use mathlib.Core.Bool.{true};
-ghost use mathlib.Core.List.{[], _∷_};
+ghost use mathlib.Core.List.{[]};
 ghost use Prim.Native.Nat.{_+_, _*_, _%_, _≤_, _<_};
 ghost use lib.ListN.{length, getD, take, drop};
 ghost use lib.Seq.{sets};
 ghost use Rattle.srecord.specs.Answers.{numberOf, numberOfAnswer};
-ghost use Rattle.srecord.specs.Text.{kind9, isDigit, valueOf, digitOf, pair, byteOf, pairs, isPaired, bytesOf, total, textOf, isSame};
+ghost use Rattle.srecord.specs.Text.{kind9, isDigit, valueOf, digitOf, pair, byteOf, pairs, isPaired, total, textOf, isSame};
 ghost use Rattle.srecord.specs.Line.{most, isShaped, isSummed, mayHold, bytes, addressOf, dataOf, meant, lineOf, shown};
 ghost use Rattle.srecord.specs.File.{lineEnd, failed, meaningsOf, judged, landed, loadedOf, memoryAfter};
-ghost use Rattle.srecord.specs.Written.{stopped, rowsText, rowText, isZero, textFor, writtenOf, outputAfter};
+ghost use Rattle.srecord.specs.Written.{stopped, rowsText, isZero, writtenOf, outputAfter};
 
 // Why a call is refused: numbers 1, 17 and 20 to 23.
 pub enum Refusal {

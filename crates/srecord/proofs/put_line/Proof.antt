@@ -2,7 +2,6 @@
 -- Assumes nothing.
 use borrow.Author.Needs.{needs}
 use mathlib.Core.Path.{_∙_}
-use native.Mathlib.Omega.{arith}
 use denote.Ref.{now}
 use Rattle.srecord.proofs.Rows.{sum-fields, line-put}
 use Rattle.srecord.proofs.put_line.Statement.{statement}
