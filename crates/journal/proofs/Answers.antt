@@ -7,7 +7,7 @@ use mathlib.Core.List.{List, [], _++_, append-assoc, append-nil}
 use native.Mathlib.Omega.{arith}
 use lib.Dec.{leb, eqb}
 use lib.ListN.{length, take, drop, length-append, length-drop}
-use lib.Seq.{take-all, drop-drop, drop-length}
+use lib.Seq.{sets-eq, take-all, drop-drop, drop-length}
 use borrow.Author.Tests.{eq-eqb, ne-eqb, le-leb, lt-leb, lt-ltb, le-ltb, eqb-true, leb-true}
 use Rattle.memory.specs.Writes.{writesOf, listed, stored, reported}
 use Rattle.memory.specs.declared.Answer.{Answer}
@@ -109,7 +109,7 @@ placed u r j last h e l =
     let m : length r + (length j - (u * 68 + 68)) ≡ length last = sym (ap length e2 ∙ simp (length-append, length-drop)) in
     let w : length r ≡ 68 = omega arith in
     let z : drop (length j - u * 68) (drop (u * 68) j) ≡ [] = rw (← n) (drop-length (drop (u * 68) j)) in
-    rw (z, e2, append-nil, w) (sym (append-assoc (take (u * 68) j) r (drop (u * 68 + 68) j)))
+    rw (z, e2, append-nil, sets-eq r j (u * 68) (omega arith), w) (sym (append-assoc (take (u * 68) j) r (drop (u * 68 + 68) j)))
 
 -- ---- the newest record
 

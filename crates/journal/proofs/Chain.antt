@@ -5,7 +5,7 @@ use mathlib.Core.List.{List, [], _∷_, _++_, append-assoc}
 use Prim.Native.Nat.{ℕ, _+_, _*_, _≤_, _<_}
 use native.Mathlib.Omega.{arith}
 use lib.ListN.{length, take, drop, length-append, length-drop, take-append-drop}
-use lib.Seq.{take-append-le, drop-append-le, take-at, drop-at, length-take-le}
+use lib.Seq.{sets-eq, take-append-le, drop-append-le, take-at, drop-at, length-take-le}
 use Rattle.memory.specs.Fits.{Bytes}
 use Rattle.step.specs.Laws.{MachineFits}
 use Rattle.journal.specs.Record.{Saved, encode}
@@ -29,7 +29,7 @@ module _ (u : ℕ) (r j : List ℕ) (whole : length r ≡ 68) (space : u * 68 + 
 
   parts : withRecord u r j ≡ take (u * 68) j ++ (r ++ drop (u * 68 + 68) j)
   unfolding withRecord
-  parts = rw whole (append-assoc (take (u * 68) j) r (drop (u * 68 + 68) j))
+  parts = sets-eq r j (u * 68) (omega arith) ∙ rw whole (append-assoc (take (u * 68) j) r (drop (u * 68 + 68) j))
 
   -- the bytes before a record stay
   pub earlier-stay : take (u * 68) (withRecord u r j) ≡ take (u * 68) j

@@ -1,38 +1,27 @@
--- The record as it is written: parts laid one after another, entries, count and zeros.
+-- The record as it is written: parts sets another one after, entries, count and zeros.
 -- Assumes nothing.
 use mathlib.Core.Path.{_≡_, refl, sym, ap, _∙_}
 use mathlib.Core.List.{List, [], _∷_, _++_, append-assoc, append-nil}
 use Prim.Native.Nat.{ℕ, zero, suc, _+_, _-_, _*_, _/_, _%_, _≤_, _<_}
-use native.Mathlib.Nat.{sub-zero, add-zero}
+use native.Mathlib.Nat.{sub-zero}
 use native.Mathlib.Numerals.{add-one}
 use native.Mathlib.Omega.{arith}
-use lib.ListN.{length, getD, take, drop, set, replicate, length-append, take-append-drop}
-use lib.Seq.{take-at, take-suc, drop-drop, drop-append-add, length-take-le}
+use lib.ListN.{length, getD, take, drop, set, replicate, length-append}
+use lib.Seq.{sets, sets-eq, take-suc, drop-drop, length-take-le}
 use Rattle.memory.specs.Map.{landingOf}
 use Rattle.memory.specs.declared.Landing.{Landing}
 use Rattle.memory.specs.declared.Landing.the-variants.{Stored, Device, Ignored}
 use Rattle.memory.specs.declared.Write.{Write}
 use Rattle.step.specs.declared.Machine.{Machine}
-use Rattle.journal.specs.Record.{Saved, bytes, front, header, entries, encode, laid}
+use Rattle.journal.specs.Record.{Saved, bytes, front, header, entries, encode}
 use Rattle.journal.specs.Calls.{savedAt, savedFor}
 
 -- ---- parts
 
-after : (d p q : List ℕ) (k : ℕ) → length p ≡ k → laid k q (p ++ drop k d) ≡ (p ++ q) ++ drop (k + length q) d
-after d p q k l =
-    let e : drop (k + length q) (p ++ drop k d) ≡ drop (k + length q) d = rw (← l) (drop-append-add p (drop (length p) d) (length q) ∙ drop-drop (length q) (length p) d) in
-    rw (take-at p (drop k d) k l, e)
-
 -- one part more
-pub laid-more : (d p q : List ℕ) (k n : ℕ) → k ≤ length d → k + length p ≡ n → laid n q (laid k p d) ≡ laid k (p ++ q) d
-laid-more d p q k n h e =
-    let l : length (take k d ++ p) ≡ n = rw (length-append, length-take-le k d h) e in
-    let f : n + length q ≡ k + length (p ++ q) = rw length-append (omega arith) in
-    rw e (after d (take k d ++ p) q n l ∙ rw (f, append-assoc (take k d) p q))
-
--- no part
-pub laid-none : (d : List ℕ) (k : ℕ) → d ≡ laid k [] d
-laid-none d k = rw (add-zero, append-nil) (sym (take-append-drop k d))
+sets-more : (d p q : List ℕ) (k n : ℕ) → k + length p ≡ n → sets (sets d k p) n q ≡ sets d k (p ++ q)
+sets-more d [] q k n e = let f : n ≡ k = omega arith in rw f
+sets-more d (v ∷ p) q k n e = sets-more (set d k v) p q (suc k) n (omega arith)
 
 -- ---- numbers
 
@@ -53,16 +42,33 @@ eight x =
 
 -- ---- the header, and zeros after it
 
+-- four parts from the front on
+four : (d a b c z : List ℕ) → length a ≡ 15 → length b ≡ 8 → length c ≡ 8 → length z ≡ 37 → 68 ≤ length d
+    → sets (sets (sets (sets d 0 a) 15 b) 23 c) 31 z ≡ (a ++ (b ++ c)) ++ (z ++ drop 68 d)
+four d a b c z la lb lc lz h =
+    let lab = length-append a b in
+    let labc = length-append (a ++ b) c in
+    let labcz = length-append ((a ++ b) ++ c) z in
+    let w : length (((a ++ b) ++ c) ++ z) ≡ 68 = omega arith in
+    ap (λ (l : List ℕ). sets (sets l 23 c) 31 z) (sets-more d a b 0 15 (omega arith))
+    ∙ ap (λ (l : List ℕ). sets l 31 z) (sets-more d (a ++ b) c 0 23 (omega arith))
+    ∙ sets-more d ((a ++ b) ++ c) z 0 31 (omega arith)
+    ∙ sets-eq (((a ++ b) ++ c) ++ z) d 0 (omega arith)
+    ∙ rw w (append-assoc ((a ++ b) ++ c) z (drop 68 d) ∙ ap (λ (l : List ℕ). l ++ (z ++ drop 68 d)) (append-assoc a b c))
+
+length-front : (m : Machine) → length (front m) ≡ 15
+unfolding front bytes
+length-front m = refl
+
+length-eight : (x : ℕ) → length (bytes 8 x) ≡ 8
+unfolding bytes
+length-eight x = refl
+
 pub header-laid : (m : Machine) (d : List ℕ) → 68 ≤ length d
-    → laid 31 (replicate 37 0) (laid 23 (bytes 8 (m .instructions)) (laid 15 (bytes 8 (m .cycles)) (laid 0 (front m) d))) ≡ header m ++ (replicate 37 0 ++ drop 68 d)
-unfolding header front bytes
+    → sets (sets (sets (sets d 0 (front m)) 15 (bytes 8 (m .cycles))) 23 (bytes 8 (m .instructions))) 31 (replicate 37 0) ≡ header m ++ (replicate 37 0 ++ drop 68 d)
+unfolding header
 header-laid m d h =
-    let f = front m in
-    let c = bytes 8 (m .cycles) in
-    let n = bytes 8 (m .instructions) in
-    ap (λ (l : List ℕ). laid 31 (replicate 37 0) (laid 23 n l)) (laid-more d f c 0 15 (omega arith) refl)
-    ∙ ap (λ (l : List ℕ). laid 31 (replicate 37 0) l) (laid-more d (f ++ c) n 0 23 (omega arith) refl)
-    ∙ laid-more d (f ++ c ++ n) (replicate 37 0) 0 31 (omega arith) refl
+    four d (front m) (bytes 8 (m .cycles)) (bytes 8 (m .instructions)) (replicate 37 0) (length-front m) (length-eight (m .cycles)) (length-eight (m .instructions)) refl h
 
 -- ---- the entries
 
@@ -91,12 +97,12 @@ module _ (top : ℕ) (list : List Write) (i : ℕ) (none : Write) (full : length
       → n + length (savedAt mem (landingOf (getD list i none .at) top (getD list i none .system))) ≡ length (savedFor top (take (i + 1) list) mem)
   turn-count n e = rw (saved-next, length-append, e)
 
-  pub turn-laid : (n : ℕ) (d : List ℕ) → n ≡ length (savedFor top (take i list) mem) → 68 ≤ length d
-      → laid (32 + n * 3) (entries (savedAt mem (landingOf (getD list i none .at) top (getD list i none .system)))) (laid 32 (entries (savedFor top (take i list) mem)) d)
-      ≡ laid 32 (entries (savedFor top (take (i + 1) list) mem)) d
-  turn-laid n d e l =
+  pub turn-laid : (n : ℕ) (d : List ℕ) → n ≡ length (savedFor top (take i list) mem)
+      → sets (sets d 32 (entries (savedFor top (take i list) mem))) (32 + n * 3) (entries (savedAt mem (landingOf (getD list i none .at) top (getD list i none .system))))
+      ≡ sets d 32 (entries (savedFor top (take (i + 1) list) mem))
+  turn-laid n d e =
       rw (saved-next, entries-append)
-      (laid-more d (entries (savedFor top (take i list) mem)) (entries (savedAt mem (landingOf (getD list i none .at) top (getD list i none .system)))) 32 (32 + n * 3) (omega arith)
+      (sets-more d (entries (savedFor top (take i list) mem)) (entries (savedAt mem (landingOf (getD list i none .at) top (getD list i none .system)))) 32 (32 + n * 3)
       (omega (arith, e, length-entries (savedFor top (take i list) mem))))
 
 -- at most one entry a write
@@ -123,11 +129,12 @@ zeros-left (suc k) (suc m) d h =
     rw e (zeros-left k m d (omega arith))
 
 pub record-laid : (m : Machine) (es : List Saved) (d : List ℕ) (n : ℕ) → n ≡ length es → n ≤ 12
-    → set (laid 32 (entries es) (header m ++ (replicate 37 0 ++ d))) 31 n ≡ encode m es ++ d
+    → set (sets (header m ++ (replicate 37 0 ++ d)) 32 (entries es)) 31 n ≡ encode m es ++ d
 unfolding encode header front bytes
 record-laid m es d n e h =
     let k : length (entries es) ≡ 3 * length es = length-entries es in
     let x : drop (32 + length (entries es)) (header m ++ (replicate 37 0 ++ d)) ≡ replicate (36 - 3 * length es) 0 ++ d =
     sym (drop-drop (length (entries es)) 32 (header m ++ (replicate 37 0 ++ d))) ∙ rw k (zeros-left (3 * length es) 36 d (omega arith)) in
-    ap (λ (l : List ℕ). set (take 32 (header m ++ (replicate 37 0 ++ d)) ++ entries es ++ l) 31 n) x
+    ap (λ (l : List ℕ). set l 31 n) (sets-eq (entries es) (header m ++ (replicate 37 0 ++ d)) 32 (omega arith))
+    ∙ ap (λ (l : List ℕ). set (take 32 (header m ++ (replicate 37 0 ++ d)) ++ entries es ++ l) 31 n) x
     ∙ rw (e, append-assoc (entries es) (replicate (36 - 3 * length es) 0) d)

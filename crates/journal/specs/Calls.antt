@@ -6,6 +6,7 @@ use mathlib.Core.List.{List, [], _∷_, _++_}
 use mathlib.Core.Path.{_≡_}
 use lib.Dec.{leb, ltb, eqb}
 use lib.ListN.{length, getD, take, drop, set}
+use lib.Seq.{sets}
 use Rattle.memory.specs.Map.{landingOf}
 use Rattle.memory.specs.Writes.{writesOf, listed, stored, reported}
 use Rattle.memory.specs.declared.Answer.{Answer}
@@ -23,7 +24,7 @@ use Rattle.step.specs.declared.Found.{Found}
 use Rattle.step.specs.declared.Settings.{Settings}
 use Rattle.interrupts.specs.Interrupts.{interruptFound, resetFound}
 use Rattle.interrupts.specs.declared.InterruptType.{InterruptType}
-use Rattle.journal.specs.Record.{Saved, encode, laid, machineOf, waitAt, countOf, entriesOf}
+use Rattle.journal.specs.Record.{Saved, encode, machineOf, waitAt, countOf, entriesOf}
 use Rattle.journal.specs.declared.Outcome.{Outcome}
 use Rattle.journal.specs.declared.Twin.{Twin}
 
@@ -65,12 +66,12 @@ abbrev pub unless : Answer → Answer → Answer
 unless Done rest = rest
 unless (Refused x) rest = Refused x
 
--- Record k of the journal, and the journal with a record laid there
+-- Record k of the journal, and the journal with a record stored there
 unfoldable pub recordAt : ℕ → List ℕ → List ℕ
 recordAt k j = take 68 (drop (k * 68) j)
 
 unfoldable pub withRecord : ℕ → List ℕ → List ℕ → List ℕ
-withRecord k r j = laid (k * 68) r j
+withRecord k r j = sets j (k * 68) r
 
 -- The entries of a call's writes: one for each that is stored, with the byte from before the whole call
 abbrev pub savedAt : List ℕ → Landing → List Saved

@@ -55,10 +55,6 @@ entries (e ∷ es) = bytes 2 (e .place) ++ (e .byte ∷ entries es)
 unfoldable pub encode : Machine → List Saved → List ℕ
 encode m es = header m ++ (length es ∷ (entries es ++ replicate (36 - 3 * length es) 0))
 
--- a part laid over a list from index k on: all else stays
-abbrev pub laid : ℕ → List ℕ → List ℕ → List ℕ
-laid k part l = take k l ++ part ++ drop (k + length part) l
-
 -- What is read back from a record
 unfoldable pub waitAt : List ℕ → ℕ
 waitAt r = getD r 14 0

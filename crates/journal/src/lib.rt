@@ -3,9 +3,10 @@ ghost use mathlib.Core.Path.{_≡_};
 ghost use mathlib.Core.List.{[], _++_};
 ghost use Prim.Native.Nat.{_+_, _*_, _^_, _≤_, _<_};
 ghost use lib.ListN.{length, take, drop, replicate};
+ghost use lib.Seq.{sets};
 ghost use Rattle.memory.specs.Map.{landingOf};
 ghost use Rattle.memory.specs.Writes.{listed, writesOf};
-ghost use Rattle.journal.specs.Record.{bytes, number, waitByte, waitOf, front, header, entries, encode, laid, machineOf, read};
+ghost use Rattle.journal.specs.Record.{bytes, number, waitByte, waitOf, front, header, entries, encode, machineOf, read};
 ghost use Rattle.journal.specs.Calls.{inHand, Leaves, savedAt, savedFor, admitted, concluded, whileWaiting, stepped, interrupted, wasReset, newestOf, putBack, undone};
 use evaluate::Wait;
 use interrupts::InterruptType;
@@ -95,10 +96,10 @@ fn counter_of(n: u64) -> [u8; 8]
     ]
 }
 
-// A part laid over the bytes from `at` on.
+// A part sets bytes over the from `at` on.
 fn lay(rest: &mut [u8], at: usize, part: &[u8])
     requires { ⌜ at + length (now part) ≤ length (now rest) ⌝ }
-    ensures { λ _. ⌜ now (rest .exit) ≡ laid at (now (part .entry)) (now (rest .entry)) ⌝ }
+    ensures { λ _. ⌜ now (rest .exit) ≡ sets (now (rest .entry)) at (now (part .entry)) ⌝ }
 {
     let mut i = 0;
     while i < part.len() {
@@ -125,7 +126,7 @@ fn write_header(rest: &mut [u8], machine: Machine)
 // One write's entry, if it is stored, after the n that are there; how many are there then.
 fn save(rest: &mut [u8], n: usize, mem: &[u8], ram_top: u16, one: Write) -> usize
     requires { ⌜ (n < 12) × ((68 ≤ length (now rest)) × (length (now mem) ≡ 65536)) ⌝ }
-    ensures { λ r. ⌜ (r ≡ n + length (savedAt (now (mem .entry)) (landingOf (one .at) «ram_top» (one .system)))) × (now (rest .exit) ≡ laid (32 + n * 3) (entries (savedAt (now (mem .entry)) (landingOf (one .at) «ram_top» (one .system)))) (now (rest .entry))) ⌝ }
+    ensures { λ r. ⌜ (r ≡ n + length (savedAt (now (mem .entry)) (landingOf (one .at) «ram_top» (one .system)))) × (now (rest .exit) ≡ sets (now (rest .entry)) (32 + n * 3) (entries (savedAt (now (mem .entry)) (landingOf (one .at) «ram_top» (one .system))))) ⌝ }
 {
     let at = one.at;
     match memory::lands(at, ram_top, one.system) {
@@ -143,7 +144,7 @@ fn save(rest: &mut [u8], n: usize, mem: &[u8], ram_top: u16, one: Write) -> usiz
 // The entries of a call's writes, in order, and their count.
 fn save_all(rest: &mut [u8], mem: &[u8], ram_top: u16, writes: Writes) -> usize
     requires { ⌜ (68 ≤ length (now rest)) × (length (now mem) ≡ 65536) ⌝ }
-    ensures { λ r. ⌜ (r ≡ length (savedFor «ram_top» (listed writes) (now (mem .entry)))) × ((r ≤ 12) × (now (rest .exit) ≡ laid 32 (entries (savedFor «ram_top» (listed writes) (now (mem .entry)))) (now (rest .entry)))) ⌝ }
+    ensures { λ r. ⌜ (r ≡ length (savedFor «ram_top» (listed writes) (now (mem .entry)))) × ((r ≤ 12) × (now (rest .exit) ≡ sets (now (rest .entry)) 32 (entries (savedFor «ram_top» (listed writes) (now (mem .entry)))))) ⌝ }
 {
     let count = writes.count;
     let list = writes.list;

@@ -3,21 +3,21 @@
 use Prim.Native.Nat.{ℕ, zero, suc, _+_, _-_, _*_, _/_, _%_, _≤_, _<_}
 use native.Mathlib.Omega.{arith}
 use mathlib.Core.Path.{_≡_, refl, sym, ap, _∙_}
-use mathlib.Core.Bool.{Bool, true, false, cond, _&&_}
+use mathlib.Core.Bool.{Bool, true, false, cond}
 use mathlib.Core.List.{List, [], _∷_, _++_, append-assoc, append-nil, map}
-use lib.Dec.{eqb, leb}
-use lib.ListN.{length, getD, take, drop, replicate, length-append, length-take, length-drop, length-replicate, take-append-drop, drop-of-length-le}
-use lib.Seq.{take-at, drop-at, drop-append-add, drop-drop, take-add, length-take-le, take-all}
+use lib.Dec.{eqb}
+use lib.ListN.{length, take, drop, length-append, length-drop, length-replicate, take-append-drop, drop-of-length-le}
+use lib.Seq.{sets, sets-eq, take-at, drop-append-add, drop-drop, take-add, length-take-le, take-all}
 use borrow.Author.Tests.{eq-eqb, ne-eqb, le-leb, eqb-true}
-use Rattle.srecord.specs.Text.{digitOf, pair, pairs, textOf}
-use Rattle.srecord.specs.Line.{Meaning, heading, piece, start, refused, mayHold, meant, lineOf}
-use Rattle.srecord.specs.File.{joined, linesOf, meaningsOf, done, judged, laid, landed, loadedOf, memoryAfter}
+use Rattle.srecord.specs.Text.{pairs, textOf}
+use Rattle.srecord.specs.Line.{Meaning, piece, start, mayHold, meant, lineOf}
+use Rattle.srecord.specs.File.{linesOf, meaningsOf, done, judged, landed, loadedOf, memoryAfter}
 use Rattle.srecord.specs.Written.{rowOf, isZero, rowText, rowsText, textFor}
-use Rattle.srecord.specs.Promises.{Bytes, zeros, blank, ReadsBack, OneForm}
+use Rattle.srecord.specs.Promises.{zeros, blank, ReadsBack, OneForm}
 use Rattle.srecord.specs.declared.Loaded.{Loaded}
 use Rattle.srecord.proofs.Bools.{and-parts}
 use Rattle.srecord.proofs.Digits.{not-feed}
-use Rattle.srecord.proofs.Sound.{Each, each, each-take, each-drop, hold-kinds, all, are-bytes, text-is, reads}
+use Rattle.srecord.proofs.Sound.{Each, each, each-take, each-drop, hold-kinds, allBytes, are-bytes, text-is, reads}
 
 -- no line feed
 abbrev NoFeed : List ℕ → Type 0
@@ -43,8 +43,8 @@ line-cut : (kind a : ℕ) (d rest : List ℕ) → a < 65536 → Each d → mayHo
 unfolding meaningsOf
 line-cut kind a d rest low are may =
     let k = hold-kinds kind (length d) may in
-    let t = text-is kind a d low are may in
-    let p = pairs (all kind a d low are may) in
+    let t = text-is kind a d in
+    let p = pairs (allBytes a d) in
     let c = cut (83 ∷ kind ∷ p) rest ((λ e. omega arith), ((λ e. omega arith), no-feed _ (are-bytes kind a d low are may))) in
     let s : textOf kind a d ++ rest ≡ (83 ∷ kind ∷ p) ++ (10 ∷ rest) =
     rw t (ap (λ (l : List ℕ). 83 ∷ kind ∷ l) (append-assoc p (10 ∷ []) rest)) in
@@ -81,10 +81,12 @@ module _ (mem : List ℕ) (size n : ℕ) (full : length mem ≡ size) (room : n 
   more : upTo mem size (n + 32) ≡ take n mem ++ (take 32 (drop n mem) ++ drop (n + 32) (zeros size))
   more = rw (take-add n 32 mem) (append-assoc (take n mem) (take 32 (drop n mem)) (drop (n + 32) (zeros size)))
 
-  row-laid : laid n (take 32 (drop n mem)) (upTo mem size n) ≡ upTo mem size (n + 32)
-  unfolding laid
-  row-laid =
+  row-stored : sets (upTo mem size n) n (take 32 (drop n mem)) ≡ upTo mem size (n + 32)
+  row-stored =
       let f = front in
+      let z = length-drop n (zeros size) in
+      let s = length-replicate {A = ℕ} size 0 in
+      let t = length-append (take n mem) (drop n (zeros size)) in
       let d = length-drop n mem in
       let w : length (take 32 (drop n mem)) ≡ 32 = length-take-le 32 (drop n mem) (omega arith) in
       let a : take n (take n mem ++ drop n (zeros size)) ≡ take n mem = take-at (take n mem) (drop n (zeros size)) n f in
@@ -92,7 +94,7 @@ module _ (mem : List ℕ) (size n : ℕ) (full : length mem ≡ size) (room : n 
       ap (λ (k : ℕ). drop (k + 32) (take n mem ++ drop n (zeros size))) (sym f)
       ∙ drop-append-add (take n mem) (drop n (zeros size)) 32
       ∙ drop-drop 32 n (zeros size) in
-      rw (w, a, b) (sym more)
+      sets-eq (take 32 (drop n mem)) (upTo mem size n) n (omega arith) ∙ rw (w, a, b, take-add n 32 mem)
 
   row-zero : isZero (take 32 (drop n mem)) ≡ true → upTo mem size n ≡ upTo mem size (n + 32)
   row-zero z =
@@ -150,7 +152,7 @@ module _ (mem : List ℕ) (full : length mem ≡ 65536) (are : Each mem) where
             → landed (meaningsOf (cond (isZero (rowOf mem k)) [] (textOf 49 (32 * k) (rowOf mem k)) ++ rest)) (upTo mem 65536 (32 * k))
             ≡ landed (meaningsOf rest) (upTo mem 65536 (32 * k + 32))
         go true e = rw e (ap (landed (meaningsOf rest)) (row-zero mem 65536 (32 * k) full (omega arith) e))
-        go false e = rw (e, row-means) (ap (landed (meaningsOf rest)) (row-laid mem 65536 (32 * k) full (omega arith)))
+        go false e = rw (e, row-means) (ap (landed (meaningsOf rest)) (row-stored mem 65536 (32 * k) full (omega arith)))
 
   judge-rows : (k : ℕ) (rest : List ℕ) → k ≤ 2048 → judged (meaningsOf (rowsText mem k ++ rest)) ≡ judged (meaningsOf rest)
   unfolding rowsText

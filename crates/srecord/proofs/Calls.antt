@@ -1,23 +1,42 @@
 -- What the two calls answer, case by case.
 -- Assumes nothing.
-use Prim.Native.Nat.{ℕ, zero, suc, _+_, _-_, _*_, _≤_, _<_}
+use Prim.Native.Nat.{ℕ, zero, suc, _+_, _*_, _≤_, _<_}
 use native.Mathlib.Omega.{arith}
-use mathlib.Core.Path.{_≡_, refl, sym, ap, _∙_}
+use mathlib.Core.Path.{_≡_, refl, sym, _∙_}
 use mathlib.Core.Bool.{Bool, true, false, cond}
-use mathlib.Core.List.{List, [], _∷_, _++_}
-use lib.Dec.{eqb, ltb}
-use lib.ListN.{length, take, drop, length-append, length-take}
+use mathlib.Core.List.{List, []}
+use lib.ListN.{length, drop, length-append, length-take}
+use lib.Seq.{sets}
 use borrow.Author.Tests.{eq-eqb, ne-eqb, lt-ltb, le-ltb}
 use Rattle.srecord.specs.Text.{textOf}
-use Rattle.srecord.specs.File.{meaningsOf, judged, failed, laid, landed, allowed, loadedOf, memoryAfter}
+use Rattle.srecord.specs.File.{meaningsOf, judged, failed, landed, allowed, loadedOf, memoryAfter}
 use Rattle.srecord.specs.Written.{rowOf, isZero, rowText, rowsText, textFor, stopped, writtenOf, outputAfter}
+use Rattle.srecord.specs.Answers.{numberOf, numberOfAnswer}
+use Rattle.srecord.specs.declared.Answer.{Answer}
 use Rattle.srecord.specs.declared.Answer.the-variants.{Done, Refused}
 use Rattle.srecord.specs.declared.Loaded.{Loaded}
 use Rattle.srecord.specs.declared.Refusal.{Refusal}
-use Rattle.srecord.specs.declared.Refusal.the-variants.{MemoryLength, OutputShort}
+use Rattle.srecord.specs.declared.Refusal.the-variants.{MemoryLength, OutputShort, Shape, Checksum, PastTop, NoEnd}
 use Rattle.srecord.specs.declared.Written.{Written}
-use Rattle.srecord.proofs.Laying.{laid-two}
+use Rattle.srecord.proofs.Laying.{sets-two}
 use Rattle.srecord.proofs.Rows.{text-length}
+
+-- only a call that is done has the number 0
+no-zero : (r : Refusal) → numberOf r ≡ 0 → ⊥
+no-zero MemoryLength e = omega arith
+no-zero OutputShort e = omega arith
+no-zero Shape e = omega arith
+no-zero Checksum e = omega arith
+no-zero PastTop e = omega arith
+no-zero NoEnd e = omega arith
+
+is-done : (x : Answer) → numberOfAnswer x ≡ 0 → x ≡ Done
+is-done Done e = refl
+is-done (Refused r) e = absurd (no-zero r e)
+
+kept : (x : Answer) (new old : List ℕ) → (numberOfAnswer x ≡ 0 → ⊥) → allowed x new old ≡ old
+kept Done new old n = absurd (n refl)
+kept (Refused r) new old n = refl
 
 module _ (mem file : List ℕ) where
   pub read-length : (length mem ≡ 65536 → ⊥) → (failed MemoryLength ≡ loadedOf mem file) × (mem ≡ memoryAfter mem file)
@@ -29,13 +48,13 @@ module _ (mem file : List ℕ) where
     unfolding loadedOf
     loaded = rw (eq-eqb (length mem) 65536 e) (sym j)
 
-    pub read-done : l .answer ≡ Done → (l ≡ loadedOf mem file) × (landed (meaningsOf file) mem ≡ memoryAfter mem file)
+    pub read-done : numberOfAnswer (l .answer) ≡ 0 → (l ≡ loadedOf mem file) × (landed (meaningsOf file) mem ≡ memoryAfter mem file)
     unfolding memoryAfter
-    read-done d = (sym loaded, rw (loaded, d))
+    read-done z = (sym loaded, rw (loaded, is-done (l .answer) z))
 
-    pub read-refused : (r : Refusal) → l .answer ≡ Refused r → (l ≡ loadedOf mem file) × (mem ≡ memoryAfter mem file)
+    pub read-refused : (numberOfAnswer (l .answer) ≡ 0 → ⊥) → (l ≡ loadedOf mem file) × (mem ≡ memoryAfter mem file)
     unfolding memoryAfter
-    read-refused r d = (sym loaded, rw (loaded, d))
+    read-refused n = (sym loaded, rw loaded (sym (kept (l .answer) (landed (meaningsOf file) mem) mem n)))
 
 row-bound : (mem : List ℕ) (k : ℕ) → length (rowText mem k) ≤ 75
 unfolding rowText
@@ -73,13 +92,13 @@ module _ (mem : List ℕ) (a : ℕ) (out : List ℕ) where
         rw (eq-eqb (length mem) 65536 e, lt-ltb (length out) (length (textFor mem a)) (omega arith)) (refl, refl)
 
     pub write-done : (size at : ℕ) (mid new : List ℕ) → size ≡ length (rowsText mem 2048) + 11 → size ≤ length out → at ≡ length (rowsText mem 2048)
-        → mid ≡ laid 0 (rowsText mem 2048) out → new ≡ laid at (textOf 57 a []) mid
+        → mid ≡ sets out 0 (rowsText mem 2048) → new ≡ sets mid at (textOf 57 a [])
         → (_≡_ {A = Written} (record { count = size; answer = Done }) (writtenOf mem a out)) × (new ≡ outputAfter mem a out)
     unfolding writtenOf outputAfter textFor
     write-done size at mid new s h p f g =
         let n = all-length in
         let t = text-length 57 a [] in
         let k : size ≡ length (textFor mem a) = omega arith in
-        let o : new ≡ laid 0 (textFor mem a) out =
-        g ∙ rw f (laid-two 0 at (rowsText mem 2048) (textOf 57 a []) out (omega arith) (omega arith)) in
+        let o : new ≡ sets out 0 (textFor mem a) =
+        g ∙ rw f (sets-two 0 at (rowsText mem 2048) (textOf 57 a []) out (omega arith)) in
         rw (eq-eqb (length mem) 65536 e, le-ltb (length out) (length (textFor mem a)) (omega arith), k) (refl, o)

@@ -9,4 +9,6 @@ pub mod Rows
 pub mod Calls
 pub mod Unique
 pub mod Sound
+pub mod Exact
+pub mod Kept
 pub mod Back

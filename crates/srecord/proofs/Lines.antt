@@ -1,75 +1,78 @@
 -- A file's lines, the first one split off; and what a line's answer says of its meaning.
 -- Assumes nothing.
-use Prim.Native.Nat.{ℕ, zero, suc, _+_, _-_, _*_, _≤_, _<_}
+use Prim.Native.Nat.{ℕ, suc, _+_, _-_, _*_, _≤_, _<_}
 use native.Mathlib.Omega.{arith}
-use native.Mathlib.Numerals.{one-add}
 use native.Mathlib.Decide.{ℕ-discrete}
 use mathlib.Core.Path.{_≡_, refl, sym, ap, _∙_}
-use mathlib.Core.Bool.{Bool, true, false, cond, _&&_}
-use mathlib.Core.List.{List, [], _∷_, _++_, map}
+use mathlib.Core.Bool.{Bool, true, false}
+use mathlib.Core.List.{List, [], _∷_, map}
 use lib.Dec.{eqb, leb}
 use lib.ListN.{length, getD, take, drop, length-drop, drop-of-length-le}
-use lib.Seq.{drop-drop, length-take-le}
+use lib.Seq.{sets, length-sets, drop-drop, length-take-le}
 use borrow.Author.Tests.{eq-eqb, ne-eqb, leb-true}
-use Rattle.srecord.specs.Text.{lineFeed, isPaired, bytesOf, valueOf, total}
+use Rattle.srecord.specs.Text.{isPaired, bytesOf, valueOf, total}
 use Rattle.srecord.specs.Line.{Meaning, heading, piece, start, refused, bytes, isShaped, isSummed, addressOf, dataOf, meant, lineOf, shown}
-use Rattle.srecord.specs.File.{joined, linesOf, meaningsOf, done, failed, ended, judged, laid, landed}
-use Rattle.srecord.specs.Code.{lineLength}
+use Rattle.srecord.specs.File.{joined, linesOf, first, lineEnd, meaningsOf, failed, ended, judged, landed}
 use Rattle.srecord.specs.Written.{plainEnd}
-use Rattle.srecord.specs.declared.Line.{Line}
 use Rattle.srecord.specs.declared.Line.the-variants.{Header, Data, End, Bad}
 use Rattle.srecord.specs.declared.Refusal.{Refusal}
 use Rattle.srecord.specs.declared.Refusal.the-variants.{Shape, Checksum, PastTop}
-use Rattle.srecord.proofs.Bytes.{data-length}
-use Rattle.srecord.proofs.Laying.{laid-length}
+use Rattle.srecord.proofs.Scan.{first-joined}
 use Rattle.srecord.proofs.Shapes.{shaped-length, shaped-room}
 
-pub line-length : (t : List ℕ) → 0 < length t → (0 < lineLength t) × (lineLength t ≤ length t)
-unfolding lineLength
-line-length [] h = absurd (omega arith)
-line-length (c ∷ []) h = go (ℕ-discrete c 10)
-  where
-    go : Dec (c ≡ 10) → (0 < cond (eqb c 10) 1 (1 + 0)) × (cond (eqb c 10) 1 (1 + 0) ≤ 1)
-    go (yes e) = rw (eq-eqb c 10 e) (omega arith, omega arith)
-    go (no n) = rw (ne-eqb c 10 n) (omega arith, omega arith)
-line-length (c ∷ d ∷ t) h = go (ℕ-discrete c 10) (line-length (d ∷ t) (omega arith))
-  where
-    go : Dec (c ≡ 10) → (0 < lineLength (d ∷ t)) × (lineLength (d ∷ t) ≤ length (d ∷ t))
-        → (0 < cond (eqb c 10) 1 (1 + lineLength (d ∷ t))) × (cond (eqb c 10) 1 (1 + lineLength (d ∷ t)) ≤ suc (length (d ∷ t)))
-    go (yes e) k = rw (eq-eqb c 10 e) (omega arith, omega arith)
-    go (no n) k = rw (ne-eqb c 10 n) (omega arith, omega arith)
+-- a text whose first n characters are its first line
+record Cut (t : List ℕ) (n : ℕ) : Type 0 where
+  some : 0 < n
+  fits : n ≤ length t
+  lines : linesOf t ≡ take n t ∷ linesOf (drop n t)
 
-pub first-line : (t : List ℕ) → 0 < length t → linesOf t ≡ take (lineLength t) t ∷ linesOf (drop (lineLength t) t)
-unfolding lineLength linesOf
-first-line [] h = absurd (omega arith)
-first-line (c ∷ []) h = go (ℕ-discrete c 10)
+line-fed : (c : ℕ) (t : List ℕ) → c ≡ 10 → linesOf (c ∷ t) ≡ (c ∷ []) ∷ linesOf t
+unfolding linesOf
+line-fed c t e = rw (eq-eqb c 10 e)
+
+line-on : (c : ℕ) (t : List ℕ) → (c ≡ 10 → ⊥) → linesOf (c ∷ t) ≡ joined c (linesOf t)
+unfolding linesOf
+line-on c t n = rw (ne-eqb c 10 n)
+
+line-alone : (c : ℕ) → linesOf (c ∷ []) ≡ (c ∷ []) ∷ linesOf []
+unfolding linesOf
+line-alone c = go (ℕ-discrete c 10)
   where
-    go : Dec (c ≡ 10) → linesOf (c ∷ []) ≡ take (cond (eqb c 10) 1 (1 + 0)) (c ∷ []) ∷ linesOf (drop (cond (eqb c 10) 1 (1 + 0)) (c ∷ []))
+    go : Dec (c ≡ 10) → linesOf (c ∷ []) ≡ (c ∷ []) ∷ []
     go (yes e) = rw (eq-eqb c 10 e)
     go (no n) = rw (ne-eqb c 10 n)
-first-line (c ∷ d ∷ t) h = go (ℕ-discrete c 10) (first-line (d ∷ t) (omega arith))
+
+cut-first : (t : List ℕ) → 0 < length t → Cut t (length (first (linesOf t)))
+cut-first [] h = absurd (omega arith)
+cut-first (c ∷ []) h = rw (line-alone c) (record { some = omega arith; fits = omega arith; lines = line-alone c })
+cut-first (c ∷ d ∷ t) h = go (ℕ-discrete c 10) (cut-first (d ∷ t) (omega arith))
   where
-    go : Dec (c ≡ 10) → linesOf (d ∷ t) ≡ take (lineLength (d ∷ t)) (d ∷ t) ∷ linesOf (drop (lineLength (d ∷ t)) (d ∷ t))
-        → cond (eqb c 10) ((c ∷ []) ∷ linesOf (d ∷ t)) (joined c (linesOf (d ∷ t)))
-        ≡ take (cond (eqb c 10) 1 (1 + lineLength (d ∷ t))) (c ∷ d ∷ t) ∷ linesOf (drop (cond (eqb c 10) 1 (1 + lineLength (d ∷ t))) (c ∷ d ∷ t))
-    go (yes e) k = rw (eq-eqb c 10 e)
-    go (no n) k = rw (ne-eqb c 10 n) (ap (joined c) k ∙ rw (one-add (lineLength (d ∷ t))))
+    go : Dec (c ≡ 10) → Cut (d ∷ t) (length (first (linesOf (d ∷ t)))) → Cut (c ∷ d ∷ t) (length (first (linesOf (c ∷ d ∷ t))))
+    go (yes e) k = rw (line-fed c (d ∷ t) e) (record { some = omega arith; fits = omega arith; lines = line-fed c (d ∷ t) e })
+    go (no n) k =
+        let s : length (first (linesOf (c ∷ d ∷ t))) ≡ suc (length (first (linesOf (d ∷ t)))) =
+        ap (λ (ls : List (List ℕ)). length (first ls)) (line-on c (d ∷ t) n) ∙ ap length (first-joined c (linesOf (d ∷ t))) in
+        rw s (record { some = omega arith; fits = omega arith; lines = line-on c (d ∷ t) n ∙ ap (joined c) (k .lines) })
 
 module _ (file : List ℕ) (from : ℕ) (h : from < length file) where
-  pub line-fits : (0 < lineLength (drop from file)) × (from + lineLength (drop from file) ≤ length file)
+  here : Cut (drop from file) (length (first (linesOf (drop from file))))
+  here = let d = length-drop from file in cut-first (drop from file) (omega arith)
+
+  pub line-fits : (from < lineEnd file from) × (lineEnd file from ≤ length file)
+  unfolding lineEnd
   line-fits =
       let d = length-drop from file in
-      let k = line-length (drop from file) (omega arith) in
-      (k .0, omega arith)
+      let s = here .some in
+      let f = here .fits in
+      (omega arith, omega arith)
 
   -- the line from here on, and those after it
-  pub next-line : (end : ℕ) → end ≡ from + lineLength (drop from file)
+  pub next-line : (end : ℕ) → end ≡ lineEnd file from
       → meaningsOf (drop from file) ≡ lineOf (take (end - from) (drop from file)) ∷ meaningsOf (drop end file)
-  unfolding meaningsOf
+  unfolding meaningsOf lineEnd
   next-line end e =
-      let d = length-drop from file in
-      let n : end - from ≡ lineLength (drop from file) = omega arith in
-      rw (first-line (drop from file) (omega arith), n, drop-drop (lineLength (drop from file)) from file, e)
+      let n : end - from ≡ length (first (linesOf (drop from file))) = omega arith in
+      ap (map lineOf) (here .lines) ∙ rw (n, drop-drop (length (first (linesOf (drop from file)))) from file, e)
 
 pub no-lines : (file : List ℕ) (from : ℕ) → length file ≤ from → meaningsOf (drop from file) ≡ []
 unfolding meaningsOf linesOf
@@ -130,7 +133,7 @@ pub lands-none : (mem : List ℕ) → landed [] mem ≡ mem
 unfolding landed
 lands-none mem = refl
 
-pub lands : (m : Meaning) (ms : List Meaning) (mem : List ℕ) (a : ℕ) (d : List ℕ) → m ≡ piece a d → landed (m ∷ ms) mem ≡ landed ms (laid a d mem)
+pub lands : (m : Meaning) (ms : List Meaning) (mem : List ℕ) (a : ℕ) (d : List ℕ) → m ≡ piece a d → landed (m ∷ ms) mem ≡ landed ms (sets mem a d)
 unfolding landed
 lands m ms mem a d e = rw e
 
@@ -190,8 +193,5 @@ module _ (text : List ℕ) (a n : ℕ) where
           }
 
 -- memory keeps its length
-pub data-kept : (text : List ℕ) (a n : ℕ) (mem new : List ℕ) → IsData text a n → length mem ≡ 65536 → new ≡ laid a (take n (drop 3 (bytes text))) mem → length new ≡ 65536
-data-kept text a n mem new d e s =
-    let f = d .fits in
-    let c = data-length text n (d .room) in
-    ap length s ∙ laid-length a (take n (drop 3 (bytes text))) mem (omega arith) ∙ e
+pub data-kept : (text : List ℕ) (a n : ℕ) (mem new : List ℕ) → IsData text a n → length mem ≡ 65536 → new ≡ sets mem a (take n (drop 3 (bytes text))) → length new ≡ 65536
+data-kept text a n mem new d e s = ap length s ∙ length-sets mem a (take n (drop 3 (bytes text))) ∙ e

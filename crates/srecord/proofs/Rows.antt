@@ -1,17 +1,16 @@
--- The text that the writer lays, line by line and row by row.
+-- The text that the writer stores, line by line and row by row.
 -- Assumes nothing.
 use Prim.Native.Nat.{ℕ, zero, suc, _+_, _-_, _*_, _/_, _%_, _^_, _≤_, _<_}
 use native.Mathlib.Omega.{arith}
 use native.Mathlib.Numerals.{add-one}
 use mathlib.Core.Path.{_≡_, refl, sym, ap, _∙_}
-use mathlib.Core.Bool.{Bool, true, false, cond}
+use mathlib.Core.Bool.{Bool, true, false}
 use mathlib.Core.List.{List, [], _∷_, _++_, append-assoc, append-nil}
 use lib.ListN.{length, take, drop, length-append, length-drop}
-use lib.Seq.{length-take-le}
-use Rattle.srecord.specs.Text.{pair, pairs, total, checksum, summed, textOf, digitOf}
-use Rattle.srecord.specs.File.{laid}
+use lib.Seq.{sets, length-sets, length-take-le}
+use Rattle.srecord.specs.Text.{pair, pairs, total, summed, textOf, digitOf}
 use Rattle.srecord.specs.Written.{rowOf, isZero, rowText, rowsText, plainEnd}
-use Rattle.srecord.proofs.Laying.{laid-length, laid-two, pairs-length}
+use Rattle.srecord.proofs.Laying.{sets-two, pairs-length}
 
 pub text-length : (kind a : ℕ) (d : List ℕ) → length (textOf kind a d) ≡ 11 + 2 * length d
 unfolding textOf
@@ -23,13 +22,13 @@ pub sum-fields : (c h l t : ℕ) (d : List ℕ) → t ≡ (total (c ∷ h ∷ l 
 unfolding total
 sum-fields c h l t d e = omega arith
 
--- the parts of a line, one laid behind the other
-module _ (at kind a sum : ℕ) (d out o₁ o₂ o₃ o₄ o₅ : List ℕ) (room : at + (11 + 2 * length d) ≤ length out)
-    (e₁ : o₁ ≡ laid at (83 ∷ kind ∷ []) out)
-    (e₂ : o₂ ≡ laid (at + 2) (pairs ((length d + 3) ∷ a / 256 ∷ a % 256 ∷ [])) o₁)
-    (e₃ : o₃ ≡ laid (at + 8) (pairs d) o₂)
-    (e₄ : o₄ ≡ laid (at + 8 + 2 * length d) (pair (255 - sum)) o₃)
-    (e₅ : o₅ ≡ laid (at + 8 + 2 * length d + 2) (10 ∷ []) o₄)
+-- the parts of a line, one sets other behind the
+module _ (at kind a sum : ℕ) (d out o₁ o₂ o₃ o₄ o₅ : List ℕ)
+    (e₁ : o₁ ≡ sets out at (83 ∷ kind ∷ []))
+    (e₂ : o₂ ≡ sets o₁ (at + 2) (pairs ((length d + 3) ∷ a / 256 ∷ a % 256 ∷ [])))
+    (e₃ : o₃ ≡ sets o₂ (at + 8) (pairs d))
+    (e₄ : o₄ ≡ sets o₃ (at + 8 + 2 * length d) (pair (255 - sum)))
+    (e₅ : o₅ ≡ sets o₄ (at + 8 + 2 * length d + 2) (10 ∷ []))
     (s : sum ≡ total (summed a d) % 256) where
   abbrev f : List ℕ
   f = pairs ((length d + 3) ∷ a / 256 ∷ a % 256 ∷ [])
@@ -37,38 +36,38 @@ module _ (at kind a sum : ℕ) (d out o₁ o₂ o₃ o₄ o₅ : List ℕ) (room
   abbrev h : List ℕ
   h = 83 ∷ kind ∷ []
 
-  two : o₂ ≡ laid at (h ++ f) out
+  two : o₂ ≡ sets out at (h ++ f)
   two =
       let n = pairs-length ((length d + 3) ∷ a / 256 ∷ a % 256 ∷ []) in
-      e₂ ∙ rw e₁ (laid-two at (at + 2) h f out (omega arith) (omega arith))
+      e₂ ∙ rw e₁ (sets-two at (at + 2) h f out (omega arith))
 
-  three : o₃ ≡ laid at ((h ++ f) ++ pairs d) out
+  three : o₃ ≡ sets out at ((h ++ f) ++ pairs d)
   three =
       let n = pairs-length ((length d + 3) ∷ a / 256 ∷ a % 256 ∷ []) in
       let m = pairs-length d in
       let k = length-append h f in
-      e₃ ∙ rw two (laid-two at (at + 8) (h ++ f) (pairs d) out (omega arith) (omega arith))
+      e₃ ∙ rw two (sets-two at (at + 8) (h ++ f) (pairs d) out (omega arith))
 
-  four : o₄ ≡ laid at (((h ++ f) ++ pairs d) ++ pair (255 - sum)) out
+  four : o₄ ≡ sets out at (((h ++ f) ++ pairs d) ++ pair (255 - sum))
   four =
       let n = pairs-length ((length d + 3) ∷ a / 256 ∷ a % 256 ∷ []) in
       let m = pairs-length d in
       let k = length-append h f in
       let j = length-append (h ++ f) (pairs d) in
-      e₄ ∙ rw three (laid-two at (at + 8 + 2 * length d) ((h ++ f) ++ pairs d) (pair (255 - sum)) out (omega arith) (omega arith))
+      e₄ ∙ rw three (sets-two at (at + 8 + 2 * length d) ((h ++ f) ++ pairs d) (pair (255 - sum)) out (omega arith))
 
-  pub line-laid : o₅ ≡ laid at (textOf kind a d) out
+  pub line-put : o₅ ≡ sets out at (textOf kind a d)
   unfolding textOf pairs
-  line-laid =
+  line-put =
       let n = pairs-length ((length d + 3) ∷ a / 256 ∷ a % 256 ∷ []) in
       let m = pairs-length d in
       let k = length-append h f in
       let j = length-append (h ++ f) (pairs d) in
       let i = length-append ((h ++ f) ++ pairs d) (pair (255 - sum)) in
-      let last : laid (at + 8 + 2 * length d + 2) (10 ∷ []) o₄ ≡ laid at ((((h ++ f) ++ pairs d) ++ pair (255 - sum)) ++ (10 ∷ [])) out =
-      rw four (laid-two at (at + 8 + 2 * length d + 2) (((h ++ f) ++ pairs d) ++ pair (255 - sum)) (10 ∷ []) out (omega arith) (omega arith)) in
+      let last : sets o₄ (at + 8 + 2 * length d + 2) (10 ∷ []) ≡ sets out at ((((h ++ f) ++ pairs d) ++ pair (255 - sum)) ++ (10 ∷ [])) =
+      rw four (sets-two at (at + 8 + 2 * length d + 2) (((h ++ f) ++ pairs d) ++ pair (255 - sum)) (10 ∷ []) out (omega arith)) in
       let same : ((((h ++ f) ++ pairs d) ++ pair (255 - sum)) ++ (10 ∷ [])) ≡ textOf kind a d = rw s (ap (λ (l : List ℕ). (h ++ f) ++ l) (append-assoc (pairs d) (pair (255 - total (summed a d) % 256)) (10 ∷ []))) in
-      e₅ ∙ last ∙ ap (λ (l : List ℕ). laid at l out) same
+      e₅ ∙ last ∙ ap (λ (l : List ℕ). sets out at l) same
 
 pub plain-text : textOf 57 0 [] ≡ plainEnd
 unfolding textOf pairs digitOf total
@@ -117,27 +116,25 @@ rows-grow mem j n h = let e : j + (n - j) ≡ n = omega arith in rw e at (grow m
 
 -- a turn of the writer's loop
 module _ (mem : List ℕ) (k w : ℕ) (wide : w ≡ 32) (z : Bool) (e : z ≡ isZero (take w (drop (32 * k) mem))) (full : length mem ≡ 65536) (h : k < 2048)
-    (at : ℕ) (out out₀ : List ℕ) (p : at ≡ length (rowsText mem k)) (q : length out ≡ length out₀) (o : out ≡ laid 0 (rowsText mem k) out₀)
-    (room : length (rowsText mem 2048) ≤ length out₀) where
+    (at : ℕ) (out out₀ : List ℕ) (p : at ≡ length (rowsText mem k)) (q : length out ≡ length out₀) (o : out ≡ sets out₀ 0 (rowsText mem k)) where
   pub record Turned (at′ : ℕ) (out′ : List ℕ) : Type 0 where
     pub ends : at′ ≡ length (rowsText mem (k + 1))
     pub keeps : length out′ ≡ length out₀
-    pub holds : out′ ≡ laid 0 (rowsText mem (k + 1)) out₀
+    pub holds : out′ ≡ sets out₀ 0 (rowsText mem (k + 1))
 
   pub turn-skip : (at′ : ℕ) (out′ : List ℕ) → at′ ≡ at → out′ ≡ out → z ≡ true → Turned at′ out′
   turn-skip at′ out′ f g t =
       let r = row-skip mem k w wide z e t in
-      record { ends = f ∙ p ∙ ap length (sym r); keeps = ap length g ∙ q; holds = g ∙ o ∙ ap (λ (l : List ℕ). laid 0 l out₀) (sym r) }
+      record { ends = f ∙ p ∙ ap length (sym r); keeps = ap length g ∙ q; holds = g ∙ o ∙ ap (λ (l : List ℕ). sets out₀ 0 l) (sym r) }
 
-  pub turn-more : (at′ : ℕ) (out′ : List ℕ) → at′ ≡ at + 75 → out′ ≡ laid at (textOf 49 (32 * k) (take w (drop (32 * k) mem))) out → z ≡ false → Turned at′ out′
+  pub turn-more : (at′ : ℕ) (out′ : List ℕ) → at′ ≡ at + 75 → out′ ≡ sets out at (textOf 49 (32 * k) (take w (drop (32 * k) mem))) → z ≡ false → Turned at′ out′
   turn-more at′ out′ f g t =
       let r = row-more mem k w wide z e t in
       let l = row-length mem k w wide z e full h t in
       let n = row-width mem k w wide z e full h in
       let m = text-length 49 (32 * k) (take w (drop (32 * k) mem)) in
-      let grown = rows-grow mem (k + 1) 2048 (omega arith) in
       record {
         ends = omega arith;
-        keeps = ap length g ∙ laid-length at (textOf 49 (32 * k) (take w (drop (32 * k) mem))) out (omega arith) ∙ q;
-        holds = g ∙ rw (o, r) (laid-two 0 at (rowsText mem k) (textOf 49 (32 * k) (take w (drop (32 * k) mem))) out₀ (omega arith) (omega arith));
+        keeps = ap length g ∙ length-sets out at (textOf 49 (32 * k) (take w (drop (32 * k) mem))) ∙ q;
+        holds = g ∙ rw (o, r) (sets-two 0 at (rowsText mem k) (textOf 49 (32 * k) (take w (drop (32 * k) mem))) out₀ (omega arith));
       }

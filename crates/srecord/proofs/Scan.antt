@@ -1,18 +1,18 @@
 -- What a turn of each loop over characters does, and where it ends.
 -- Assumes nothing.
-use Prim.Native.Nat.{ℕ, suc, _+_, _-_, _*_, _%_, _^_, _≤_, _<_}
+use Prim.Native.Nat.{ℕ, suc, _+_, _%_, _^_, _≤_, _<_}
 use native.Mathlib.Numerals.{add-one}
 use native.Mathlib.Omega.{arith}
-use mathlib.Core.Path.{_≡_, refl, sym, ap, _∙_}
-use mathlib.Core.Bool.{Bool, true, false, cond, _&&_}
+use mathlib.Core.Path.{_≡_, refl, ap, _∙_}
+use mathlib.Core.Bool.{Bool, true, false, _&&_}
 use mathlib.Core.List.{List, [], _∷_, _++_}
 use lib.Dec.{eqb}
 use borrow.Author.Tests.{eq-eqb, ne-eqb, eqb-true}
 use Rattle.srecord.proofs.Bools.{and-false, and-parts}
-use lib.ListN.{length, getD, take, drop, length-drop, drop-of-length-le}
+use lib.ListN.{length, getD, take, drop, drop-of-length-le}
 use lib.Seq.{drop-cons, take-suc}
-use Rattle.srecord.specs.Text.{isDigit, isPaired, bytesOf, byteOf, total, lineFeed}
-use Rattle.srecord.specs.Code.{sameText, lineLength}
+use Rattle.srecord.specs.Text.{isDigit, isPaired, total, isSame}
+use Rattle.srecord.specs.File.{first, joined, linesOf, lineEnd}
 use Rattle.srecord.specs.Written.{isZero}
 
 -- one character more
@@ -35,6 +35,10 @@ both : (a b t r : Bool) → (a && b) ≡ r → (a && (b && t)) ≡ (r && t)
 both true b t r e = rw (← e)
 both false b t r e = rw (← e)
 
+pub first-joined : (c : ℕ) (ls : List (List ℕ)) → first (joined c ls) ≡ c ∷ first ls
+first-joined c [] = refl
+first-joined c (l ∷ ls) = refl
+
 module _ (text : List ℕ) (i : ℕ) where
   pub paired-not : i + 1 < length text → (isDigit (getD text i 0) && isDigit (getD text (i + 1) 0)) ≡ false → isPaired (drop i text) ≡ false
   unfolding isPaired
@@ -52,17 +56,17 @@ module _ (text : List ℕ) (i : ℕ) where
   unfolding isPaired
   paired-none h = rw (drop-of-length-le text {i = i} h)
 
-  pub line-found : i < length text → getD text i 0 ≡ 10 → lineLength (drop i text) ≡ 1
-  unfolding lineLength
-  line-found h e = rw (drop-one text i h, eq-eqb (getD text i 0) 10 e)
+  pub end-found : i < length text → getD text i 0 ≡ 10 → lineEnd text i ≡ i + 1
+  unfolding lineEnd linesOf
+  end-found h e = rw (drop-one text i h, eq-eqb (getD text i 0) 10 e)
 
-  pub line-on : i < length text → (getD text i 0 ≡ 10 → ⊥) → lineLength (drop i text) ≡ 1 + lineLength (drop (i + 1) text)
-  unfolding lineLength
-  line-on h n = rw (drop-one text i h, ne-eqb (getD text i 0) 10 n)
+  pub end-on : i < length text → (getD text i 0 ≡ 10 → ⊥) → lineEnd text i ≡ lineEnd text (i + 1)
+  unfolding lineEnd linesOf
+  end-on h n = rw (drop-one text i h, ne-eqb (getD text i 0) 10 n, first-joined (getD text i 0) (linesOf (drop (i + 1) text))) (omega arith)
 
-  pub line-none : length text ≤ i → lineLength (drop i text) ≡ 0
-  unfolding lineLength
-  line-none h = rw (drop-of-length-le text {i = i} h)
+  pub end-none : length text ≤ i → lineEnd text i ≡ i
+  unfolding lineEnd linesOf
+  end-none h = rw (drop-of-length-le text {i = i} h) (omega arith)
 
   pub zero-not : i < length text → (getD text i 0 ≡ 0 → ⊥) → isZero (drop i text) ≡ false
   unfolding isZero
@@ -76,21 +80,21 @@ module _ (text : List ℕ) (i : ℕ) where
   unfolding isZero
   zero-none h = rw (drop-of-length-le text {i = i} h)
 
-  pub same-not : (other : List ℕ) → i < length text → i < length other → (getD text i 0 ≡ getD other i 0 → ⊥) → sameText (drop i text) (drop i other) ≡ false
-  unfolding sameText
+  pub same-not : (other : List ℕ) → i < length text → i < length other → (getD text i 0 ≡ getD other i 0 → ⊥) → isSame (drop i text) (drop i other) ≡ false
+  unfolding isSame
   same-not other h k n = rw (drop-one text i h, drop-one other i k, ne-eqb (getD text i 0) (getD other i 0) n)
 
   pub same-on : (other : List ℕ) → i < length text → i < length other → getD text i 0 ≡ getD other i 0
-      → sameText (drop i text) (drop i other) ≡ sameText (drop (i + 1) text) (drop (i + 1) other)
-  unfolding sameText
+      → isSame (drop i text) (drop i other) ≡ isSame (drop (i + 1) text) (drop (i + 1) other)
+  unfolding isSame
   same-on other h k e = rw (drop-one text i h, drop-one other i k, eq-eqb (getD text i 0) (getD other i 0) e)
 
-  pub same-none : (other : List ℕ) → length text ≤ i → length other ≤ i → sameText (drop i text) (drop i other) ≡ true
-  unfolding sameText
+  pub same-none : (other : List ℕ) → length text ≤ i → length other ≤ i → isSame (drop i text) (drop i other) ≡ true
+  unfolding isSame
   same-none other h k = rw (drop-of-length-le text {i = i} h, drop-of-length-le other {i = i} k)
 
-pub same-lengths : (a b : List ℕ) → (length a ≡ length b → ⊥) → sameText a b ≡ false
-unfolding sameText
+pub same-lengths : (a b : List ℕ) → (length a ≡ length b → ⊥) → isSame a b ≡ false
+unfolding isSame
 same-lengths [] [] n = absurd (n refl)
 same-lengths [] (b ∷ m) n = refl
 same-lengths (a ∷ l) [] n = refl
@@ -107,11 +111,11 @@ sum-more l i sum b h e f =
     let t = total-more (take i l) (getD l i 0) in
     rw (take-one l i h) (omega arith)
 
-pub same-true : (a b : List ℕ) → sameText a b ≡ true → a ≡ b
-unfolding sameText
+pub same-true : (a b : List ℕ) → isSame a b ≡ true → a ≡ b
+unfolding isSame
 same-true [] [] e = refl
 same-true [] (b ∷ m) e = cc
 same-true (a ∷ l) [] e = cc
 same-true (a ∷ l) (b ∷ m) e =
-    let p = and-parts (eqb a b) (sameText l m) e in
+    let p = and-parts (eqb a b) (isSame l m) e in
     rw (eqb-true a b (p .0), same-true l m (p .1))

@@ -2,26 +2,26 @@
 -- Assumes nothing.
 use Prim.Native.Nat.{ℕ, _+_, _-_, _*_, _/_, _%_, _≤_, _<_}
 use native.Mathlib.Omega.{arith}
-use mathlib.Core.Path.{_≡_, refl, sym, ap, _∙_}
-use mathlib.Core.Bool.{Bool, true, false, cond, _&&_}
+use mathlib.Core.Path.{_≡_, refl, sym, _∙_}
+use mathlib.Core.Bool.{Bool, true, false, _&&_}
 use mathlib.Core.List.{List, [], _∷_}
 use lib.Dec.{eqb, leb, ltb}
 use lib.ListN.{length, getD, take, drop, length-drop}
 use lib.Seq.{length-take-le}
-use borrow.Author.Tests.{eq-eqb, ne-eqb, le-leb, lt-leb, leb-true}
+use borrow.Author.Tests.{eq-eqb, ne-eqb, le-leb, lt-leb, leb-true, eqb-true}
 use Rattle.srecord.specs.Text.{isPaired, bytesOf, byteOf, isDigit, total}
-use Rattle.srecord.specs.Line.{Meaning, heading, piece, start, refused, mayHold, isCounted, isShaped, isSummed, bytes, addressOf, dataOf, meant, shown}
+use Rattle.srecord.specs.Line.{most, mayHold, isCounted, isShaped, isSummed, bytes, addressOf, dataOf, meant, shown}
 use Rattle.srecord.specs.declared.Line.the-variants.{Header, Data, End, Bad}
 use Rattle.srecord.specs.declared.Refusal.the-variants.{PastTop}
-use Rattle.srecord.proofs.Bools.{and-false, and-true, and-parts}
-use Rattle.srecord.proofs.Bytes.{line-bytes, byte-of}
+use Rattle.srecord.proofs.Bools.{and-false, and-parts}
+use Rattle.srecord.proofs.Bytes.{byte-of}
 
-module _ (kind n : ℕ) (room : n ≤ 252) where
-  pub hold-0 : kind ≡ 48 → true ≡ mayHold kind n
-  hold-0 e = rw (e, le-leb n 252 room)
+module _ (kind n : ℕ) where
+  pub hold-0 : kind ≡ 48 → leb n most ≡ mayHold kind n
+  hold-0 e = rw e
 
-  pub hold-1 : kind ≡ 49 → ltb 0 n ≡ mayHold kind n
-  hold-1 e = rw (e, le-leb n 252 room) (sym (and-true (ltb 0 n)))
+  pub hold-1 : kind ≡ 49 → (ltb 0 n && leb n most) ≡ mayHold kind n
+  hold-1 e = rw e
 
   pub hold-9 : kind ≡ 57 → eqb n 0 ≡ mayHold kind n
   hold-9 e = rw e
@@ -78,17 +78,36 @@ module _ (text : List ℕ) where
 
   -- a shaped line
   module _ (shaped : isShaped text ≡ true) where
-    parts : (isPaired (drop 2 text) ≡ true) × (isCounted (getD text 1 0) (bytes text) ≡ true)
+    parts : (eqb (getD text 0 0) 83 ≡ true) × ((isPaired (drop 2 text) && isCounted (getD text 1 0) (bytes text)) ≡ true)
     unfolding isShaped
-    parts = and-parts (isPaired (drop 2 text)) (isCounted (getD text 1 0) (bytes text)) (and-parts (eqb (getD text 0 0) 83) (isPaired (drop 2 text) && isCounted (getD text 1 0) (bytes text)) shaped .1)
+    parts = and-parts (eqb (getD text 0 0) 83) (isPaired (drop 2 text) && isCounted (getD text 1 0) (bytes text)) shaped
+
+    inner : (isPaired (drop 2 text) ≡ true) × (isCounted (getD text 1 0) (bytes text) ≡ true)
+    inner = and-parts (isPaired (drop 2 text)) (isCounted (getD text 1 0) (bytes text)) (parts .1)
+
+    counts : (leb 4 (length (bytes text)) ≡ true) × ((eqb (getD (bytes text) 0 0) (length (bytes text) - 1) && mayHold (getD text 1 0) (length (bytes text) - 4)) ≡ true)
+    counts = and-parts (leb 4 (length (bytes text))) (eqb (getD (bytes text) 0 0) (length (bytes text) - 1) && mayHold (getD text 1 0) (length (bytes text) - 4)) (inner .1)
+
+    held : (eqb (getD (bytes text) 0 0) (length (bytes text) - 1) ≡ true) × (mayHold (getD text 1 0) (length (bytes text) - 4) ≡ true)
+    held = and-parts (eqb (getD (bytes text) 0 0) (length (bytes text) - 1)) (mayHold (getD text 1 0) (length (bytes text) - 4)) (counts .1)
+
+    pub shaped-first : getD text 0 0 ≡ 83
+    shaped-first = eqb-true (getD text 0 0) 83 (parts .0)
+
+    pub shaped-paired : isPaired (drop 2 text) ≡ true
+    shaped-paired = inner .0
 
     pub shaped-length : length text ≡ 2 * length (bytes text) + 3
-    shaped-length = paired-length (parts .0)
+    shaped-length = paired-length shaped-paired
 
     pub shaped-room : 4 ≤ length (bytes text)
-    shaped-room =
-        leb-true 4 (length (bytes text))
-        (and-parts (leb 4 (length (bytes text))) (eqb (getD (bytes text) 0 0) (length (bytes text) - 1) && mayHold (getD text 1 0) (length (bytes text) - 4)) (parts .1) .0)
+    shaped-room = leb-true 4 (length (bytes text)) (counts .0)
+
+    pub shaped-count : getD (bytes text) 0 0 ≡ length (bytes text) - 1
+    shaped-count = eqb-true (getD (bytes text) 0 0) (length (bytes text) - 1) (held .0)
+
+    pub shaped-may : mayHold (getD text 1 0) (length (bytes text) - 4) ≡ true
+    shaped-may = held .1
 
     pub sum-found : (b s : ℕ) → b ≡ byteOf (getD text (2 + 2 * ((length text - 11) / 2 + 3)) 0) (getD text (2 + 2 * ((length text - 11) / 2 + 3) + 1) 0)
         → s ≡ total (take ((length text - 11) / 2 + 3) (bytes text)) % 256 → eqb b (255 - s) ≡ isSummed (bytes text)
@@ -99,12 +118,16 @@ module _ (text : List ℕ) where
         let n : length (bytes text) - 1 ≡ (length text - 11) / 2 + 3 = omega arith in
         rw (n, e, f, byte-of text ((length text - 11) / 2 + 3) (omega arith))
 
+    pub data-size : length (dataOf (bytes text)) ≡ length (bytes text) - 4
+    data-size =
+        let r = shaped-room in
+        let d = length-drop 3 (bytes text) in
+        length-take-le (length (bytes text) - 4) (drop 3 (bytes text)) (omega arith)
+
     data-count : length (dataOf (bytes text)) ≡ (length text - 11) / 2
     data-count =
         let l = shaped-length in
-        let r = shaped-room in
-        let d = length-drop 3 (bytes text) in
-        length-take-le (length (bytes text) - 4) (drop 3 (bytes text)) (omega arith) ∙ omega arith
+        data-size ∙ omega arith
 
     module _ (address : ℕ)
         (e : address ≡ 256 * byteOf (getD text 4 0) (getD text (4 + 1) 0) + byteOf (getD text 6 0) (getD text (6 + 1) 0)) where

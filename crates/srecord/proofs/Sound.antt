@@ -1,16 +1,16 @@
 -- A line of the format means what it says.
 -- Assumes nothing.
-use Prim.Native.Nat.{ℕ, zero, suc, _+_, _-_, _*_, _/_, _%_, _≤_, _<_}
+use Prim.Native.Nat.{ℕ, zero, suc, _+_, _-_, _/_, _%_, _≤_, _<_}
 use native.Mathlib.Omega.{arith}
 use mathlib.Core.Path.{_≡_, refl, sym, ap, _∙_}
-use mathlib.Core.Bool.{Bool, true, false, cond, _&&_}
+use mathlib.Core.Bool.{Bool, true, false}
 use mathlib.Core.List.{List, [], _∷_, _++_, append-assoc}
 use lib.Dec.{eqb, leb}
-use lib.ListN.{length, getD, take, drop, length-append}
+use lib.ListN.{length, take, drop, length-append}
 use lib.Seq.{take-append-seam, getD-append-seam}
 use borrow.Author.Tests.{eq-eqb, le-leb, leb-true, eqb-true}
-use Rattle.srecord.specs.Text.{isDigit, digitOf, byteOf, pair, pairs, isPaired, bytesOf, total, checksum, summed, textOf}
-use Rattle.srecord.specs.Line.{Meaning, most, mayHold, isShaped, isSummed, isCounted, bytes, addressOf, dataOf, meant, lineOf}
+use Rattle.srecord.specs.Text.{pair, pairs, isPaired, bytesOf, checksum, summed, textOf}
+use Rattle.srecord.specs.Line.{most, mayHold, isShaped, isSummed, bytes, addressOf, dataOf, meant, lineOf}
 use Rattle.srecord.specs.Promises.{Bytes, LineReads}
 use Rattle.srecord.proofs.Bools.{and-parts}
 use Rattle.srecord.proofs.Digits.{is-digit, byte-pair}
@@ -66,24 +66,27 @@ hold-kinds kind n h = go (eqb kind 48) refl (eqb kind 49) refl
         let z = eqb-true n 0 (p .1) in
         (omega arith, omega arith)
 
+-- all bytes of a line
+abbrev pub allBytes : ℕ → List ℕ → List ℕ
+allBytes a d = summed a d ++ (checksum (summed a d) ∷ [])
+
+pub text-is : (kind a : ℕ) (d : List ℕ) → textOf kind a d ≡ 83 ∷ kind ∷ (pairs (allBytes a d) ++ (10 ∷ []))
+unfolding textOf
+text-is kind a d =
+    rw (pairs-append (summed a d) (checksum (summed a d) ∷ []), pairs-one (checksum (summed a d)))
+    (ap (λ (l : List ℕ). 83 ∷ kind ∷ l) (sym (append-assoc (pairs (summed a d)) (pair (checksum (summed a d))) (10 ∷ []))))
+
 module _ (kind a : ℕ) (d : List ℕ) (low : a < 65536) (are : Each d) (may : mayHold kind (length d) ≡ true) where
   abbrev sum : ℕ
   sum = checksum (summed a d)
 
-  -- all bytes of the line
-  abbrev pub all : List ℕ
-  all = summed a d ++ (sum ∷ [])
+  abbrev all : List ℕ
+  all = allBytes a d
 
   pub are-bytes : Each all
   are-bytes =
       let n = hold-kinds kind (length d) may .1 in
       (omega arith, (omega arith, (omega arith, bytes-append d (sum ∷ []) are (omega arith, tt))))
-
-  pub text-is : textOf kind a d ≡ 83 ∷ kind ∷ (pairs all ++ (10 ∷ []))
-  unfolding textOf
-  text-is =
-      rw (pairs-append (summed a d) (sum ∷ []), pairs-one sum)
-      (ap (λ (l : List ℕ). 83 ∷ kind ∷ l) (sym (append-assoc (pairs (summed a d)) (pair sum) (10 ∷ []))))
 
   all-length : length all ≡ length d + 4
   all-length = length-append (summed a d) (sum ∷ []) ∙ omega arith
@@ -119,7 +122,7 @@ module _ (kind a : ℕ) (d : List ℕ) (low : a < 65536) (are : Each d) (may : m
   reads =
       let s = is-shaped in
       let b = bytes-are in
-      rw (text-is, sound (83 ∷ kind ∷ (pairs all ++ (10 ∷ []))) s (rw b is-summed), b, address-is, data-is)
+      rw (text-is kind a d, sound (83 ∷ kind ∷ (pairs all ++ (10 ∷ []))) s (rw b is-summed), b, address-is, data-is)
 
 pub line-reads : LineReads
-line-reads kind a d low are may = reads kind a d low (each d are) may
+line-reads text kind a d l = ap lineOf (l .exact) ∙ reads kind a d (l .address) (each d (l .values)) (l .count)

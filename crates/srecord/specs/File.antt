@@ -1,10 +1,11 @@
 -- What a file of S-records means: its lines in order, the answer, and memory afterwards.
 -- Assumes nothing.
 use Prim.Native.Nat.{ℕ, _+_}
-use mathlib.Core.Bool.{Bool, true, false, cond}
-use mathlib.Core.List.{List, [], _∷_, _++_, map}
+use mathlib.Core.Bool.{cond}
+use mathlib.Core.List.{List, [], _∷_, map}
 use lib.Dec.{eqb}
-use lib.ListN.{length, take, drop}
+use lib.ListN.{length, drop}
+use lib.Seq.{sets}
 use Rattle.srecord.specs.Text.{lineFeed}
 use Rattle.srecord.specs.Line.{Meaning, heading, piece, start, refused, lineOf}
 use Rattle.srecord.specs.declared.Answer.{Answer}
@@ -22,6 +23,15 @@ joined c (l ∷ ls) = (c ∷ l) ∷ ls
 unfoldable pub linesOf : List ℕ → List (List ℕ)
 linesOf [] = []
 linesOf (c ∷ t) = cond (eqb c lineFeed) ((c ∷ []) ∷ linesOf t) (joined c (linesOf t))
+
+-- the first line, if there is one
+abbrev pub first : List (List ℕ) → List ℕ
+first [] = []
+first (l ∷ ls) = l
+
+-- where the line that starts at an index ends: past its line feed, or at the end of the text
+unfoldable pub lineEnd : List ℕ → ℕ → ℕ
+lineEnd file from = from + length (first (linesOf (drop from file)))
 
 unfoldable pub meaningsOf : List ℕ → List Meaning
 meaningsOf file = map lineOf (linesOf file)
@@ -45,15 +55,11 @@ judged (piece a d ∷ ms) = judged ms
 judged (start a ∷ ms) = ended a ms
 judged (refused r ∷ ms) = failed r
 
--- a list with another over its part from a on
-unfoldable pub laid : ℕ → List ℕ → List ℕ → List ℕ
-laid a d mem = take a mem ++ (d ++ drop (a + length d) mem)
-
--- memory with the data of the S1 lines, in order
+-- memory with the data of each S1 line stored from its address on, raw and in order
 unfoldable pub landed : List Meaning → List ℕ → List ℕ
 landed [] mem = mem
 landed (heading d ∷ ms) mem = landed ms mem
-landed (piece a d ∷ ms) mem = landed ms (laid a d mem)
+landed (piece a d ∷ ms) mem = landed ms (sets mem a d)
 landed (start a ∷ ms) mem = landed ms mem
 landed (refused r ∷ ms) mem = landed ms mem
 

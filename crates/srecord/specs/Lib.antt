@@ -2,6 +2,5 @@ pub mod Answers
 pub mod Text
 pub mod Line
 pub mod File
-pub mod Code
 pub mod Written
 pub mod Promises

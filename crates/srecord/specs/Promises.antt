@@ -3,12 +3,14 @@
 use Prim.Native.Nat.{ℕ, _<_}
 use mathlib.Core.Path.{_≡_}
 use mathlib.Core.Bool.{true}
-use mathlib.Core.List.{List}
+use mathlib.Core.List.{List, []}
 use lib.ListN.{length, getD, replicate}
-use Rattle.srecord.specs.Text.{textOf}
-use Rattle.srecord.specs.Line.{mayHold, meant, lineOf}
+use Rattle.srecord.specs.Text.{kind0, kind1, kind9, textOf}
+use Rattle.srecord.specs.Line.{Meaning, heading, piece, start, refused, mayHold, meant, lineOf}
 use Rattle.srecord.specs.File.{done, loadedOf, memoryAfter}
-use Rattle.srecord.specs.Written.{textFor}
+use Rattle.srecord.specs.Written.{textFor, writtenOf, outputAfter}
+use Rattle.srecord.specs.declared.Answer.the-variants.{Refused}
+use Rattle.srecord.specs.declared.Refusal.{Refusal}
 
 -- every element is a byte
 abbrev pub Bytes : List ℕ → Type 0
@@ -21,10 +23,32 @@ zeros n = replicate n 0
 unfoldable pub blank : List ℕ
 blank = zeros 65536
 
--- a line of the format, of each kind and as many data bytes as it may have, means what it says
+-- a line of the format: the text of a kind, an address and as many data bytes as the kind may have
+pub record IsLine (text : List ℕ) (kind a : ℕ) (d : List ℕ) : Type 0 where
+  pub address : a < 65536
+  pub values : Bytes d
+  pub count : mayHold kind (length d) ≡ true
+  pub exact : text ≡ textOf kind a d
+
+-- a line of the format means what it says
 abbrev pub LineReads : Type 0
-LineReads =
-    (kind a : ℕ) (d : List ℕ) → a < 65536 → Bytes d → mayHold kind (length d) ≡ true → lineOf (textOf kind a d) ≡ meant kind a d
+LineReads = (text : List ℕ) (kind a : ℕ) (d : List ℕ) → IsLine text kind a d → lineOf text ≡ meant kind a d
+
+-- which line a text is, by what it means; the address of an S0 line says nothing
+abbrev pub Stands : List ℕ → Meaning → Type 0
+Stands text (heading d) = (a : ℕ) × IsLine text kind0 a d
+Stands text (piece a d) = IsLine text kind1 a d
+Stands text (start a) = IsLine text kind9 a []
+Stands text (refused r) = Unit {0}
+
+-- a line that is not refused is one of the format, character by character that of its meaning
+abbrev pub LineExact : Type 0
+LineExact = (text : List ℕ) → Stands text (lineOf text)
+
+-- what is refused leaves memory, and the output, as it was, every byte
+pub record RefusedKeeps : Type 0 where
+  pub memory : (mem file : List ℕ) (r : Refusal) → loadedOf mem file .answer ≡ Refused r → memoryAfter mem file ≡ mem
+  pub output : (mem : List ℕ) (a : ℕ) (out : List ℕ) (r : Refusal) → writtenOf mem a out .answer ≡ Refused r → outputAfter mem a out ≡ out
 
 -- what is written of a memory and a start reads back, over a zeroed memory
 abbrev pub ReadsBack : Type 0

@@ -1,12 +1,12 @@
 -- The text that is written of a memory and a start.
 -- Assumes nothing.
 use Prim.Native.Nat.{ℕ, zero, suc, _*_}
-use mathlib.Core.Bool.{Bool, true, false, cond, _&&_}
+use mathlib.Core.Bool.{Bool, true, cond, _&&_}
 use mathlib.Core.List.{List, [], _∷_, _++_}
 use lib.Dec.{eqb, ltb}
 use lib.ListN.{length, take, drop}
+use lib.Seq.{sets}
 use Rattle.srecord.specs.Text.{kind1, kind9, textOf}
-use Rattle.srecord.specs.File.{laid}
 use Rattle.srecord.specs.declared.Answer.the-variants.{Done, Refused}
 use Rattle.srecord.specs.declared.Refusal.{Refusal}
 use Rattle.srecord.specs.declared.Refusal.the-variants.{MemoryLength, OutputShort}
@@ -50,5 +50,5 @@ writtenOf mem a out =
 unfoldable pub outputAfter : List ℕ → ℕ → List ℕ → List ℕ
 outputAfter mem a out =
     cond (eqb (length mem) 65536)
-    (cond (ltb (length out) (length (textFor mem a))) out (laid 0 (textFor mem a) out))
+    (cond (ltb (length out) (length (textFor mem a))) out (sets out 0 (textFor mem a)))
     out

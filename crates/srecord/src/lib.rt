@@ -1,15 +1,15 @@
 // Motorola S-records (document 02, request [1]): a file of S0, S1 and S9 lines read into a memory, and a memory written as one.
 ghost use mathlib.Core.Path.{_≡_};
 ghost use mathlib.Core.Bool.{true};
-ghost use mathlib.Core.List.{[], _∷_};
+ghost use mathlib.Core.List.{[]};
 ghost use Prim.Native.Nat.{_+_, _*_, _%_, _≤_, _<_};
 ghost use lib.ListN.{length, getD, take, drop};
+ghost use lib.Seq.{sets};
 ghost use Rattle.srecord.specs.Answers.{numberOf, numberOfAnswer};
-ghost use Rattle.srecord.specs.Text.{kind9, isDigit, valueOf, digitOf, pair, byteOf, pairs, isPaired, bytesOf, total, textOf};
-ghost use Rattle.srecord.specs.Line.{isShaped, isSummed, mayHold, bytes, addressOf, dataOf, meant, lineOf, shown};
-ghost use Rattle.srecord.specs.File.{failed, meaningsOf, judged, laid, landed, loadedOf, memoryAfter};
-ghost use Rattle.srecord.specs.Code.{sameText, lineLength};
-ghost use Rattle.srecord.specs.Written.{stopped, rowsText, rowText, isZero, textFor, writtenOf, outputAfter};
+ghost use Rattle.srecord.specs.Text.{kind9, isDigit, valueOf, digitOf, pair, byteOf, pairs, isPaired, total, textOf, isSame};
+ghost use Rattle.srecord.specs.Line.{most, isShaped, isSummed, mayHold, bytes, addressOf, dataOf, meant, lineOf, shown};
+ghost use Rattle.srecord.specs.File.{lineEnd, failed, meaningsOf, judged, landed, loadedOf, memoryAfter};
+ghost use Rattle.srecord.specs.Written.{stopped, rowsText, isZero, writtenOf, outputAfter};
 
 // Why a call is refused: numbers 1, 17 and 20 to 23.
 pub enum Refusal {
@@ -134,14 +134,16 @@ fn sum_pairs(text: &[u8], n: usize) -> u8
     sum
 }
 
-// Whether a line of this kind may have n data bytes, which are at most 252: the count is a byte.
+// The most data bytes of a line: its count is a byte, and counts two bytes of address and the checksum too.
+const MOST: usize = 252;
+
+// Whether a line of this kind may have n data bytes.
 fn may_hold(kind: u8, n: usize) -> bool
-    requires { ⌜ n ≤ 252 ⌝ }
     ensures { λ r. ⌜ r ≡ mayHold kind n ⌝ }
 {
     match kind {
-        48 => true,
-        49 => 0 < n,
+        48 => n <= MOST,
+        49 => (0 < n) & (n <= MOST),
         57 => n == 0,
         _ => false,
     }
@@ -168,14 +170,14 @@ fn shaped(text: &[u8]) -> bool
     may_hold(text[1], n)
 }
 
-// Whether the last byte is the checksum of those before it.
+// Whether the last byte is the checksum of those before it: the complement of the low byte of their sum.
 fn summed(text: &[u8]) -> bool
     requires { ⌜ isShaped (now text) ≡ true ⌝ }
     ensures { λ r. ⌜ r ≡ isSummed (bytes (now (text .entry))) ⌝ }
 {
     let n = (text.len() - 11) / 2 + 3;
     let sum = sum_pairs(text, n);
-    byte_at(text, 2 + 2 * n) == 255 - sum
+    byte_at(text, 2 + 2 * n) == !sum
 }
 
 // What a sound line says.
@@ -199,7 +201,7 @@ fn meaning(text: &[u8]) -> Line
 }
 
 fn same(a: &[u8], b: &[u8]) -> bool
-    ensures { λ r. ⌜ r ≡ sameText (now (a .entry)) (now (b .entry)) ⌝ }
+    ensures { λ r. ⌜ r ≡ isSame (now (a .entry)) (now (b .entry)) ⌝ }
 {
     if a.len() != b.len() {
         return false;
@@ -232,7 +234,7 @@ pub fn line_of(text: &[u8]) -> Line
 
 // Where the line that starts here ends: past its line feed, or at the end of the file.
 pub fn line_end(file: &[u8], from: usize) -> usize
-    ensures { λ r. ⌜ r ≡ from + lineLength (drop from (now (file .entry))) ⌝ }
+    ensures { λ r. ⌜ r ≡ lineEnd (now (file .entry)) from ⌝ }
 {
     let mut i = from;
     while i < file.len() {
@@ -285,7 +287,7 @@ fn judge(file: &[u8]) -> Loaded
 // The data of an S1 line, stored from its address on.
 fn store_data(mem: &mut [u8], text: &[u8], address: u16, count: usize)
     requires { ⌜ (address + count ≤ length (now mem)) × (11 + 2 * count ≤ length (now text)) ⌝ }
-    ensures { λ _. ⌜ now (mem .exit) ≡ laid address (take count (drop 3 (bytes (now (text .entry))))) (now (mem .entry)) ⌝ }
+    ensures { λ _. ⌜ now (mem .exit) ≡ sets (now (mem .entry)) address (take count (drop 3 (bytes (now (text .entry))))) ⌝ }
 {
     let first = address as usize;
     let mut i = 0;
@@ -323,9 +325,8 @@ pub fn read(mem: &mut [u8], file: &[u8]) -> Loaded
     }
     let loaded = judge(file);
     let answer = loaded.answer;
-    match answer {
-        Answer::Done => store_lines(mem, file),
-        Answer::Refused(_) => {}
+    if answer.number() == 0 {
+        store_lines(mem, file);
     }
     loaded
 }
@@ -363,7 +364,7 @@ fn rows_length(mem: &[u8]) -> usize
 
 fn put_pair(out: &mut [u8], at: usize, b: u8)
     requires { ⌜ at + 2 ≤ length (now out) ⌝ }
-    ensures { λ _. ⌜ now (out .exit) ≡ laid at (pair b) (now (out .entry)) ⌝ }
+    ensures { λ _. ⌜ now (out .exit) ≡ sets (now (out .entry)) at (pair b) ⌝ }
 {
     out[at] = digit(b / 16);
     out[at + 1] = digit(b % 16);
@@ -371,7 +372,7 @@ fn put_pair(out: &mut [u8], at: usize, b: u8)
 
 fn put_pairs(out: &mut [u8], at: usize, list: &[u8])
     requires { ⌜ at + 2 * length (now list) ≤ length (now out) ⌝ }
-    ensures { λ _. ⌜ now (out .exit) ≡ laid at (pairs (now (list .entry))) (now (out .entry)) ⌝ }
+    ensures { λ _. ⌜ now (out .exit) ≡ sets (now (out .entry)) at (pairs (now (list .entry))) ⌝ }
 {
     let mut i = 0;
     while i < list.len() {
@@ -382,7 +383,7 @@ fn put_pairs(out: &mut [u8], at: usize, list: &[u8])
 
 fn put_text(out: &mut [u8], at: usize, text: &[u8])
     requires { ⌜ at + length (now text) ≤ length (now out) ⌝ }
-    ensures { λ _. ⌜ now (out .exit) ≡ laid at (now (text .entry)) (now (out .entry)) ⌝ }
+    ensures { λ _. ⌜ now (out .exit) ≡ sets (now (out .entry)) at (now (text .entry)) ⌝ }
 {
     let mut i = 0;
     while i < text.len() {
@@ -413,10 +414,10 @@ fn unwritten(refusal: Refusal) -> Written
     }
 }
 
-// One line. The data are at most 252 bytes, so that the count is a byte.
+// One line. The data are not too many, so that the count is a byte.
 fn put_line(out: &mut [u8], at: usize, kind: u8, address: u16, list: &[u8])
-    requires { ⌜ (length (now list) ≤ 252) × (at + (11 + 2 * length (now list)) ≤ length (now out)) ⌝ }
-    ensures { λ _. ⌜ now (out .exit) ≡ laid at (textOf kind address (now (list .entry))) (now (out .entry)) ⌝ }
+    requires { ⌜ (length (now list) ≤ most) × (at + (11 + 2 * length (now list)) ≤ length (now out)) ⌝ }
+    ensures { λ _. ⌜ now (out .exit) ≡ sets (now (out .entry)) at (textOf kind address (now (list .entry))) ⌝ }
 {
     let head = [83, kind];
     put_text(out, at, &head);
@@ -429,14 +430,14 @@ fn put_line(out: &mut [u8], at: usize, kind: u8, address: u16, list: &[u8])
     put_pairs(out, at + 8, list);
     let sum = std::num::wrapping_add_u8(sum_of(&fields), sum_of(list));
     let after = at + 8 + 2 * list.len();
-    put_pair(out, after, 255 - sum);
+    put_pair(out, after, !sum);
     put_text(out, after + 2, b"\n");
 }
 
 // The rows of memory that are not all zero, each as an S1 line; and where they end.
 fn put_rows(mem: &[u8], out: &mut [u8]) -> usize
     requires { ⌜ (length (now mem) ≡ 65536) × (length (rowsText (now mem) 2048) ≤ length (now out)) ⌝ }
-    ensures { λ r. ⌜ (r ≡ length (rowsText (now (mem .entry)) 2048)) × (now (out .exit) ≡ laid 0 (rowsText (now (mem .entry)) 2048) (now (out .entry))) ⌝ }
+    ensures { λ r. ⌜ (r ≡ length (rowsText (now (mem .entry)) 2048)) × (now (out .exit) ≡ sets (now (out .entry)) 0 (rowsText (now (mem .entry)) 2048)) ⌝ }
 {
     let mut at = 0;
     let mut k: u16 = 0;
@@ -456,7 +457,7 @@ fn put_rows(mem: &[u8], out: &mut [u8]) -> usize
 // The S9 line: a fixed text for the start 0000.
 fn put_end(out: &mut [u8], at: usize, start: u16)
     requires { ⌜ at + 11 ≤ length (now out) ⌝ }
-    ensures { λ _. ⌜ now (out .exit) ≡ laid at (textOf kind9 start []) (now (out .entry)) ⌝ }
+    ensures { λ _. ⌜ now (out .exit) ≡ sets (now (out .entry)) at (textOf kind9 start []) ⌝ }
 {
     if start == 0 {
         put_text(out, at, b"S9030000FC\n");

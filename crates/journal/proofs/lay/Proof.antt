@@ -1,11 +1,11 @@
 -- `lay` meets its contract.
 -- Assumes nothing.
 use Prim.Native.Nat.{_-_, _≤_}
-use mathlib.Core.Path.{_≡_, refl, _∙_}
+use mathlib.Core.Path.{_≡_, refl, sym, _∙_}
 use native.Mathlib.Omega.{arith}
 use native.Mathlib.Numerals.{add-one}
 use lib.ListN.{length, length-set}
-use lib.Seq.{paste, paste-zero, paste-suc, take-length}
+use lib.Seq.{sets-eq, paste, paste-zero, paste-suc, take-length}
 use Rattle.journal.proofs.lay.Statement.{statement}
 use Rattle.journal.proofs.lay.Tie as tie
 
@@ -49,7 +49,7 @@ returns c =
     let l = c .before .loop in
     let a = c .before .before .args in
     let e : l .i ≡ length (a .part .now) = omega arith in
-    l .inv .1 .1 ∙ rw (e, take-length)
+    l .inv .1 .1 ∙ rw (e, take-length) (sym (sets-eq (a .part .now) (a .rest .now) (a .at) (omega arith)))
 
 pub lay-spec : {M : Type 1} → statement M
 lay-spec =

@@ -1,11 +1,10 @@
 -- `save` meets its contract.
 -- Assumes nothing.
-use Prim.Native.Nat.{_+_, _*_}
 use mathlib.Core.Path.{refl, sym, _∙_}
 use native.Mathlib.Nat.{add-zero}
 use native.Mathlib.Omega.{arith}
 use Rattle.journal.specs.Record.{entries}
-use Rattle.journal.proofs.Laying.{two, laid-none}
+use Rattle.journal.proofs.Laying.{two}
 use borrow.Author.Needs.{needs}
 use Rattle.journal.proofs.save.Statement.{statement}
 use Rattle.journal.proofs.save.Tie as tie
@@ -18,11 +17,11 @@ returns c =
 
 returns-2 : tie.Need-returns-2
 unfolding entries
-returns-2 c = let e = sym (c .before .before .lands .ensures) ∙ c .enum-told .given .1 in rw e (sym (add-zero _), laid-none (c .before .before .before .before .before .args .rest .now) (32 + c .before .before .before .before .before .args .n * 3))
+returns-2 c = let e = sym (c .before .before .lands .ensures) ∙ c .enum-told .given .1 in rw e (sym (add-zero _), refl)
 
 returns-3 : tie.Need-returns-3
 unfolding entries
-returns-3 c = let e = sym (c .before .before .lands .ensures) ∙ c .enum-told2 .given .1 in rw e (sym (add-zero _), laid-none (c .before .before .before .before .before .args .rest .now) (32 + c .before .before .before .before .before .args .n * 3))
+returns-3 c = let e = sym (c .before .before .lands .ensures) ∙ c .enum-told2 .given .1 in rw e (sym (add-zero _), refl)
 
 pub save-spec : {M : Type 1} → statement M
 save-spec =

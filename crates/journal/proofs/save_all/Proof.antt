@@ -7,9 +7,10 @@ use mathlib.Core.Logic.{inl, inr}
 use native.Mathlib.Omega.{arith}
 use lib.ListN.{length, take, length-map}
 use Rattle.memory.proofs.Folds.{all-taken}
-use Rattle.journal.specs.Record.{entries, laid}
+use lib.Seq.{sets}
+use Rattle.journal.specs.Record.{entries}
 use Rattle.journal.specs.Calls.{savedFor}
-use Rattle.journal.proofs.Laying.{laid-none, saved-twelve, turn-count, turn-laid}
+use Rattle.journal.proofs.Laying.{saved-twelve, turn-count, turn-laid}
 use Rattle.journal.proofs.save_all.Statement.{statement}
 use Rattle.journal.proofs.save_all.Tie as tie
 
@@ -19,7 +20,7 @@ Inv-loop rest₀ mem ram-top count list n₀ i₀ rest n i =
     × ((length list ≡ 12)
     × ((length rest ≡ length rest₀)
     × ((n ≡ length (savedFor ram-top (take i list) mem))
-    × (rest ≡ laid 32 (entries (savedFor ram-top (take i list) mem)) rest₀))))
+    × (rest ≡ sets rest₀ 32 (entries (savedFor ram-top (take i list) mem))))))
 
 abbrev μ-loop : tie.MeasureT-loop
 μ-loop rest₀ mem ram-top count list n₀ i₀ rest n i = 12 - i
@@ -30,7 +31,7 @@ loop-holds c = (
   omega arith,
   (
     simp length-map at (c .before .before .before .good .1 .1 .1 .0 .1 .1 .1 .0 .1 .0 .1),
-    (refl, (refl, laid-none (c .before .before .before .args .rest .now) 32)),
+    (refl, (refl, refl)),
   ),
 )
 
@@ -65,7 +66,7 @@ loop-again c =
           c .before .before .save .kept .0 ∙ l .inv .1 .1 .0,
           (
             s .0 ∙ turn-count (a .ram-top) (a .writes .list) (l .i) _ (l .inv .1 .0) t (a .mem .now) (l .n) (l .inv .1 .1 .1 .0),
-            s .1 ∙ rw (l .inv .1 .1 .1 .1) (turn-laid (a .ram-top) (a .writes .list) (l .i) _ (l .inv .1 .0) t (a .mem .now) (l .n) (a .rest .now) (l .inv .1 .1 .1 .0) (c .before .before .before .before .before .before .before .before .before .before .before .pre .0)),
+            s .1 ∙ rw (l .inv .1 .1 .1 .1) (turn-laid (a .ram-top) (a .writes .list) (l .i) _ (l .inv .1 .0) t (a .mem .now) (l .n) (a .rest .now) (l .inv .1 .1 .1 .0)),
           ),
         ),
       ),

@@ -2,32 +2,31 @@
 -- Assumes nothing.
 use borrow.Author.Needs.{needs}
 use Prim.Native.Nat.{_-_, _≤_}
-use mathlib.Core.Path.{_≡_, refl, sym, ap, _∙_}
+use mathlib.Core.Path.{_≡_, refl, ap, _∙_}
 use native.Mathlib.Omega.{arith}
-use lib.ListN.{length, take}
+use lib.ListN.{length, take, length-set}
 use denote.Ref.{now}
-use Rattle.srecord.proofs.Laying.{laid-length, laid-none, pairs-more}
+use Rattle.srecord.proofs.Laying.{pairs-more}
 use Rattle.srecord.specs.Text.{pairs}
-use Rattle.srecord.specs.File.{laid}
-use lib.Seq.{take-all}
+use lib.Seq.{sets, take-all}
 use Rattle.srecord.proofs.put_pairs.Statement.{statement}
 use Rattle.srecord.proofs.put_pairs.Tie as tie
 
 abbrev Inv-loop : tie.InvT-loop
-Inv-loop out₀ at list i₀ out i = (i ≤ length list) × ((length out ≡ length out₀) × (out ≡ laid at (pairs (take i list)) out₀))
+Inv-loop out₀ at list i₀ out i = (i ≤ length list) × ((length out ≡ length out₀) × (out ≡ sets out₀ at (pairs (take i list))))
 
 abbrev μ-loop : tie.MeasureT-loop
 μ-loop out₀ at list i₀ out i = length list - i
 
 loop-holds : tie.Need-loop-holds Inv-loop μ-loop
 unfolding pairs
-loop-holds c = (omega arith, (refl, sym (laid-none _ _)))
+loop-holds c = (omega arith, (refl, refl))
 
 loop-again : tie.Need-loop-again Inv-loop μ-loop
 loop-again c =
     let e = c .before .before .put-pair .ensures in
     let l = c .before .before .before .before .before .before .loop in
-    (omega arith, (ap length e ∙ laid-length _ _ _ (omega arith) ∙ l .inv .1 .0, e ∙ pairs-more (c .before .before .before .before .before .before .before .before .before .args .at) (l .i) (now (c .before .before .before .before .before .before .before .before .before .args .list)) (now (c .before .before .before .before .before .before .before .before .before .args .out)) (l .out) (omega arith) (omega arith) (l .inv .1 .1)))
+    (omega arith, (ap length e ∙ simp length-set (l .inv .1 .0), e ∙ pairs-more (c .before .before .before .before .before .before .before .before .before .args .at) (l .i) (now (c .before .before .before .before .before .before .before .before .before .args .list)) (now (c .before .before .before .before .before .before .before .before .before .args .out)) (l .out) (omega arith) (l .inv .1 .1)))
 
 same-length : tie.Need-same-length Inv-loop μ-loop
 same-length c = c .before .loop .inv .1 .0

@@ -11,19 +11,18 @@ use lib.ListN.{length}
 use denote.Ref.{now}
 use Rattle.srecord.proofs.Rows.{row-width, row-length, rows-none, rows-grow, turn-skip, turn-more}
 use Rattle.srecord.specs.Written.{rowsText}
-use Rattle.srecord.specs.File.{laid}
-use Rattle.srecord.proofs.Laying.{laid-none}
+use lib.Seq.{sets}
 use Rattle.srecord.proofs.put_rows.Statement.{statement}
 use Rattle.srecord.proofs.put_rows.Tie as tie
 
 abbrev Inv-loop : tie.InvT-loop
-Inv-loop mem out₀ at₀ k₀ out at k = (k ≤ 2048) × ((at ≡ length (rowsText mem k)) × ((length out ≡ length out₀) × (out ≡ laid 0 (rowsText mem k) out₀)))
+Inv-loop mem out₀ at₀ k₀ out at k = (k ≤ 2048) × ((at ≡ length (rowsText mem k)) × ((length out ≡ length out₀) × (out ≡ sets out₀ 0 (rowsText mem k))))
 
 abbrev μ-loop : tie.MeasureT-loop
 μ-loop mem out₀ at₀ k₀ out at k = 2048 - k
 
 loop-holds : tie.Need-loop-holds Inv-loop μ-loop
-loop-holds c = (omega arith, (ap length (sym (rows-none _)), (refl, sym (ap (λ (l : List ℕ). laid 0 l (now (c .before .before .args .out))) (rows-none _) ∙ laid-none 0 _))))
+loop-holds c = (omega arith, (ap length (sym (rows-none _)), (refl, sym (ap (λ (l : List ℕ). sets (now (c .before .before .args .out)) 0 l) (rows-none _)))))
 
 put-line-requires : tie.Need-put-line-requires Inv-loop μ-loop
 put-line-requires c κs =
@@ -44,8 +43,8 @@ loop-again c =
     let m = (now (c .before .before .before .before .before .before .before .args .mem)) in
     let w : 32 * l .k + 32 - 32 * l .k ≡ 32 = omega arith in
     let done = ⊎-elim
-    (λ v. turn-more m (l .k) (32 * l .k + 32 - 32 * l .k) w _ (c .before .all-zero .ensures) (c .before .before .before .before .before .before .before .pre .0) (c .before .before .before .loop-test .taken) (l .at) (l .out) (now (c .before .before .before .before .before .before .before .args .out)) (l .inv .1 .0) (l .inv .1 .1 .0) (l .inv .1 .1 .1) (c .before .before .before .before .before .before .before .pre .1) (c .if1 .at) (c .if1 .out) (v .6) (v .5 ∙ v .2 .ensures) (not-true _ (v .0 .taken)))
-    (λ v. turn-skip m (l .k) (32 * l .k + 32 - 32 * l .k) w _ (c .before .all-zero .ensures) (c .before .before .before .before .before .before .before .pre .0) (c .before .before .before .loop-test .taken) (l .at) (l .out) (now (c .before .before .before .before .before .before .before .args .out)) (l .inv .1 .0) (l .inv .1 .1 .0) (l .inv .1 .1 .1) (c .before .before .before .before .before .before .before .pre .1) (c .if1 .at) (c .if1 .out) (v .2) (v .1) (not-false _ (v .0 .left)))
+    (λ v. turn-more m (l .k) (32 * l .k + 32 - 32 * l .k) w _ (c .before .all-zero .ensures) (c .before .before .before .before .before .before .before .pre .0) (c .before .before .before .loop-test .taken) (l .at) (l .out) (now (c .before .before .before .before .before .before .before .args .out)) (l .inv .1 .0) (l .inv .1 .1 .0) (l .inv .1 .1 .1) (c .if1 .at) (c .if1 .out) (v .6) (v .5 ∙ v .2 .ensures) (not-true _ (v .0 .taken)))
+    (λ v. turn-skip m (l .k) (32 * l .k + 32 - 32 * l .k) w _ (c .before .all-zero .ensures) (c .before .before .before .before .before .before .before .pre .0) (c .before .before .before .loop-test .taken) (l .at) (l .out) (now (c .before .before .before .before .before .before .before .args .out)) (l .inv .1 .0) (l .inv .1 .1 .0) (l .inv .1 .1 .1) (c .if1 .at) (c .if1 .out) (v .2) (v .1) (not-false _ (v .0 .left)))
     (c .if1 .came) in
     (omega arith, (done .ends, (done .keeps, done .holds)))
 

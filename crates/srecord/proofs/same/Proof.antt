@@ -7,12 +7,12 @@ use native.Mathlib.Omega.{arith}
 use lib.ListN.{length, drop}
 use denote.Ref.{now}
 use Rattle.srecord.proofs.Scan.{same-not, same-on, same-none, same-lengths}
-use Rattle.srecord.specs.Code.{sameText}
+use Rattle.srecord.specs.Text.{isSame}
 use Rattle.srecord.proofs.same.Statement.{statement}
 use Rattle.srecord.proofs.same.Tie as tie
 
 abbrev Inv-loop : tie.InvT-loop
-Inv-loop a b i₀ i = (length a ≡ length b) × (sameText (drop i a) (drop i b) ≡ sameText a b)
+Inv-loop a b i₀ i = (length a ≡ length b) × (isSame (drop i a) (drop i b) ≡ isSame a b)
 
 abbrev μ-loop : tie.MeasureT-loop
 μ-loop a b i₀ i = length a - i

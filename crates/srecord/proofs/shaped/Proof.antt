@@ -26,11 +26,8 @@ cast-count c = omega (arith, byte-small (getD (now (c .before .before .before .b
 returns-4 : tie.Need-returns-4
 returns-4 c = shape-count (now (c .before .before .before .before .before .before .before .before .args .text)) (c .before .before .before .before .if2 .left) (omega arith) (sym (c .before .before .before .paired .ensures) ∙ not-false _ (c .before .before .if3 .left)) (λ e. c .if4 .taken (c .before .byte-at .ensures ∙ e))
 
-may-hold-requires : tie.Need-may-hold-requires
-may-hold-requires c κs = omega (arith, byte-small (getD (now (c .before .before .before .before .before .before .before .before .before .args .text)) 2 0) (getD (now (c .before .before .before .before .before .before .before .before .before .args .text)) 3 0))
-
 returns-5 : tie.Need-returns-5
 returns-5 c = c .may-hold .ensures ∙ shape-kind (now (c .before .before .before .before .before .before .before .before .before .before .args .text)) (c .before .before .before .before .before .before .if2 .left) (omega arith) (sym (c .before .before .before .before .before .paired .ensures) ∙ not-false _ (c .before .before .before .before .if3 .left)) (sym (c .before .before .before .byte-at .ensures) ∙ c .before .before .if4 .left)
 
 pub shaped-spec : {M : Type 1} → statement M
-shaped-spec = tie.close (tie.spec returns (search needs) returns-2 (search needs) returns-3 (search needs) cast-count (search needs) (search needs) returns-4 (search needs) may-hold-requires returns-5)
+shaped-spec = tie.close (tie.spec returns (search needs) returns-2 (search needs) returns-3 (search needs) cast-count (search needs) (search needs) returns-4 (search needs) (search needs) returns-5)

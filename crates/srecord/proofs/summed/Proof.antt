@@ -24,11 +24,8 @@ add-byte-at c = omega (arith, shaped-length (now (c .before .before .args .text)
 byte-at-requires : tie.Need-byte-at-requires
 byte-at-requires c κs = omega (arith, shaped-length (now (c .before .before .args .text)) (c .before .before .pre), shaped-room (now (c .before .before .args .text)) (c .before .before .pre))
 
-sub-result : tie.Need-sub-result
-sub-result c = omega arith
-
 returns : tie.Need-returns
 returns c = sum-found (now (c .before .before .before .args .text)) (c .before .before .before .pre) _ _ (c .byte-at .ensures) (c .before .sum-pairs .ensures)
 
 pub summed-spec : {M : Type 1} → statement M
-summed-spec = tie.close (tie.spec sub-n add-n sum-pairs-requires mul-byte-at add-byte-at byte-at-requires sub-result returns)
+summed-spec = tie.close (tie.spec sub-n add-n sum-pairs-requires mul-byte-at add-byte-at byte-at-requires returns)
