@@ -15,7 +15,7 @@ use Rattle.addressing.specs.declared.Form.{Form}
 use Rattle.addressing.specs.declared.Form.the-variants.{Refused}
 
 -- a test holds of every number below n
-abbrev both : Bool → Bool → Bool
+abbrev pub both : Bool → Bool → Bool
 both true b = b
 both false b = false
 
@@ -23,7 +23,7 @@ every : ℕ → (ℕ → Bool) → Bool
 every zero f = true
 every (suc n) f = both (f n) (every n f)
 
-both-T : (a b : Bool) → T (both a b) → T a × T b
+pub both-T : (a b : Bool) → T (both a b) → T a × T b
 both-T true b t = (tt, t)
 both-T false b t = absurd t
 
@@ -36,11 +36,11 @@ holds (suc n) f t k h = go (holds n f (both-T (f n) (every n f) t .1)) (ℕ-disc
     go ih (yes e) = rw e (both-T (f n) (every n f) t .0)
     go ih (no d) = ih k (omega arith)
 
-agree : Bool → Bool → Bool
+unfoldable pub agree : Bool → Bool → Bool
 agree true v = v
 agree false v = not v
 
-agree→eq : (u v : Bool) → T (agree u v) → u ≡ v
+pub agree→eq : (u v : Bool) → T (agree u v) → u ≡ v
 unfolding agree
 agree→eq true true t = refl
 agree→eq true false t = absurd t

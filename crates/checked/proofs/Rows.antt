@@ -19,6 +19,7 @@ use Rattle.registers.specs.declared.Flags.the-variants.{Bought, Manual}
 use Rattle.registers.proofs.Laws.{carry-alone}
 use Rattle.registers.proofs.Reading.{flag-same, flag-far, place-inj}
 use Rattle.memory.specs.Map.{placeOf}
+use Rattle.addressing.proofs.PostBytes.{both, both-T, agree, agree→eq}
 use Rattle.addressing.specs.PostByte.{isIndirect, formOf, isRefused, fiveBits}
 use Rattle.memory.specs.Answers.{numberOfAnswer}
 use Rattle.evaluate.specs.Stack.{bytesOf}
@@ -27,25 +28,6 @@ use Rattle.interrupts.specs.Interrupts.{isEntire}
 use Rattle.interrupts.proofs.Laws.{small-stack}
 use Rattle.checked.proofs.Addresses.{offset-row, refused-row, system-row, ignored-row}
 use Rattle.checked.specs.Rows.{Row, of, carrying, postByte, badPostByte, systemWrite, ignoredWrite, refusedInterrupt, Shown, Gives, Holds, Every, rows}
-
-abbrev both : Bool → Bool → Bool
-both true b = b
-both false b = false
-
-both-T : (a b : Bool) → T (both a b) → T a × T b
-both-T true b t = (tt, t)
-both-T false b t = absurd t
-
-agree : Bool → Bool → Bool
-agree true v = v
-agree false v = not v
-
-agree→eq : (u v : Bool) → T (agree u v) → u ≡ v
-unfolding agree
-agree→eq true true t = refl
-agree→eq true false t = absurd t
-agree→eq false true t = absurd t
-agree→eq false false t = refl
 
 -- the first line of a flag says v
 says : CCBit → Bool → List Line → Bool

@@ -56,7 +56,7 @@ use Rattle.evaluate.specs.Bytes.{aluOf, unaryOf, writesBack, after, onMe
 use Rattle.evaluate.specs.Effects.{stores, changes, refuses, withCodes, accumulator, withAccumulator, indexed, withWord}
 use Rattle.evaluate.specs.Evaluate.{evaluateOf}
 use Rattle.evaluate.specs.Interrupts.{oncePushed, called, leadsTo, vectored, served, orCodes, andCodes, vectorOf, maskOf, waiting}
-use Rattle.evaluate.specs.Rest.{corrected, transferable, transferName, transfer, exchange}
+use Rattle.evaluate.specs.Rest.{corrected, daaFlags, sexFlags, transferable, transferName, transfer, exchange}
 use Rattle.evaluate.specs.Stack.{pushedByte, pushedWord, pushedAll, bytesOf, pushing, pulledByte, pulledWordAt, pulledWord, pulledAll, pulling, returning, framed}
 use Rattle.evaluate.specs.Words.{ofWord, load16, store16, compare16, addD, subtractD, loadIndex, loadAddress}
 use Rattle.evaluate.specs.declared.Effect.{Effect}
@@ -366,12 +366,6 @@ module _ (mem : List ℕ) (r : Set) (ea : ℕ) where
       → Fits (withWord (withCodes r (codes (r .cc) (manual o (r .cc) (indexed r D) w .flags))) D (manual o (r .cc) (indexed r D) w .value))
   on-d o w l g = word-written _ (page-fits r (g .registers) (manual o (r .cc) (indexed r D) w .flags)) D (manual o (r .cc) (indexed r D) w .value) l
 
-  daaLines : CCBits → ℕ → List Line
-  daaLines cc a = let sum = corrected cc a in (N := leb 0x80 (sum % 256)) ∷ (Z := eqb (sum % 256) 0) ∷ (C := flag C cc || leb 256 sum) ∷ []
-
-  sexLines : ℕ → List Line
-  sexLines b = let d = signedByte b in (N := leb 0x8000 d) ∷ (Z := eqb d 0) ∷ []
-
   first : ℕ → Name
   first at = transferName (byteAt mem at / 16)
 
@@ -384,7 +378,7 @@ module _ (mem : List ℕ) (r : Set) (ea : ℕ) where
   masks-low Swi3 = lit< tt
 
   pub evaluated-sound : (op : Op) (s : Flags) (top : ℕ) → Sound (Given mem r ea) r (waitAfter op) (evaluateOf op s top mem r ea)
-  unfolding onMemory load16 store16 compare16 addD subtractD returning transfer exchange daaLines sexLines first second
+  unfolding onMemory load16 store16 compare16 addD subtractD returning transfer exchange first second
   evaluated-sound Illegal s top = refused-sound r (λ g. g .registers) Opcode
   evaluated-sound (Alu op acc) s top =
       changed r _ (λ g. with-fits acc r _ (g .registers) (alu-out s (r .cc) (g .registers .cc) _ (acc-fits r (g .registers) acc) op _ (byte-given g)))
@@ -421,8 +415,8 @@ module _ (mem : List ℕ) (r : Set) (ea : ℕ) where
   evaluated-sound Sync s top = done-sound r _ refl refl none-full (λ g. g .registers) (λ g. none-fit)
   evaluated-sound Nop s top = changed r r (λ g. g .registers)
   evaluated-sound Daa s top =
-      changed r _ (λ g. with-fits A r _ (g .registers) (record { value = mod-lt (corrected (r .cc) (r .a)) (lit< tt); codes = codes-fit (r .cc) (daaLines (r .cc) (r .a)) (g .registers .cc) }))
-  evaluated-sound Sex s top = changed r _ (λ g. word-written _ (page-fits r (g .registers) (sexLines (r .b))) D (signedByte (r .b)) (signed-fits (r .b) (g .registers .b)))
+      changed r _ (λ g. with-fits A r _ (g .registers) (record { value = mod-lt (corrected (r .cc) (r .a)) (lit< tt); codes = codes-fit (r .cc) (daaFlags (r .cc) (r .a)) (g .registers .cc) }))
+  evaluated-sound Sex s top = changed r _ (λ g. word-written _ (page-fits r (g .registers) (sexFlags (r .b))) D (signedByte (r .b)) (signed-fits (r .b) (g .registers .b)))
   evaluated-sound Mul s top =
       changed r _ (λ g. word-written _ (page-fits r (g .registers) (manual MUL (r .cc) (r .a) (r .b) .flags)) D (manual MUL (r .cc) (r .a) (r .b) .value) (result-fits Manual MUL (r .cc) (r .a) (r .b) (g .registers .a) (g .registers .b)))
   evaluated-sound Abx s top = changed r _ (λ g. word-written r (g .registers) X ((r .x + r .b) % 65536) (mod-lt (r .x + r .b) (lit< tt)))

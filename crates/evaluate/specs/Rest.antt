@@ -2,10 +2,10 @@
 -- Assumes nothing.
 use Prim.Native.Nat.{ℕ, _+_, _*_, _/_, _%_}
 use mathlib.Core.Bool.{Bool, cond, _&&_, _||_}
-use mathlib.Core.List.{[], _∷_}
+use mathlib.Core.List.{List, [], _∷_}
 use lib.Dec.{eqb, leb, ltb}
 use Rattle.registers.specs.ConditionCodes.{flag}
-use Rattle.registers.specs.Page.{MUL, _:=_, codes}
+use Rattle.registers.specs.Page.{MUL, Line, _:=_, codes}
 use Rattle.registers.specs.Manual.{manual}
 use Rattle.registers.specs.RegisterSet.{read, written}
 use Rattle.registers.specs.declared.CCBit.the-variants.{C, Z, N, H}
@@ -33,21 +33,20 @@ corrected cc a =
     let high = a / 16 in
     a + correction (flag H cc || ltb 9 low) 6 + correction ((flag C cc || ltb 9 high) || (ltb 8 high && ltb 9 low)) 0x60
 
+abbrev pub daaFlags : CCBits → ℕ → List Line
+daaFlags cc a =
+    let sum = corrected cc a in
+    (N := leb 0x80 (sum % 256)) ∷ (Z := eqb (sum % 256) 0) ∷ (C := flag C cc || leb 256 sum) ∷ []
+
 abbrev pub daaOf : Set → Set
-daaOf r =
-    let sum = corrected (r .cc) (r .a) in
-    withAccumulator A
-    (record {
-      cc = codes (r .cc) ((N := leb 0x80 (sum % 256)) ∷ (Z := eqb (sum % 256) 0) ∷ (C := flag C (r .cc) || leb 256 sum) ∷ []);
-      value = sum % 256;
-    })
-    r
+daaOf r = withAccumulator A (record { cc = codes (r .cc) (daaFlags (r .cc) (r .a)); value = corrected (r .cc) (r .a) % 256 }) r
 
 -- SEX: B with its sign, as D; N and Z by D; V not affected
+abbrev pub sexFlags : ℕ → List Line
+sexFlags b = (N := leb 0x8000 (signedByte b)) ∷ (Z := eqb (signedByte b) 0) ∷ []
+
 abbrev pub sexOf : Set → Set
-sexOf r =
-    let d = signedByte (r .b) in
-    withWord (withCodes r (codes (r .cc) ((N := leb 0x8000 d) ∷ (Z := eqb d 0) ∷ []))) D d
+sexOf r = withWord (withCodes r (codes (r .cc) (sexFlags (r .b)))) D (signedByte (r .b))
 
 -- MUL: A times B, unsigned, as D; Z by D, C is bit 7 of B; N and V not affected
 abbrev pub mulOf : Set → Set

@@ -1,8 +1,8 @@
 -- Where an address lands, by the range that it lies in.
 -- Assumes nothing.
 use Prim.Native.Nat.{ℕ, _-_, _≤_, _<_}
-use mathlib.Core.Path.{_≡_, refl}
-use mathlib.Core.Bool.{Bool, true, false, not, _&&_}
+use mathlib.Core.Path.{_≡_, refl, sym, ap, _∙_}
+use mathlib.Core.Bool.{Bool, true, false, not, cond, _&&_}
 use mathlib.Core.Logic.{_⊎_, ⊎-elim}
 use lib.Dec.{ltb}
 use native.Mathlib.Omega.{arith}
@@ -33,10 +33,11 @@ module _ (at top : ℕ) (system : Bool) where
   second-devices lo hi =
       simp (le-leb 0xFF00 at (omega arith), lt-leb at 0xFF3F (omega arith), le-leb 0xFFC0 at lo, le-leb at 0xFFDF (omega arith))
 
-  pub above : (at < 0xFF00) ⊎ (0xFFE0 ≤ at) → ltb top at && not system ≡ true → Ignored ≡ landingOf at top system
+  -- below the devices and at the vectors ram_top decides
+  program : (at < 0xFF00) ⊎ (0xFFE0 ≤ at) → landingOf at top system ≡ cond (ltb top at && not system) Ignored (Stored (placeOf at))
   unfolding landingOf
-  above w h =
-      ⊎-elim (λ l. simp (lt-leb 0xFF00 at l, lt-leb 0xFFC0 at (omega arith), lt-leb 0xFF40 at (omega arith), h))
+  program w =
+      ⊎-elim (λ l. simp (lt-leb 0xFF00 at l, lt-leb 0xFFC0 at (omega arith), lt-leb 0xFF40 at (omega arith)))
       (λ l.
       simp (
         le-leb 0xFF00 at (omega arith),
@@ -45,22 +46,11 @@ module _ (at top : ℕ) (system : Bool) where
         lt-leb at 0xFFDF (omega arith),
         le-leb 0xFF40 at (omega arith),
         lt-leb at 0xFFBF (omega arith),
-        h,
       ))
       w
 
+  pub above : (at < 0xFF00) ⊎ (0xFFE0 ≤ at) → ltb top at && not system ≡ true → Ignored ≡ landingOf at top system
+  above w h = sym (program w ∙ ap (λ (b : Bool). cond b Ignored (Stored (placeOf at))) h)
+
   pub kept : (at < 0xFF00) ⊎ (0xFFE0 ≤ at) → ltb top at && not system ≡ false → Stored (placeOf at) ≡ landingOf at top system
-  unfolding landingOf
-  kept w h =
-      ⊎-elim (λ l. simp (lt-leb 0xFF00 at l, lt-leb 0xFFC0 at (omega arith), lt-leb 0xFF40 at (omega arith), h))
-      (λ l.
-      simp (
-        le-leb 0xFF00 at (omega arith),
-        lt-leb at 0xFF3F (omega arith),
-        le-leb 0xFFC0 at (omega arith),
-        lt-leb at 0xFFDF (omega arith),
-        le-leb 0xFF40 at (omega arith),
-        lt-leb at 0xFFBF (omega arith),
-        h,
-      ))
-      w
+  kept w h = sym (program w ∙ ap (λ (b : Bool). cond b Ignored (Stored (placeOf at))) h)

@@ -3,7 +3,6 @@
 use Prim.Native.Nat.{ℕ, _<_}
 use Rattle.u8oru16.specs.declared.u8u16.{u8u16}
 use Rattle.u8oru16.specs.declared.u8u16.the-variants.{u8, u16}
-use Rattle.registers.specs.Page.{Operation, ADD, ADC, ADDD, SUB, SBC, SUBD, DEC, INC, AND, AND16, OR, EOR, COM, NEG, ASL, LSR, ASR, ROL, ROR, MUL, top}
 use Rattle.registers.specs.declared.Set.{Set}
 
 pub record Fits (r : Set) : Type 0 where
