@@ -7,4 +7,5 @@ pub mod Interrupts
 pub mod Rest
 pub mod Evaluate
 pub mod Quiet
+pub mod Small
 pub mod Parting
