@@ -1,10 +1,7 @@
 // The run program (document 01, "The run program"): reads a run file from standard input, plays its operations on recorded calls, and prints
-// a line for each. What it prints is `printed` of what it read (`play`); reading and writing are all that stands here.
+// a line for each. What it prints is `printed` of what it read (`player::play`); reading and writing are all that stands here.
 ghost use mathlib.Core.Path.{_≡_};
 ghost use lib.ListN.{length};
-
-mod play;
-
 use libc::STDIN_FILENO;
 use libc::STDOUT_FILENO;
 
@@ -25,7 +22,7 @@ fn main() {
     let mut file = [0u8; FILE];
     let n = io::read_full(STDIN_FILENO, &mut file);
     let mut out = out_buffer();
-    let used = play::play(&file[..n], &mut out);
+    let used = player::play(&file[..n], &mut out);
     if used <= OUT {
         io::write_all(STDOUT_FILENO, &out[..used]);
     }

@@ -1,0 +1,4 @@
+pub mod Text
+pub mod Playing
+pub mod Booting
+pub mod Unique
