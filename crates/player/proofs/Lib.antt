@@ -1,4 +1,5 @@
 pub mod Text
 pub mod Playing
 pub mod Booting
+pub mod Recorded
 pub mod Unique

@@ -1,11 +1,12 @@
 -- What is printed of firmware that arrives as S-records. The input is a head of five bytes, ram_top, flags and the count of steps, and then
 -- the text of the S-record file.
 -- Assumes nothing.
-use Prim.Native.Nat.{ℕ, zero, suc, _+_, _*_}
+use Prim.Native.Nat.{ℕ, zero, suc, _+_, _*_, _<_}
+use mathlib.Core.Path.{_≡_}
 use mathlib.Core.Bool.{Bool, cond, _&&_}
 use mathlib.Core.List.{List, [], _∷_, _++_}
 use lib.Dec.{eqb, leb}
-use lib.ListN.{length, getD, drop}
+use lib.ListN.{length, getD, drop, replicate}
 use Rattle.registers.specs.declared.Flags.{Flags}
 use Rattle.registers.specs.declared.Flags.the-variants.{Bought, Manual}
 use Rattle.srecord.specs.Answers.{numberOf}
@@ -17,8 +18,10 @@ use Rattle.step.specs.declared.Machine.{Machine}
 use Rattle.step.specs.declared.Settings.{Settings}
 use Rattle.step.specs.declared.Stepped.{Stepped}
 use Rattle.interrupts.specs.Interrupts.{resetOf, memoryAfterReset}
+use Rattle.journal.specs.Calls.{inHand}
+use Rattle.runfile.specs.declared.Operation.the-variants.{Step, Reset}
 use Rattle.player.specs.Line.{alone, sixteen}
-use Rattle.player.specs.Play.{first, lineOf, zeros}
+use Rattle.player.specs.Play.{first, start, lineOf, lines, zeros}
 
 -- ---- the head
 
@@ -78,3 +81,11 @@ bootPrinted input =
     (cond (eqb (flagByte input) 1) (bootLines (setTo (ramTop input) Manual) (steps input) (text input))
     sixteen))
     sixteen
+
+-- ---- beside a run file
+
+-- while a journal of 960 records has room, the same calls recorded print the same: a reset and up to 959 steps
+abbrev pub AsRecorded : Type 0
+AsRecorded =
+    (t : Settings) (n : ℕ) (mem : List ℕ) → length mem ≡ 65536 → n < 960
+    → runLines t n mem ≡ lines t (Reset ∷ replicate n Step) (inHand mem (zeros 65280) start)
