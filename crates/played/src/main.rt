@@ -7,7 +7,7 @@ ghost use Prim.Native.Nat.{_+_, _≤_};
 // The longest input that is taken.
 const INPUT: usize = 0x10000;
 
-// The longest text: that of a run file of 32,760 operations, 17 bytes each.
+// The longest text is that of the longest run file: 32,760 lines of 13 bytes.
 const OUT: usize = 0x8_8000;
 
 fn digit(c: u8) -> usize

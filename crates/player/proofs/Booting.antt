@@ -30,10 +30,10 @@ use Rattle.player.proofs.Playing.{line-bound}
 pub record ToGo (t : Settings) (out₀ : List ℕ) (at : ℕ) (whole : List ℕ) (n used : ℕ) (out mem : List ℕ) (m : Machine) : Type 0 where
   pub count : used + length (stepLines t n mem m) ≡ at + length whole
   pub laid : sets out used (stepLines t n mem m) ≡ sets out₀ at whole
-  pub room : used + 50 * n ≤ 0x400000
+  pub room : used + 32 * n ≤ 0x200000
 
 module _ (t : Settings) (out₀ : List ℕ) (at : ℕ) where
-  pub at-first : (n : ℕ) (mem : List ℕ) (m : Machine) → at + 50 * n ≤ 0x400000 → ToGo t out₀ at (stepLines t n mem m) n at out₀ mem m
+  pub at-first : (n : ℕ) (mem : List ℕ) (m : Machine) → at + 32 * n ≤ 0x200000 → ToGo t out₀ at (stepLines t n mem m) n at out₀ mem m
   at-first n mem m h = record { count = refl; laid = refl; room = h }
 
   module _ (whole : List ℕ) where

@@ -7,8 +7,11 @@ use native.Mathlib.Omega.{arith}
 use native.Mathlib.Numerals.{add-one}
 use lib.ListN.{length, getD, take, length-append}
 use lib.Seq.{sets, take-suc, take-all, length-take-le}
-use Rattle.memory.specs.Answers.{numberOfAnswer}
+use Rattle.memory.specs.Answers.{numberOf, numberOfAnswer}
 use Rattle.memory.specs.declared.Answer.{Answer}
+use Rattle.memory.specs.declared.Answer.the-variants.{Done, Refused}
+use Rattle.memory.specs.declared.Refusal.{Refusal}
+use Rattle.memory.specs.declared.Refusal.the-variants.{MemoryLength, Waiting, Opcode, PastEnd, PostByte, WordAtTop, TransferCode, StackTooSmall, ZeroAtVector, JournalFull, NoRecord, JournalLength}
 use Rattle.step.specs.declared.Machine.{Machine}
 use Rattle.step.specs.declared.Settings.{Settings}
 use Rattle.journal.specs.declared.Outcome.{Outcome}
@@ -23,10 +26,28 @@ use Rattle.runfile.specs.declared.Loaded.the-variants.{Ready, Malformed}
 use Rattle.runfile.proofs.Operations.{in-order, they-fit, not-longer}
 use Rattle.player.specs.Line.{line}
 use Rattle.player.specs.Play.{acted, lineOf, lineFor, lines, after, given, played}
-use Rattle.player.proofs.Text.{sets-append, at-most-fifty}
+use Rattle.player.proofs.Text.{sets-append, at-most-32}
 
-pub line-bound : (a : Answer) (m : Machine) → length (lineOf a m) ≤ 50
-line-bound a m = at-most-fifty (numberOfAnswer a) (m .regs .pc) (m .regs .cc .reg) (m .cycles)
+below-100 : (a : Answer) → numberOfAnswer a < 100
+below-100 Done = omega arith
+below-100 (Refused x) = go x
+  where
+    go : (x : Refusal) → numberOf x < 100
+    go MemoryLength = omega arith
+    go Waiting = omega arith
+    go Opcode = omega arith
+    go PastEnd = omega arith
+    go PostByte = omega arith
+    go WordAtTop = omega arith
+    go TransferCode = omega arith
+    go StackTooSmall = omega arith
+    go ZeroAtVector = omega arith
+    go JournalFull = omega arith
+    go NoRecord = omega arith
+    go JournalLength = omega arith
+
+pub line-bound : (a : Answer) (m : Machine) → length (lineOf a m) ≤ 32
+line-bound a m = at-most-32 (numberOfAnswer a) (m .regs .pc) (m .regs .cc .reg) (m .cycles) (below-100 a)
 
 module _ (t : Settings) where
   lines-more : (os : List Operation) (o : Operation) (s : State) → lines t (os ++ (o ∷ [])) s ≡ lines t os s ++ lineFor (acted t o (after t os s))
@@ -41,7 +62,7 @@ module _ (t : Settings) where
   after-more [] o s = refl
   after-more (p ∷ os) o s = after-more os o (acted t p s .state)
 
-  pub lines-bound : (os : List Operation) (s : State) → length (lines t os s) ≤ 50 * length os
+  pub lines-bound : (os : List Operation) (s : State) → length (lines t os s) ≤ 32 * length os
   unfolding lines
   lines-bound [] s = omega arith
   lines-bound (o ∷ os) s = simp length-append (omega (arith, line-bound (acted t o s .answer) (acted t o s .state .twin .machine), lines-bound os (acted t o s .state)))
@@ -112,7 +133,7 @@ module _ {file : List ℕ} {from : Start} {p : Parsed} (so : Sound file from p) 
       let e = take-all (at - from .operations) (operationsIn p) (omega (arith, so .starts)) in
       rw (so .plays s₀) (h .count ∙ rw e, h .text ∙ rw e)
 
-  pub fits : (at used : ℕ) (out : List ℕ) (s : State) → Sofar (settingsOf from) (operationsIn p) s₀ out₀ (at - from .operations) used out s → at ≤ length file → used ≤ 0x400000
+  pub fits : (at used : ℕ) (out : List ℕ) (s : State) → Sofar (settingsOf from) (operationsIn p) s₀ out₀ (at - from .operations) used out s → at ≤ length file → used ≤ 0x200000
   fits at used out s h k =
       let b = lines-bound (settingsOf from) (take (at - from .operations) (operationsIn p)) s₀ in
       let l = length-take-le (at - from .operations) (operationsIn p) (omega (arith, so .starts)) in

@@ -91,6 +91,17 @@ module _ (l : List ℕ) (at answer pc cc cycles a end : ℕ) (ea : a ≡ at + le
   unfolding line
   line-count = simp length-append (omega arith)
 
-pub at-most-fifty : (answer pc cc cycles : ℕ) → length (line answer pc cc cycles) ≤ 50
+-- an answer has two digits at most
+at-most-two : (n : ℕ) → n < 100 → length (decimal n) ≤ 2
+at-most-two n h = go (decLt n 10)
+  where
+    go : Dec (n < 10) → length (decimal n) ≤ 2
+    go (yes l) = rw (short n l) (omega arith)
+    go (no m) =
+        let a : 10 ≤ n = omega arith in
+        let b : n < 2 ^ 64 = omega arith in
+        rw (long n a b, short (n / 10) (tenth 10 n (omega arith))) (omega arith)
+
+pub at-most-32 : (answer pc cc cycles : ℕ) → answer < 100 → length (line answer pc cc cycles) ≤ 32
 unfolding line
-at-most-fifty answer pc cc cycles = simp length-append (omega (arith, at-most-twenty answer, at-most-twenty cycles))
+at-most-32 answer pc cc cycles h = simp length-append (omega (arith, at-most-two answer h, at-most-twenty cycles))

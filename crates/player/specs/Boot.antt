@@ -1,7 +1,7 @@
 -- What is printed of firmware that arrives as S-records. The input is a head of five bytes, ram_top, flags and the count of steps, and then
 -- the text of the S-record file.
 -- Assumes nothing.
-use Prim.Native.Nat.{ℕ, zero, suc, _+_, _*_, _<_}
+use Prim.Native.Nat.{ℕ, zero, suc, _+_, _*_, _≤_, _<_}
 use mathlib.Core.Path.{_≡_}
 use mathlib.Core.Bool.{Bool, cond, _&&_}
 use mathlib.Core.List.{List, [], _∷_, _++_}
@@ -9,6 +9,7 @@ use lib.Dec.{eqb, leb}
 use lib.ListN.{length, getD, drop, replicate}
 use Rattle.registers.specs.declared.Flags.{Flags}
 use Rattle.registers.specs.declared.Flags.the-variants.{Bought, Manual}
+use Rattle.memory.specs.Fits.{Bytes}
 use Rattle.srecord.specs.Answers.{numberOf}
 use Rattle.srecord.specs.File.{loadedOf, memoryAfter}
 use Rattle.srecord.specs.declared.Answer.{Answer}
@@ -82,10 +83,14 @@ bootPrinted input =
     sixteen))
     sixteen
 
--- ---- beside a run file
+-- ---- laws
 
 -- while a journal of 960 records has room, the same calls recorded print the same: a reset and up to 959 steps
 abbrev pub AsRecorded : Type 0
 AsRecorded =
     (t : Settings) (n : ℕ) (mem : List ℕ) → length mem ≡ 65536 → n < 960
     → runLines t n mem ≡ lines t (Reset ∷ replicate n Step) (inHand mem (zeros 65280) start)
+
+-- at most 65,536 lines of at most 32 bytes
+abbrev pub BootFits : Type 0
+BootFits = (input : List ℕ) → Bytes input → length (bootPrinted input) ≤ 0x200000

@@ -1,8 +1,8 @@
 -- What the run program prints of a run file (document 01, section "The run program").
 -- Assumes nothing.
-use Prim.Native.Nat.{ℕ}
+use Prim.Native.Nat.{ℕ, _≤_}
 use mathlib.Core.List.{List, [], _∷_, _++_}
-use lib.ListN.{replicate}
+use lib.ListN.{length, replicate}
 use Rattle.memory.specs.Answers.{numberOfAnswer}
 use Rattle.memory.specs.declared.Answer.{Answer}
 use Rattle.evaluate.specs.declared.Wait.the-variants.{Running}
@@ -71,3 +71,7 @@ zeros n = replicate n 0
 -- memory is zeroed before the pieces are laid; the journal has 960 records of 68 bytes
 unfoldable pub printed : List ℕ → List ℕ
 printed file = played (parsed file) (inHand (placed (parsed file) (zeros 65536)) (zeros 65280) start)
+
+-- a line has at most 32 bytes, and a file fewer operations than its 32,768 bytes
+abbrev pub PlayFits : Type 0
+PlayFits = (file : List ℕ) → length (printed file) ≤ 0x100000

@@ -160,7 +160,7 @@ fn put_decimal(out: &mut [u8], at: usize, n: u64) -> usize
 
 // Where the line ends.
 fn put_line(out: &mut [u8], at: usize, answer: u8, pc: u16, cc: u8, cycles: u64) -> usize
-    requires { ⌜ at ≤ 0x400000 ⌝ }
+    requires { ⌜ at ≤ 0x200000 ⌝ }
     ensures { λ r. ⌜ (r ≡ at + length (line answer pc cc cycles)) × (now (out .exit) ≡ sets (now (out .entry)) at (line answer pc cc cycles)) ⌝ }
 {
     let a = put_decimal(out, at, answer as u64);
@@ -195,7 +195,7 @@ fn put_sixteen(out: &mut [u8]) -> usize
 
 // A call's line, and where it ends.
 fn put_call(out: &mut [u8], at: usize, answer: Answer, machine: Machine) -> usize
-    requires { ⌜ at ≤ 0x400000 ⌝ }
+    requires { ⌜ at ≤ 0x200000 ⌝ }
     ensures { λ r. ⌜ (r ≡ at + length (lineOf answer machine)) × (now (out .exit) ≡ sets (now (out .entry)) at (lineOf answer machine)) ⌝ }
 {
     let regs = machine.regs;
@@ -255,7 +255,7 @@ fn put_steps(
     settings: Settings,
     count: u16,
 ) -> usize
-    requires { ⌜ at ≤ 50 ⌝ }
+    requires { ⌜ at ≤ 32 ⌝ }
     ensures { λ r. ⌜ (r ≡ at + length (stepLines settings count (now (mem .entry)) machine)) × (now (out .exit) ≡ sets (now (out .entry)) at (stepLines settings count (now (mem .entry)) machine)) ⌝ }
 {
     let mut current = machine;

@@ -1,6 +1,6 @@
 -- `in_buffer` meets its contract.
 -- Assumes nothing.
-use Rattle.boot.proofs.Counted.{counted}
+use Rattle.player.proofs.Bounds.{counted}
 use Rattle.boot.proofs.in_buffer.Statement.{statement}
 use Rattle.boot.proofs.in_buffer.Tie as tie
 

@@ -1,8 +1,0 @@
--- How many elements a long array has, by a law: to count them would take too long.
--- Assumes nothing.
-use Prim.Native.Nat.{ℕ}
-use mathlib.Core.Path.{_≡_, sym}
-use lib.ListN.{length, replicate, length-replicate}
-
-pub counted : (n : ℕ) → n ≡ length {A = ℕ} (replicate n 0)
-counted n = sym (length-replicate n 0)
