@@ -1,6 +1,6 @@
 -- One operation more: its line, and what is in hand after it.
 -- Assumes nothing.
-use Prim.Native.Nat.{ℕ, zero, suc, _+_, _-_, _*_, _≤_, _<_}
+use Prim.Native.Nat.{ℕ, _+_, _-_, _*_, _≤_, _<_}
 use mathlib.Core.Path.{_≡_, refl, sym, ap, _∙_}
 use mathlib.Core.List.{List, [], _∷_, _++_, append-assoc, append-nil}
 use native.Mathlib.Omega.{arith}
@@ -15,17 +15,16 @@ use Rattle.memory.specs.declared.Refusal.the-variants.{MemoryLength, Waiting, O
 use Rattle.step.specs.declared.Machine.{Machine}
 use Rattle.step.specs.declared.Settings.{Settings}
 use Rattle.journal.specs.declared.Outcome.{Outcome}
-use Rattle.journal.specs.Calls.{State, Ended, inHand, Leaves}
-use Rattle.runfile.specs.Format.{RunFile, Parsed, says, malformed, parsed, operationAt}
+use Rattle.journal.specs.Calls.{State, inHand, Leaves}
+use Rattle.runfile.specs.Format.{Parsed, says, malformed, parsed, operationAt}
 use Rattle.runfile.specs.Answers.{loaded, nextOf}
 use Rattle.runfile.specs.declared.Operation.{Operation}
 use Rattle.runfile.specs.declared.Operation.the-variants.{Step}
-use Rattle.runfile.specs.declared.Next.the-variants.{Is, None}
+use Rattle.runfile.specs.declared.Next.the-variants.{Is}
 use Rattle.runfile.specs.declared.Start.{Start}
 use Rattle.runfile.specs.declared.Loaded.the-variants.{Ready, Malformed}
 use Rattle.runfile.proofs.Operations.{in-order, they-fit, not-longer}
-use Rattle.player.specs.Line.{line}
-use Rattle.player.specs.Play.{acted, lineOf, lineFor, lines, after, given, played}
+use Rattle.player.specs.Play.{acted, lineOf, lineFor, lines, after, played}
 use Rattle.player.proofs.Text.{sets-append, at-most-32}
 
 below-100 : (a : Answer) → numberOfAnswer a < 100

@@ -1,6 +1,6 @@
 -- No second count, and no second text, fits the contract of `play` and of `boot`.
 -- Assumes nothing.
-use mathlib.Core.Path.{refl, sym, ap, _∙_}
+use mathlib.Core.Path.{sym, ap, _∙_}
 use mathlib.Core.List.{List}
 use Prim.Native.Nat.{ℕ}
 use Rattle.u8oru16.proofs.Determined.{Determines}

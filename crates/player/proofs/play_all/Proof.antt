@@ -5,13 +5,12 @@ use Prim.Native.Nat.{ℕ, _+_, _-_, _≤_, _<_}
 use mathlib.Core.Path.{_≡_, refl, sym, ap, _∙_}
 use native.Mathlib.Omega.{arith}
 use lib.ListN.{length, getD}
-use lib.Seq.{length-sets}
 use Rattle.journal.specs.Calls.{inHand}
 use Rattle.runfile.specs.Format.{parsed, operationAt}
 use Rattle.runfile.specs.Answers.{nextOf}
 use Rattle.runfile.specs.declared.Operation.the-variants.{Step}
 use Rattle.player.specs.Play.{start}
-use Rattle.player.proofs.Playing.{Sofar, Sound, sound, operationsIn, settingsOf, at-first, turn, finished, fits}
+use Rattle.player.proofs.Playing.{Sofar, sound, operationsIn, settingsOf, at-first, turn, finished, fits}
 use Rattle.player.proofs.play_all.Statement.{statement}
 use Rattle.player.proofs.play_all.Tie as tie
 
