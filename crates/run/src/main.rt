@@ -1,22 +1,19 @@
 // The run program (document 01, "The run program"): reads a run file from standard input, plays its operations on recorded calls, and prints
-// a line for each. What it prints is `printed` of what it read (`play`); reading and writing are all that stands here.
+// a line for each. What it prints is `printed` of what it read (`player::play`); reading and writing are all that stands here.
 ghost use mathlib.Core.Path.{_≡_};
 ghost use lib.ListN.{length};
-
-mod play;
-
 use libc::STDIN_FILENO;
 use libc::STDOUT_FILENO;
 
 // One byte more than the longest run file, so that a longer one is seen.
 const FILE: usize = 32769;
 
-// 17 bytes for each of at most 32,760 operations: 960 records of at most 20 cycles each keep the cycles below 100,000.
-const OUT: usize = 0x8_8000;
+// 32 bytes for each of fewer than 32,768 operations: no text is longer (`play-fits`).
+const OUT: usize = 0x10_0000;
 
 // Its length is all that lending it asks for.
 fn out_buffer() -> [u8; OUT]
-    ensures { λ r. ⌜ 0x88000 ≡ length r ⌝ }
+    ensures { λ r. ⌜ 0x100000 ≡ length r ⌝ }
 {
     [0; OUT]
 }
@@ -25,8 +22,6 @@ fn main() {
     let mut file = [0u8; FILE];
     let n = io::read_full(STDIN_FILENO, &mut file);
     let mut out = out_buffer();
-    let used = play::play(&file[..n], &mut out);
-    if used <= OUT {
-        io::write_all(STDOUT_FILENO, &out[..used]);
-    }
+    let used = player::play(&file[..n], &mut out);
+    io::write_all(STDOUT_FILENO, &out[..used]);
 }

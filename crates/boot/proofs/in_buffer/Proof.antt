@@ -1,0 +1,11 @@
+-- `in_buffer` meets its contract.
+-- Assumes nothing.
+use Rattle.player.proofs.Bounds.{counted}
+use Rattle.boot.proofs.in_buffer.Statement.{statement}
+use Rattle.boot.proofs.in_buffer.Tie as tie
+
+returns : tie.Need-returns
+returns c = counted 0x100006
+
+pub in-buffer-spec : {M : Type 1} → statement M
+in-buffer-spec = tie.close (tie.spec returns)

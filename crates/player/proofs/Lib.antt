@@ -1,0 +1,6 @@
+pub mod Text
+pub mod Playing
+pub mod Booting
+pub mod Recorded
+pub mod Bounds
+pub mod Unique

@@ -1,0 +1,145 @@
+-- One operation more: its line, and what is in hand after it.
+-- Assumes nothing.
+use Prim.Native.Nat.{ℕ, _+_, _-_, _*_, _≤_, _<_}
+use mathlib.Core.Path.{_≡_, refl, sym, ap, _∙_}
+use mathlib.Core.List.{List, [], _∷_, _++_, append-assoc, append-nil}
+use native.Mathlib.Omega.{arith}
+use native.Mathlib.Numerals.{add-one}
+use lib.ListN.{length, getD, take, length-append}
+use lib.Seq.{sets, take-suc, take-all, length-take-le}
+use Rattle.memory.specs.Answers.{numberOf, numberOfAnswer}
+use Rattle.memory.specs.declared.Answer.{Answer}
+use Rattle.memory.specs.declared.Answer.the-variants.{Done, Refused}
+use Rattle.memory.specs.declared.Refusal.{Refusal}
+use Rattle.memory.specs.declared.Refusal.the-variants.{MemoryLength, Waiting, Opcode, PastEnd, PostByte, WordAtTop, TransferCode, StackTooSmall, ZeroAtVector, JournalFull, NoRecord, JournalLength}
+use Rattle.step.specs.declared.Machine.{Machine}
+use Rattle.step.specs.declared.Settings.{Settings}
+use Rattle.journal.specs.declared.Outcome.{Outcome}
+use Rattle.journal.specs.Calls.{State, inHand, Leaves}
+use Rattle.runfile.specs.Format.{Parsed, says, malformed, parsed, operationAt}
+use Rattle.runfile.specs.Answers.{loaded, nextOf}
+use Rattle.runfile.specs.declared.Operation.{Operation}
+use Rattle.runfile.specs.declared.Operation.the-variants.{Step}
+use Rattle.runfile.specs.declared.Next.the-variants.{Is}
+use Rattle.runfile.specs.declared.Start.{Start}
+use Rattle.runfile.specs.declared.Loaded.the-variants.{Ready, Malformed}
+use Rattle.runfile.proofs.Operations.{in-order, they-fit, not-longer}
+use Rattle.player.specs.Play.{acted, lineOf, lineFor, lines, after, played}
+use Rattle.player.proofs.Text.{sets-append, at-most-32}
+
+below-100 : (a : Answer) → numberOfAnswer a < 100
+below-100 Done = omega arith
+below-100 (Refused x) = go x
+  where
+    go : (x : Refusal) → numberOf x < 100
+    go MemoryLength = omega arith
+    go Waiting = omega arith
+    go Opcode = omega arith
+    go PastEnd = omega arith
+    go PostByte = omega arith
+    go WordAtTop = omega arith
+    go TransferCode = omega arith
+    go StackTooSmall = omega arith
+    go ZeroAtVector = omega arith
+    go JournalFull = omega arith
+    go NoRecord = omega arith
+    go JournalLength = omega arith
+
+pub line-bound : (a : Answer) (m : Machine) → length (lineOf a m) ≤ 32
+line-bound a m = at-most-32 (numberOfAnswer a) (m .regs .pc) (m .regs .cc .reg) (m .cycles) (below-100 a)
+
+module _ (t : Settings) where
+  lines-more : (os : List Operation) (o : Operation) (s : State) → lines t (os ++ (o ∷ [])) s ≡ lines t os s ++ lineFor (acted t o (after t os s))
+  unfolding lines after
+  lines-more [] o s = append-nil (lineFor (acted t o s))
+  lines-more (p ∷ os) o s =
+      ap (λ (l : List ℕ). lineFor (acted t p s) ++ l) (lines-more os o (acted t p s .state))
+      ∙ sym (append-assoc (lineFor (acted t p s)) (lines t os (acted t p s .state)) (lineFor (acted t o (after t os (acted t p s .state)))))
+
+  after-more : (os : List Operation) (o : Operation) (s : State) → after t (os ++ (o ∷ [])) s ≡ acted t o (after t os s) .state
+  unfolding after
+  after-more [] o s = refl
+  after-more (p ∷ os) o s = after-more os o (acted t p s .state)
+
+  pub lines-bound : (os : List Operation) (s : State) → length (lines t os s) ≤ 32 * length os
+  unfolding lines
+  lines-bound [] s = omega arith
+  lines-bound (o ∷ os) s = simp length-append (omega (arith, line-bound (acted t o s .answer) (acted t o s .state .twin .machine), lines-bound os (acted t o s .state)))
+
+-- what the first i operations have left: so many bytes of text, and a state
+pub record Sofar (t : Settings) (os : List Operation) (s₀ : State) (out₀ : List ℕ) (i used : ℕ) (out : List ℕ) (s : State) : Type 0 where
+  pub count : used ≡ length (lines t (take i os) s₀)
+  pub text : out ≡ sets out₀ 0 (lines t (take i os) s₀)
+  pub state : s ≡ after t (take i os) s₀
+
+module _ (t : Settings) (os : List Operation) (s₀ : State) (out₀ : List ℕ) where
+  pub at-first : Sofar t os s₀ out₀ 0 0 out₀ s₀
+  unfolding lines after
+  at-first = record { count = refl; text = refl; state = refl }
+
+  pub turn : (i used : ℕ) (out : List ℕ) (s : State) → Sofar t os s₀ out₀ i used out s → i < length os
+      → {o : Operation} → o ≡ getD os i Step → {r : Outcome} {mem journal : List ℕ} → Leaves r mem journal (acted t o s)
+      → {used′ : ℕ} {out′ : List ℕ} → used′ ≡ used + length (lineOf (r .answer) (r .twin .machine)) → out′ ≡ sets out used (lineOf (r .answer) (r .twin .machine))
+      → Sofar t os s₀ out₀ (i + 1) used′ out′ (inHand mem journal (r .twin))
+  turn i used out s h k {o} eo {r} {mem} {journal} l {used′} {out′} eu et =
+      let f : take (i + 1) os ≡ take i os ++ (o ∷ []) = rw (add-one, eo) (take-suc os i Step k) in
+      let y = lines-more t (take i os) o s₀ in
+      let x = lineOf (r .answer) (r .twin .machine) in
+      let e : x ≡ lineFor (acted t o (after t (take i os) s₀)) = ap (λ (q : Outcome). lineOf (q .answer) (q .twin .machine)) (l .result) ∙ rw (h .state) in
+      let z : used ≡ 0 + length (lines t (take i os) s₀) = omega (arith, h .count) in
+      record {
+        count = eu ∙ rw (f, y, ← e, h .count) (sym (length-append (lines t (take i os) s₀) x));
+        text = et ∙ rw (f, y, ← e, h .text, z) (sym (sets-append out₀ (lines t (take i os) s₀) x 0));
+        state = rw (f, after-more t (take i os) o s₀, ← h .state, l .memory-is, l .journal-is, l .result) refl;
+      }
+
+-- ---- a sound file
+
+abbrev pub operationsIn : Parsed → List Operation
+operationsIn (says f) = f .operations
+operationsIn malformed = []
+
+abbrev pub settingsOf : Start → Settings
+settingsOf from = record { «ram_top» = from .«ram_top»; flags = from .flags }
+
+pub record Sound (file : List ℕ) (from : Start) (p : Parsed) : Type 0 where
+  pub starts : from .operations + length (operationsIn p) ≡ length file
+  pub short : length file ≤ 32768
+  pub each : (i : ℕ) → i < length (operationsIn p) → nextOf (operationAt file (from .operations + i)) ≡ Is (getD (operationsIn p) i Step)
+  pub plays : (s : State) → played p s ≡ lines (settingsOf from) (operationsIn p) s
+
+pub sound : (file : List ℕ) (from : Start) → Ready from ≡ loaded (length file) (parsed file) → Sound file from (parsed file)
+sound file from h = go (parsed file) refl h
+  where
+    go : (p : Parsed) → parsed file ≡ p → Ready from ≡ loaded (length file) p → Sound file from p
+    go (says f) e h =
+        let x : from ≡ record { operations = length file - length (f .operations); «ram_top» = f .settings .ramTop; flags = f .settings .flags } = cc in
+        rw x
+        (record {
+          starts = omega (arith, they-fit file f e);
+          short = not-longer file f e;
+          each = in-order file f e;
+          plays = λ s. refl;
+        })
+    go malformed e h = let z : _≡_ {A = ℕ} 0 1 = cc in absurd (omega arith)
+
+-- ---- the end
+
+module _ {file : List ℕ} {from : Start} {p : Parsed} (so : Sound file from p) (s₀ : State) (out₀ : List ℕ) where
+  pub finished : (at used : ℕ) (out : List ℕ) (s : State) → Sofar (settingsOf from) (operationsIn p) s₀ out₀ (at - from .operations) used out s
+      → length file ≤ at → (used ≡ length (played p s₀)) × (out ≡ sets out₀ 0 (played p s₀))
+  finished at used out s h k =
+      let e = take-all (at - from .operations) (operationsIn p) (omega (arith, so .starts)) in
+      rw (so .plays s₀) (h .count ∙ rw e, h .text ∙ rw e)
+
+  pub fits : (at used : ℕ) (out : List ℕ) (s : State) → Sofar (settingsOf from) (operationsIn p) s₀ out₀ (at - from .operations) used out s → at ≤ length file → used ≤ 0x200000
+  fits at used out s h k =
+      let b = lines-bound (settingsOf from) (take (at - from .operations) (operationsIn p)) s₀ in
+      let l = length-take-le (at - from .operations) (operationsIn p) (omega (arith, so .starts)) in
+      omega (arith, h .count, so .short)
+
+-- ---- a malformed file
+
+pub no-file : (size : ℕ) (p : Parsed) → loaded size p ≡ Malformed → p ≡ malformed
+no-file size (says f) e = cc
+no-file size malformed e = refl

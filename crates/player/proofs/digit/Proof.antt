@@ -1,0 +1,17 @@
+-- `digit` meets its contract.
+-- Assumes nothing.
+use borrow.Author.Needs.{needs}
+use borrow.Author.Tests.{lt-ltb, le-ltb}
+use Rattle.player.proofs.digit.Statement.{statement}
+use Rattle.player.proofs.digit.Tie as tie
+
+returns : tie.Need-returns
+returns c = rw (lt-ltb (c .before .args .d) 10 (c .if1 .taken))
+
+returns-2 : tie.Need-returns-2
+returns-2 c = rw (le-ltb (c .before .args .d) 10 (c .if1 .left))
+
+pub digit-spec : {M : Type 1} → statement M
+digit-spec =
+    tie.close
+    (tie.spec (search needs) (search needs) (search needs) returns returns-2)

@@ -1,0 +1,15 @@
+-- `empty_journal` meets its contract.
+-- Assumes nothing.
+use mathlib.Core.Path.{refl}
+use Rattle.player.specs.Play.{zeros}
+use Rattle.player.proofs.empty_journal.Statement.{statement}
+use Rattle.player.proofs.empty_journal.Tie as tie
+
+returns : tie.Need-returns
+unfolding zeros
+returns c = refl
+
+pub empty-journal-spec : {M : Type 1} → statement M
+empty-journal-spec =
+    tie.close
+    (tie.spec returns)

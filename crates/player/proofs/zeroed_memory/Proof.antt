@@ -1,0 +1,15 @@
+-- `zeroed_memory` meets its contract.
+-- Assumes nothing.
+use mathlib.Core.Path.{refl}
+use Rattle.player.specs.Play.{zeros}
+use Rattle.player.proofs.zeroed_memory.Statement.{statement}
+use Rattle.player.proofs.zeroed_memory.Tie as tie
+
+returns : tie.Need-returns
+unfolding zeros
+returns c = refl
+
+pub zeroed-memory-spec : {M : Type 1} → statement M
+zeroed-memory-spec =
+    tie.close
+    (tie.spec returns)
