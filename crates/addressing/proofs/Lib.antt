@@ -3,3 +3,4 @@ pub mod Sums
 pub mod Refused
 pub mod Unique
 pub mod Widths
+pub mod Numbers

@@ -1,3 +1,4 @@
 pub mod PostByte
 pub mod Decode
 pub mod Resolve
+pub mod Numbers

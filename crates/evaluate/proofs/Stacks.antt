@@ -22,7 +22,7 @@ use Rattle.memory.specs.declared.Writes.{Writes}
 use Rattle.opcodes.specs.declared.Op.the-variants.{Illegal, Alu, Store8, OnAcc, OnMemory, Addd, Subd, Load16, Store16, Cmp16, Lea, Branch, Bsr, Jsr, Jmp, Rts, Rti, Swi, Cwai, Sync, Nop, Daa, Sex, Mul, Abx, Andcc, Orcc, Exg, Tfr, Pshs, Puls, Pshu, Pulu}
 use Rattle.evaluate.specs.Bytes.{after, writesBack, onMemory}
 use Rattle.evaluate.specs.Effects.{changes, stores, refuses, withCodes, indexed}
-use Rattle.evaluate.specs.Interrupts.{oncePushed, called, leadsTo, vectored, andCodes, served, vectorOf, waiting}
+use Rattle.evaluate.specs.Interrupts.{oncePushed, called, leadsTo, vectored, andCodes, served, maskOf, vectorOf, waiting}
 use Rattle.evaluate.specs.Rest.{transferable, transfer, exchange}
 use Rattle.evaluate.specs.Small.{SmallExactly}
 use Rattle.evaluate.specs.Stack.{pushing, bytesOf, pulledAll, pulling, returning, framed}
@@ -62,7 +62,7 @@ once : (r : Set) (a : Answer) (e : Effect) → isEight (e .answer) ≡ false →
 once r Done e h = h
 once r (NotDone x) e h = refl
 
-of-vector : (mem : List ℕ) (top : ℕ) (before r : Set) (ws : Writes) (vector : ℕ) → isEight (vectored mem top before r ws vector .answer) ≡ false
+pub of-vector : (mem : List ℕ) (top : ℕ) (before r : Set) (ws : Writes) (vector : ℕ) → eqb (numberOfAnswer (vectored mem top before r ws vector .answer)) 8 ≡ false
 unfolding vectored wordAt
 of-vector mem top before r ws vector = go (wordFits vector) (stored top (listed ws) mem)
   where
@@ -70,9 +70,13 @@ of-vector mem top before r ws vector = go (wordFits vector) (stored top (listed 
     go true m = neither (eqb (byteAt m (256 * byteAt m vector + byteAt m (lowAt vector))) 0) _ _ refl refl
     go false m = refl
 
-of-frame : (r : Set) → isEight (framed r true .answer) ≡ ltb (r .s) 12
+of-frame : (r : Set) (entire : Bool) → isEight (framed r entire .answer) ≡ ltb (r .s) (bytesOf (cond entire 0xFF 0x81))
 unfolding framed
-of-frame r = of-push (withCodes r (put E true (r .cc))) S U 0xFF true
+of-frame r entire = of-push (withCodes r (put E entire (r .cc))) S U (cond entire 0xFF 0x81) true
+
+pub of-served : (mem : List ℕ) (top : ℕ) (r : Set) (entire : Bool) (masks vector : ℕ) → eqb (numberOfAnswer (served mem top r entire masks vector .answer)) 8 ≡ ltb (r .s) (bytesOf (cond entire 0xFF 0x81))
+unfolding served
+of-served mem top r entire masks vector = once r (framed r entire .answer) _ (of-vector mem top r _ _ vector) ∙ of-frame r entire
 
 of-test : (b : Bool) (after r : Set) → isEight (cond b (changes after) (refuses r TransferCode) .answer) ≡ false
 of-test b after r = neither b _ _ refl refl
@@ -82,7 +86,7 @@ of-memory true out r ea = refl
 of-memory false out r ea = refl
 
 pub small-exactly : SmallExactly
-unfolding onMemory load16 store16 compare16 addD subtractD called returning served waiting transfer exchange
+unfolding onMemory load16 store16 compare16 addD subtractD called returning waiting transfer exchange
 small-exactly Illegal s top mem r ea = refl
 small-exactly (Alu op acc) s top mem r ea = refl
 small-exactly (Store8 acc) s top mem r ea = refl
@@ -100,8 +104,8 @@ small-exactly Jsr s top mem r ea = once r (pushing r S U 0x80 false .answer) _ r
 small-exactly Jmp s top mem r ea = refl
 small-exactly Rts s top mem r ea = of-pull mem r S U 0x80
 small-exactly Rti s top mem r ea = of-pull mem r S U _
-small-exactly (Swi which) s top mem r ea = once r (framed r true .answer) _ (of-vector mem top r _ _ (vectorOf which)) ∙ of-frame r
-small-exactly Cwai s top mem r ea = once r (framed (andCodes r (byteAt mem ea)) true .answer) _ refl ∙ of-frame (andCodes r (byteAt mem ea))
+small-exactly (Swi which) s top mem r ea = of-served mem top r true (maskOf which) (vectorOf which)
+small-exactly Cwai s top mem r ea = once r (framed (andCodes r (byteAt mem ea)) true .answer) _ refl ∙ of-frame (andCodes r (byteAt mem ea)) true
 small-exactly Sync s top mem r ea = refl
 small-exactly Nop s top mem r ea = refl
 small-exactly Daa s top mem r ea = refl

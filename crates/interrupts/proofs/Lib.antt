@@ -1,3 +1,4 @@
 pub mod Laws
 pub mod Overwritten
 pub mod Unique
+pub mod Stacks

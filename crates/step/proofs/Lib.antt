@@ -1,3 +1,4 @@
 pub mod Laws
 pub mod Parting
+pub mod Stacks
 pub mod Unique

@@ -1,3 +1,4 @@
 pub mod Parting
+pub mod Small
 pub mod Step
 pub mod Laws
