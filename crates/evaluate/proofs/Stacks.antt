@@ -29,7 +29,7 @@ use Rattle.evaluate.specs.Stack.{pushing, bytesOf, pulledAll, pulling, r
 use Rattle.evaluate.specs.Words.{ofWord, load16, store16, compare16, addD, subtractD}
 use Rattle.evaluate.specs.declared.Effect.{Effect}
 
-abbrev isEight : Answer → Bool
+abbrev pub isEight : Answer → Bool
 isEight a = eqb (numberOfAnswer a) 8
 
 -- one of two effects, neither of which is refused so

@@ -1,4 +1,5 @@
--- The instructions that neither write, nor use a stack, nor wait: they come to the registers after them, or to a refusal.
+-- The quiet instructions: of accumulators, words, branches and transfers. They write nothing, use no stack and do not wait, and come to the
+-- registers after them or to a refusal. TST of memory is among the rest, with the others on memory. (Not a class of the manual's.)
 -- Assumes nothing.
 use Prim.Native.Nat.{ℕ}
 use mathlib.Core.Bool.{Bool, true, false, cond}

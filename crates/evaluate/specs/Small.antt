@@ -15,7 +15,7 @@ use Rattle.opcodes.specs.declared.Op.the-variants.{Illegal, Alu, Store8, OnAcc,
 use Rattle.evaluate.specs.Evaluate.{evaluateOf}
 use Rattle.evaluate.specs.Stack.{bytesOf}
 
--- m is the post-byte
+-- m is the byte at the effective address, which for PSHS and PSHU is the post-byte. PC alone is 2 bytes, all registers are 12
 abbrev pub isSmall : Op → Set → ℕ → Bool
 isSmall Illegal r m = false
 isSmall (Alu op acc) r m = false

@@ -48,8 +48,8 @@ pub struct Effect {
     pub answer: Answer,
 }
 
-// What an instruction does that neither writes, nor uses a stack, nor waits: the registers after it, or its refusal. Most are such; a
-// list of writes need not be carried along for them.
+// What a quiet instruction comes to: the registers after it, or its refusal. Most instructions are such; a list of writes need not be
+// carried along for them.
 pub enum Quiet {
     After(Set),
     Refused(Refusal),
@@ -846,7 +846,7 @@ fn with_operand(flags: Flags, op: Alu, acc: Acc, regs: Set, m: u8) -> Set
     with_accumulator(regs, acc, alu(flags, op, cc, accumulator(regs, acc), m))
 }
 
-// Accumulators, words, branches and transfers: what neither writes, nor uses a stack, nor waits.
+// The quiet ones: accumulators, words, branches and transfers, which write nothing, use no stack and do not wait.
 pub fn evaluate_quiet(op: Op, flags: Flags, mem: &[u8], regs: Set, ea: u16) -> Quiet
     ensures { λ r. ⌜ r ≡ quietOf op flags (now (mem .entry)) regs ea ⌝ }
 {
@@ -879,7 +879,7 @@ pub fn evaluate_quiet(op: Op, flags: Flags, mem: &[u8], regs: Set, ea: u16) -> Q
     }
 }
 
-// The others: stores, the stacks, interrupts.
+// The others: what is done on memory, the stacks, interrupts.
 pub fn evaluate_rest(op: Op, flags: Flags, ram_top: u16, mem: &[u8], regs: Set, ea: u16) -> Effect
     ensures { λ r. ⌜ r ≡ restOf op flags «ram_top» (now (mem .entry)) regs ea ⌝ }
 {

@@ -6,7 +6,6 @@ use mathlib.Core.Path.{_≡_, refl, _∙_}
 use Prim.Native.Nat.{ℕ}
 use lib.Dec.{eqb}
 use lib.ListN.{length}
-use Rattle.memory.specs.Answers.{numberOfAnswer}
 use Rattle.memory.specs.Writes.{writesOf}
 use Rattle.memory.specs.declared.Answer.{Answer}
 use Rattle.memory.specs.declared.Answer.the-variants.{Done, Refused}
@@ -15,16 +14,13 @@ use Rattle.evaluate.specs.Interrupts.{orCodes}
 use Rattle.evaluate.specs.declared.Effect.{Effect}
 use Rattle.evaluate.specs.declared.Wait.{Wait}
 use Rattle.evaluate.specs.declared.Wait.the-variants.{Running, Cwai, Sync}
-use Rattle.evaluate.proofs.Stacks.{of-vector, of-served}
+use Rattle.evaluate.proofs.Stacks.{isEight, of-vector, of-served}
 use Rattle.step.specs.Step.{refusedWith}
 use Rattle.step.specs.declared.Machine.{Machine}
 use Rattle.step.specs.declared.Settings.{Settings}
 use Rattle.interrupts.specs.Interrupts.{vectorOf, masksOf, isEntire, isMasked, taken, afterMasked, withRegisters, accepted, ofEffect, interruptFound}
 use Rattle.interrupts.specs.Small.{smallFrame, InterruptSmallExactly}
 use Rattle.interrupts.specs.declared.InterruptType.{InterruptType}
-
-abbrev isEight : Answer → Bool
-isEight a = eqb (numberOfAnswer a) 8
 
 answered : (m : Machine) (e : Effect) (a : Answer) → isEight (ofEffect m e a .answer) ≡ isEight a
 answered m e Done = refl

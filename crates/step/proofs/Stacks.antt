@@ -6,7 +6,7 @@ use mathlib.Core.List.{List}
 use mathlib.Core.Path.{_≡_, refl, _∙_}
 use lib.Dec.{eqb, ltb}
 use lib.ListN.{length}
-use Rattle.memory.specs.Answers.{numberOf, numberOfAnswer}
+use Rattle.memory.specs.Answers.{numberOf}
 use Rattle.memory.specs.Map.{byteAt, lowAt}
 use Rattle.memory.specs.declared.Answer.{Answer}
 use Rattle.memory.specs.declared.Answer.the-variants.{Done, Refused}
@@ -25,7 +25,7 @@ use Rattle.evaluate.specs.Evaluate.{evaluateOf}
 use Rattle.evaluate.specs.declared.Effect.{Effect}
 use Rattle.evaluate.specs.declared.Wait.{Wait}
 use Rattle.evaluate.specs.declared.Wait.the-variants.{Running, Cwai as InCwai, Sync as InSync}
-use Rattle.evaluate.proofs.Stacks.{small-exactly}
+use Rattle.evaluate.proofs.Stacks.{isEight, small-exactly}
 use Rattle.step.specs.Small.{smallAt, smallFetched, smallRunning, StepSmallExactly}
 use Rattle.step.specs.Step.{refusedWith, finishedAs, finished, secondByte, located, opcodeAt, fetched, isWide, ofAddress, executed, ofFetched, running, unlessWaiting, foundOf}
 use Rattle.step.specs.declared.Fetched.{Fetched}
@@ -35,9 +35,6 @@ use Rattle.step.specs.declared.Located.{Located}
 use Rattle.step.specs.declared.Located.the-variants.{At as Place, Refused as NoPlace}
 use Rattle.step.specs.declared.Machine.{Machine}
 use Rattle.step.specs.declared.Settings.{Settings}
-
-abbrev isEight : Answer → Bool
-isEight a = eqb (numberOfAnswer a) 8
 
 -- ---- what comes before the operation is refused by another number
 
