@@ -7,7 +7,7 @@ use mathlib.Core.Path.{_≡_, refl}
 use lib.Dec.{leb}
 use Rattle.registers.specs.declared.Set.{Set}
 use Rattle.memory.specs.Map.{wordFits, wordAt}
-use Rattle.memory.specs.declared.Refusal.the-variants.{PastEnd, WordAtTop}
+use Rattle.answers.specs.declared.Refusal.the-variants.{PastEnd, WordAtTop}
 use Rattle.memory.specs.declared.WordRead.{WordRead}
 use Rattle.memory.specs.declared.WordRead.the-variants.{Word, Refused as NoWord}
 use Rattle.addressing.specs.PostByte.{isIndirect, formOf, indexOf}

@@ -1,7 +1,7 @@
 -- No second answer fits a public function's contract.
 -- Assumes nothing.
 use mathlib.Core.Path.{refl, sym, _∙_}
-use Rattle.u8oru16.proofs.Determined.{Determines}
+use Rattle.answers.proofs.Determined.{Determines}
 use Rattle.addressing.proofs
 
 pub is-indirect : Determines 0 proofs.is_indirect.Kinds.ps proofs.is_indirect.Kinds.r proofs.is_indirect.Reads.Post

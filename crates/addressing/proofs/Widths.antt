@@ -18,7 +18,7 @@ use Rattle.registers.specs.declared.Set.{Set}
 use Rattle.registers.proofs.Fits.{written-fits}
 use Rattle.memory.specs.Fits.{Bytes}
 use Rattle.memory.specs.Map.{byteAt, wordAt}
-use Rattle.memory.specs.declared.Refusal.the-variants.{PastEnd}
+use Rattle.answers.specs.declared.Refusal.the-variants.{PastEnd}
 use Rattle.memory.specs.declared.WordRead.{WordRead}
 use Rattle.memory.specs.declared.WordRead.the-variants.{Word, Refused as NoWord}
 use Rattle.memory.proofs.Fits.{byte-fits, WordIn, word-fits}

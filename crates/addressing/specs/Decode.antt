@@ -8,7 +8,7 @@ use Rattle.u8oru16.specs.Value.{valueOf}
 use Rattle.u8oru16.specs.Negated.{extended}
 use Rattle.u8oru16.specs.declared.u8u16.the-variants.{u8}
 use Rattle.memory.specs.Map.{byteAt}
-use Rattle.memory.specs.declared.Refusal.the-variants.{PastEnd, PostByte}
+use Rattle.answers.specs.declared.Refusal.the-variants.{PastEnd, PostByte}
 use Rattle.addressing.specs.PostByte.{formOf, fiveBits}
 use Rattle.addressing.specs.declared.Form.{Form}
 use Rattle.addressing.specs.declared.Form.the-variants.{Offset5, Increment1, Increment2, Decrement1, Decrement2, NoOffset, OffsetB, OffsetA, Offset8, Offset16, OffsetD, Program8, Program16, Address, Refused as NoForm}

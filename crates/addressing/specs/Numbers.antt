@@ -5,8 +5,8 @@ use mathlib.Core.Bool.{Bool, _&&_}
 use mathlib.Core.List.{List}
 use lib.Dec.{T, leb}
 use Rattle.registers.specs.declared.Set.{Set}
-use Rattle.memory.specs.Answers.{numberOf}
-use Rattle.memory.specs.declared.Refusal.{Refusal}
+use Rattle.answers.specs.Numbers.{numberOf}
+use Rattle.answers.specs.declared.Refusal.{Refusal}
 use Rattle.addressing.specs.Resolve.{addressOf}
 use Rattle.addressing.specs.declared.Mode.{Mode}
 use Rattle.addressing.specs.declared.Resolved.{Resolved}

@@ -11,7 +11,7 @@ use Rattle.registers.specs.declared.Name.{Name}
 use Rattle.registers.specs.declared.Name.the-variants.{D, PC}
 use Rattle.registers.specs.declared.Set.{Set}
 use Rattle.memory.specs.Map.{wordAt}
-use Rattle.memory.specs.declared.Refusal.the-variants.{PastEnd}
+use Rattle.answers.specs.declared.Refusal.the-variants.{PastEnd}
 use Rattle.memory.specs.declared.WordRead.{WordRead}
 use Rattle.memory.specs.declared.WordRead.the-variants.{Word, Refused as NoWord}
 use Rattle.addressing.specs.PostByte.{isIndirect, indexOf}

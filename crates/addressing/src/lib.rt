@@ -6,7 +6,7 @@ ghost use lib.Dec.{leb};
 ghost use Rattle.addressing.specs.PostByte.{unlessIndirect, formOf, isIndirect, indexOf, fiveBits};
 ghost use Rattle.addressing.specs.Decode.{signedByte, programByte, programWord, takenIndexed, shortOffset, longOffset, indexedAs, indexedAt, immediateOf, directAt, extendedAt, shortRelative, longRelative, decodeOf};
 ghost use Rattle.addressing.specs.Resolve.{indexValue, atAddress, offsetBy, incremented, decremented, programRelative, formAddress, throughPointer, indexedAddress, effectiveOf, advanced, resolvedOf, addressOf};
-use memory::Refusal;
+use answers::Refusal;
 use memory::WordRead;
 use registers::Name;
 use registers::Set;

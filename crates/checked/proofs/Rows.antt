@@ -21,7 +21,7 @@ use Rattle.registers.proofs.Reading.{flag-same, flag-far, place-inj}
 use Rattle.memory.specs.Map.{placeOf}
 use Rattle.addressing.proofs.PostBytes.{both, both-T, agree, agree→eq}
 use Rattle.addressing.specs.PostByte.{isIndirect, formOf, isRefused, fiveBits}
-use Rattle.memory.specs.Answers.{numberOfAnswer}
+use Rattle.answers.specs.Numbers.{numberOfAnswer}
 use Rattle.evaluate.specs.Stack.{bytesOf}
 use Rattle.step.specs.declared.Found.{Found}
 use Rattle.interrupts.specs.Interrupts.{isEntire}

@@ -14,7 +14,7 @@ use Rattle.registers.specs.declared.CCBits.{CCBits}
 use Rattle.registers.specs.declared.Flags.{Flags}
 use Rattle.registers.specs.declared.Flags.the-variants.{Bought, Manual}
 use Rattle.registers.specs.declared.Set.{Set}
-use Rattle.memory.specs.Answers.{numberOf, numberOfAnswer}
+use Rattle.answers.specs.Numbers.{numberOf, numberOfAnswer}
 use Rattle.memory.specs.Map.{isSystem, byteAt, landingOf}
 use Rattle.memory.specs.declared.AccessType.the-variants.{Program, System}
 use Rattle.memory.specs.declared.Landing.the-variants.{Stored, Ignored}

@@ -30,10 +30,10 @@ use Rattle.registers.proofs.Fits.{put-fits, codes-fit, result-fits, read-fits, 
 use Rattle.memory.specs.Fits.{Bytes, WriteFits, AllFit}
 use Rattle.memory.specs.Map.{byteAt, wordFits, wordAt}
 use Rattle.memory.specs.Writes.{writesOf, listed, stored, wordWrites}
-use Rattle.memory.specs.declared.Answer.{Answer}
-use Rattle.memory.specs.declared.Answer.the-variants.{Done, Refused as NotDone}
-use Rattle.memory.specs.declared.Refusal.{Refusal}
-use Rattle.memory.specs.declared.Refusal.the-variants.{Opcode, WordAtTop, TransferCode, StackTooSmall, ZeroAtVector}
+use Rattle.answers.specs.declared.Answer.{Answer}
+use Rattle.answers.specs.declared.Answer.the-variants.{Done, Refused as NotDone}
+use Rattle.answers.specs.declared.Refusal.{Refusal}
+use Rattle.answers.specs.declared.Refusal.the-variants.{Opcode, WordAtTop, TransferCode, StackTooSmall, ZeroAtVector}
 use Rattle.memory.specs.declared.WordRead.{WordRead}
 use Rattle.memory.specs.declared.WordRead.the-variants.{Word, Refused}
 use Rattle.memory.specs.declared.Writes.{Writes}

@@ -11,12 +11,12 @@ use Rattle.registers.specs.declared.Name.{Name}
 use Rattle.registers.specs.declared.Name.the-variants.{U, S}
 use Rattle.registers.specs.declared.Out8.{Out8}
 use Rattle.registers.specs.declared.Set.{Set}
-use Rattle.memory.specs.Answers.{numberOfAnswer}
+use Rattle.answers.specs.Numbers.{numberOfAnswer}
 use Rattle.memory.specs.Map.{byteAt, lowAt, wordAt, wordFits}
 use Rattle.memory.specs.Writes.{stored, listed}
-use Rattle.memory.specs.declared.Answer.{Answer}
-use Rattle.memory.specs.declared.Answer.the-variants.{Done, Refused as NotDone}
-use Rattle.memory.specs.declared.Refusal.the-variants.{StackTooSmall, WordAtTop, TransferCode}
+use Rattle.answers.specs.declared.Answer.{Answer}
+use Rattle.answers.specs.declared.Answer.the-variants.{Done, Refused as NotDone}
+use Rattle.answers.specs.declared.Refusal.the-variants.{StackTooSmall, WordAtTop, TransferCode}
 use Rattle.memory.specs.declared.WordRead.the-variants.{Word, Refused}
 use Rattle.memory.specs.declared.Writes.{Writes}
 use Rattle.opcodes.specs.declared.Op.the-variants.{Illegal, Alu, Store8, OnAcc, OnMemory, Addd, Subd, Load16, Store16, Cmp16, Lea, Branch, Bsr, Jsr, Jmp, Rts, Rti, Swi, Cwai, Sync, Nop, Daa, Sex, Mul, Abx, Andcc, Orcc, Exg, Tfr, Pshs, Puls, Pshu, Pulu}

@@ -1,7 +1,7 @@
 -- No second answer fits a public function's contract.
 -- Assumes nothing.
 use mathlib.Core.Path.{refl, sym, _∙_}
-use Rattle.u8oru16.proofs.Determined.{Determines}
+use Rattle.answers.proofs.Determined.{Determines}
 use Rattle.evaluate.proofs
 
 pub take-vector : Determines 1 proofs.take_vector.Kinds.ps proofs.take_vector.Kinds.r proofs.take_vector.Reads.Post

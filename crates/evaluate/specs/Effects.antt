@@ -11,8 +11,8 @@ use Rattle.registers.specs.declared.Name.{Name}
 use Rattle.registers.specs.declared.Out8.{Out8}
 use Rattle.registers.specs.declared.Set.{Set}
 use Rattle.memory.specs.Writes.{writesOf, added}
-use Rattle.memory.specs.declared.Answer.the-variants.{Done, Refused}
-use Rattle.memory.specs.declared.Refusal.{Refusal}
+use Rattle.answers.specs.declared.Answer.the-variants.{Done, Refused}
+use Rattle.answers.specs.declared.Refusal.{Refusal}
 use Rattle.memory.specs.declared.Writes.{Writes}
 use Rattle.opcodes.specs.declared.Acc.{Acc}
 use Rattle.opcodes.specs.declared.Acc.the-variants.{A, B}

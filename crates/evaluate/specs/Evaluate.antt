@@ -7,7 +7,7 @@ use Rattle.registers.specs.declared.Flags.{Flags}
 use Rattle.registers.specs.declared.Name.the-variants.{U, S}
 use Rattle.registers.specs.declared.Set.{Set}
 use Rattle.memory.specs.Map.{byteAt}
-use Rattle.memory.specs.declared.Refusal.the-variants.{Opcode}
+use Rattle.answers.specs.declared.Refusal.the-variants.{Opcode}
 use Rattle.opcodes.specs.declared.Op.{Op}
 use Rattle.opcodes.specs.declared.Op.the-variants.{Illegal, Alu, Store8, OnAcc, OnMemory, Addd, Subd, Load16, Store16, Cmp16, Lea, Branch, Bsr, Jsr, Jmp, Rts, Rti, Swi, Cwai, Sync, Nop, Daa, Sex, Mul, Abx, Andcc, Orcc, Exg, Tfr, Pshs, Puls, Pshu, Pulu}
 use Rattle.evaluate.specs.Effects.{changes, refuses}

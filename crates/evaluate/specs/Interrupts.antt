@@ -10,9 +10,9 @@ use Rattle.registers.specs.declared.Name.the-variants.{U, S}
 use Rattle.registers.specs.declared.Set.{Set}
 use Rattle.memory.specs.Map.{byteAt, wordAt}
 use Rattle.memory.specs.Writes.{listed, stored}
-use Rattle.memory.specs.declared.Answer.{Answer}
-use Rattle.memory.specs.declared.Answer.the-variants.{Done, Refused as NotDone}
-use Rattle.memory.specs.declared.Refusal.the-variants.{ZeroAtVector}
+use Rattle.answers.specs.declared.Answer.{Answer}
+use Rattle.answers.specs.declared.Answer.the-variants.{Done, Refused as NotDone}
+use Rattle.answers.specs.declared.Refusal.the-variants.{ZeroAtVector}
 use Rattle.memory.specs.declared.WordRead.{WordRead}
 use Rattle.memory.specs.declared.WordRead.the-variants.{Word, Refused}
 use Rattle.memory.specs.declared.Writes.{Writes}

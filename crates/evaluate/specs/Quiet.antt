@@ -6,8 +6,8 @@ use mathlib.Core.Bool.{Bool, true, false, cond}
 use mathlib.Core.List.{List}
 use Rattle.registers.specs.declared.Flags.{Flags}
 use Rattle.registers.specs.declared.Set.{Set}
-use Rattle.memory.specs.declared.Answer.{Answer}
-use Rattle.memory.specs.declared.Answer.the-variants.{Done, Refused}
+use Rattle.answers.specs.declared.Answer.{Answer}
+use Rattle.answers.specs.declared.Answer.the-variants.{Done, Refused}
 use Rattle.opcodes.specs.declared.Op.{Op}
 use Rattle.opcodes.specs.declared.Op.the-variants.{Illegal, Alu, Store8, OnAcc, OnMemory, Addd, Subd, Load16, Store16, Cmp16, Lea, Branch, Bsr, Jsr, Jmp, Rts, Rti, Swi, Cwai, Sync, Nop, Daa, Sex, Mul, Abx, Andcc, Orcc, Exg, Tfr, Pshs, Puls, Pshu, Pulu}
 use Rattle.evaluate.specs.Effects.{changes, refuses}

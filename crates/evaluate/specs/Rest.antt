@@ -14,8 +14,8 @@ use Rattle.registers.specs.declared.Name.{Name}
 use Rattle.registers.specs.declared.Name.the-variants.{A as accA, B as accB, D, X, Y, U, S, PC, DP, CC}
 use Rattle.registers.specs.declared.Set.{Set}
 use Rattle.memory.specs.Writes.{writesOf}
-use Rattle.memory.specs.declared.Answer.the-variants.{Done}
-use Rattle.memory.specs.declared.Refusal.the-variants.{TransferCode}
+use Rattle.answers.specs.declared.Answer.the-variants.{Done}
+use Rattle.answers.specs.declared.Refusal.the-variants.{TransferCode}
 use Rattle.addressing.specs.Decode.{signedByte}
 use Rattle.opcodes.specs.declared.Acc.the-variants.{A}
 use Rattle.evaluate.specs.Effects.{changes, refuses, withCodes, withAccumulator, withWord}

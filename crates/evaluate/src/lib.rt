@@ -14,8 +14,8 @@ ghost use Rattle.evaluate.specs.Interrupts.{called, vectored, served, ve
 ghost use Rattle.evaluate.specs.Rest.{correction, corrected, daaOf, sexOf, mulOf, abxOf, transferable, transferName, transfer, exchange, synchronized};
 ghost use Rattle.evaluate.specs.Evaluate.{evaluateOf};
 ghost use Rattle.evaluate.specs.Quiet.{quietly, quietOf, restOf};
-use memory::Answer;
-use memory::Refusal;
+use answers::Answer;
+use answers::Refusal;
 use memory::WordRead;
 use memory::Write;
 use memory::Writes;

@@ -1,8 +1,8 @@
 // Reads the S-record files of standard input over a zeroed memory, and writes for each the answer and the memory as S-records
 // (README.md has the form of both); then calls at the limits of memory and output.
+use answers::Answer;
 use libc::STDIN_FILENO;
 use libc::STDOUT_FILENO;
-use srecord::Answer;
 ghost use Prim.Native.Nat.{_+_, _≤_};
 
 const BYTES: usize = 0x10000;

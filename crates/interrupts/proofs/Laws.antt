@@ -17,10 +17,10 @@ use Rattle.registers.specs.declared.Set.{Set}
 use Rattle.memory.specs.Fits.{Bytes}
 use Rattle.memory.specs.Map.{byteAt, wordAt}
 use Rattle.memory.specs.Writes.{writesOf, listed}
-use Rattle.memory.specs.declared.Answer.{Answer}
-use Rattle.memory.specs.declared.Answer.the-variants.{Done, Refused as NotDone}
-use Rattle.memory.specs.declared.Refusal.{Refusal}
-use Rattle.memory.specs.declared.Refusal.the-variants.{MemoryLength, StackTooSmall}
+use Rattle.answers.specs.declared.Answer.{Answer}
+use Rattle.answers.specs.declared.Answer.the-variants.{Done, Refused as NotDone}
+use Rattle.answers.specs.declared.Refusal.{Refusal}
+use Rattle.answers.specs.declared.Refusal.the-variants.{MemoryLength, StackTooSmall}
 use Rattle.memory.specs.declared.WordRead.{WordRead}
 use Rattle.memory.specs.declared.WordRead.the-variants.{Word, Refused}
 use Rattle.memory.proofs.Fits.{WordIn, word-fits, none-fit}

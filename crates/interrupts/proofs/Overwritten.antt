@@ -15,7 +15,7 @@ use Rattle.registers.specs.declared.Name.the-variants.{U, S}
 use Rattle.registers.specs.declared.Set.{Set}
 use Rattle.memory.specs.Map.{placeOf, byteAt, wordFits, lowAt, wordAt, landingOf}
 use Rattle.memory.specs.Writes.{writesOf, twelve, listed, added, stored, overOf}
-use Rattle.memory.specs.declared.Answer.the-variants.{Done}
+use Rattle.answers.specs.declared.Answer.the-variants.{Done}
 use Rattle.memory.specs.declared.WordRead.the-variants.{Word, Refused}
 use Rattle.memory.specs.declared.Write.{Write}
 use Rattle.memory.proofs.Folds.{afterAll, read-stored}

@@ -7,9 +7,9 @@ use Prim.Native.Nat.{ℕ}
 use lib.Dec.{eqb}
 use lib.ListN.{length}
 use Rattle.memory.specs.Writes.{writesOf}
-use Rattle.memory.specs.declared.Answer.{Answer}
-use Rattle.memory.specs.declared.Answer.the-variants.{Done, Refused}
-use Rattle.memory.specs.declared.Refusal.the-variants.{MemoryLength}
+use Rattle.answers.specs.declared.Answer.{Answer}
+use Rattle.answers.specs.declared.Answer.the-variants.{Done, Refused}
+use Rattle.answers.specs.declared.Refusal.the-variants.{MemoryLength}
 use Rattle.evaluate.specs.Interrupts.{orCodes}
 use Rattle.evaluate.specs.declared.Effect.{Effect}
 use Rattle.evaluate.specs.declared.Wait.{Wait}

@@ -3,7 +3,7 @@
 use mathlib.Core.Path.{refl, sym, ap, _∙_}
 use mathlib.Core.List.{List}
 use Prim.Native.Nat.{ℕ}
-use Rattle.u8oru16.proofs.Determined.{Determines}
+use Rattle.answers.proofs.Determined.{Determines}
 use Rattle.interrupts.proofs
 
 pub find : Determines 1 proofs.find.Kinds.ps proofs.find.Kinds.r proofs.find.Reads.Post

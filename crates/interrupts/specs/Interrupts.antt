@@ -13,9 +13,9 @@ use Rattle.registers.specs.declared.CCBits.{CCBits}
 use Rattle.registers.specs.declared.Set.{Set}
 use Rattle.memory.specs.Map.{wordAt}
 use Rattle.memory.specs.Writes.{writesOf}
-use Rattle.memory.specs.declared.Answer.{Answer}
-use Rattle.memory.specs.declared.Answer.the-variants.{Done, Refused as NotDone}
-use Rattle.memory.specs.declared.Refusal.the-variants.{MemoryLength}
+use Rattle.answers.specs.declared.Answer.{Answer}
+use Rattle.answers.specs.declared.Answer.the-variants.{Done, Refused as NotDone}
+use Rattle.answers.specs.declared.Refusal.the-variants.{MemoryLength}
 use Rattle.memory.specs.declared.WordRead.{WordRead}
 use Rattle.memory.specs.declared.WordRead.the-variants.{Word, Refused}
 use Rattle.evaluate.specs.Branches.{jumped}

@@ -3,10 +3,10 @@
 ghost use mathlib.Core.Path.{_≡_};
 ghost use Rattle.evaluate.specs.declared.Wait.the-variants.{Running, Cwai};
 ghost use Rattle.interrupts.specs.Interrupts.{vectorOf, masksOf, isEntire, isMasked, taken, afterMasked, withRegisters, accepted, ofEffect, interruptFound, resetFound, interruptOf, memoryAfterInterrupt, resetOf, memoryAfterReset};
+use answers::Answer;
+use answers::Refusal;
 use evaluate::Effect;
 use evaluate::Wait;
-use memory::Answer;
-use memory::Refusal;
 use memory::WordRead;
 use memory::Writes;
 use registers::CCBit;

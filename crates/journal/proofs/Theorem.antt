@@ -11,10 +11,10 @@ use lib.ListN.{length, set, length-set}
 use borrow.Author.Tests.{eq-eqb, le-leb, lt-ltb, le-ltb}
 use Rattle.memory.specs.Fits.{Bytes}
 use Rattle.memory.specs.Writes.{listed, stored, reported}
-use Rattle.memory.specs.declared.Answer.{Answer}
-use Rattle.memory.specs.declared.Answer.the-variants.{Done, Refused}
-use Rattle.memory.specs.declared.Refusal.{Refusal}
-use Rattle.memory.specs.declared.Refusal.the-variants.{MemoryLength, NoRecord}
+use Rattle.answers.specs.declared.Answer.{Answer}
+use Rattle.answers.specs.declared.Answer.the-variants.{Done, Refused}
+use Rattle.answers.specs.declared.Refusal.{Refusal}
+use Rattle.answers.specs.declared.Refusal.the-variants.{MemoryLength, NoRecord}
 use Rattle.memory.specs.declared.Write.{Write}
 use Rattle.memory.proofs.Fits.{bytes-set, bytes-stored}
 use Rattle.memory.proofs.Folds.{length-stored}

@@ -7,7 +7,7 @@ use contract.Lifetimes.{Lfts}
 use denote.Ref.{now}
 use denote.Triple.Clauses.{Lasts, atExit}
 use borrow.Fn.Kinds.{Dens, resT, endedOf}
-use Rattle.u8oru16.proofs.Determined.{Determines}
+use Rattle.answers.proofs.Determined.{Determines}
 use Rattle.journal.proofs
 
 -- the result, and memory and journal at exit

@@ -9,12 +9,12 @@ use lib.ListN.{length, getD, take, drop, set}
 use lib.Seq.{sets}
 use Rattle.memory.specs.Map.{landingOf}
 use Rattle.memory.specs.Writes.{writesOf, listed, stored, reported}
-use Rattle.memory.specs.declared.Answer.{Answer}
-use Rattle.memory.specs.declared.Answer.the-variants.{Done, Refused}
+use Rattle.answers.specs.declared.Answer.{Answer}
+use Rattle.answers.specs.declared.Answer.the-variants.{Done, Refused}
 use Rattle.memory.specs.declared.Landing.{Landing}
 use Rattle.memory.specs.declared.Landing.the-variants.{Stored, Device, Ignored}
-use Rattle.memory.specs.declared.Refusal.{Refusal}
-use Rattle.memory.specs.declared.Refusal.the-variants.{MemoryLength, Waiting, JournalFull, NoRecord, JournalLength}
+use Rattle.answers.specs.declared.Refusal.{Refusal}
+use Rattle.answers.specs.declared.Refusal.the-variants.{MemoryLength, Waiting, JournalFull, NoRecord, JournalLength}
 use Rattle.memory.specs.declared.Write.{Write}
 use Rattle.memory.specs.declared.Writes.{Writes}
 use Rattle.evaluate.specs.declared.Wait.{Wait}

@@ -1,7 +1,7 @@
 -- No second report, and no second twin, memory or journal at exit, fits the contract of `step` or of `undo`. Neither is covered by the borrow checker, so this is said of their `clauses`, in the program logic.
 -- Assumes nothing.
 use mathlib.Core.Path.{sym, _∙_}
-use Rattle.u8oru16.proofs.Determined.{DeterminesIn, facts}
+use Rattle.answers.proofs.Determined.{DeterminesIn, facts}
 use Rattle.machine.proofs
 
 pub step : DeterminesIn proofs.step.ended (λ M 𝓤 H A mem run. proofs.step.clauses 𝓤 H A mem run)

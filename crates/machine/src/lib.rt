@@ -2,8 +2,8 @@
 // Each is three statements, whatever the call does: every test and every refusal is below.
 ghost use Rattle.journal.specs.Calls.{inHand, stepped, undone};
 ghost use Rattle.machine.specs.Lending.{Returns, Leaves};
+use answers::Answer;
 use journal::Twin;
-use memory::Answer;
 use memory::Writes;
 use step::Settings;
 

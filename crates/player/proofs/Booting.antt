@@ -8,11 +8,11 @@ use borrow.Author.Tests.{le-leb, lt-leb, ne-eqb}
 use lib.ListN.{length, take, drop, length-append, length-drop}
 use lib.Seq.{sets, take-all}
 use Rattle.registers.specs.declared.Flags.the-variants.{Bought, Manual}
-use Rattle.srecord.specs.Answers.{numberOf}
+use Rattle.answers.specs.Numbers.{numberOf}
 use Rattle.srecord.specs.File.{loadedOf, memoryAfter}
-use Rattle.srecord.specs.declared.Answer.the-variants.{Done, Refused}
+use Rattle.answers.specs.declared.Answer.the-variants.{Done, Refused}
 use Rattle.srecord.specs.declared.Loaded.{Loaded}
-use Rattle.srecord.specs.declared.Refusal.{Refusal}
+use Rattle.answers.specs.declared.Refusal.{Refusal}
 use Rattle.step.specs.Step.{stepOf, memoryAfterStep}
 use Rattle.step.specs.declared.Machine.{Machine}
 use Rattle.step.specs.declared.Settings.{Settings}

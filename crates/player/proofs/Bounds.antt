@@ -8,10 +8,10 @@ use native.Mathlib.Omega.{arith}
 use lib.Dec.{eqb}
 use lib.ListN.{length, replicate, length-append, length-replicate}
 use Rattle.registers.specs.declared.Flags.the-variants.{Bought, Manual}
-use Rattle.srecord.specs.Answers.{numberOf}
+use Rattle.answers.specs.Numbers.{numberOf}
 use Rattle.srecord.specs.File.{loadedOf, memoryAfter}
-use Rattle.srecord.specs.declared.Answer.{Answer}
-use Rattle.srecord.specs.declared.Answer.the-variants.{Done, Refused}
+use Rattle.answers.specs.declared.Answer.{Answer}
+use Rattle.answers.specs.declared.Answer.the-variants.{Done, Refused}
 use Rattle.step.specs.Step.{stepOf, memoryAfterStep}
 use Rattle.step.specs.declared.Machine.{Machine}
 use Rattle.step.specs.declared.Settings.{Settings}

@@ -7,9 +7,9 @@ use native.Mathlib.Omega.{arith}
 use borrow.Author.Tests.{eq-eqb, le-leb}
 use lib.ListN.{length, replicate, length-replicate}
 use Rattle.memory.specs.Writes.{listed}
-use Rattle.memory.specs.declared.Answer.{Answer}
-use Rattle.memory.specs.declared.Answer.the-variants.{Done, Refused}
-use Rattle.memory.specs.declared.Refusal.{Refusal}
+use Rattle.answers.specs.declared.Answer.{Answer}
+use Rattle.answers.specs.declared.Answer.the-variants.{Done, Refused}
+use Rattle.answers.specs.declared.Refusal.{Refusal}
 use Rattle.memory.proofs.Folds.{length-stored}
 use Rattle.evaluate.specs.declared.Wait.{Wait}
 use Rattle.evaluate.specs.declared.Wait.the-variants.{Running, Cwai, Sync}

@@ -10,10 +10,10 @@ use lib.ListN.{length, getD, drop, replicate}
 use Rattle.registers.specs.declared.Flags.{Flags}
 use Rattle.registers.specs.declared.Flags.the-variants.{Bought, Manual}
 use Rattle.memory.specs.Fits.{Bytes}
-use Rattle.srecord.specs.Answers.{numberOf}
+use Rattle.answers.specs.Numbers.{numberOf}
 use Rattle.srecord.specs.File.{loadedOf, memoryAfter}
-use Rattle.srecord.specs.declared.Answer.{Answer}
-use Rattle.srecord.specs.declared.Answer.the-variants.{Done, Refused}
+use Rattle.answers.specs.declared.Answer.{Answer}
+use Rattle.answers.specs.declared.Answer.the-variants.{Done, Refused}
 use Rattle.step.specs.Step.{stepOf, memoryAfterStep}
 use Rattle.step.specs.declared.Machine.{Machine}
 use Rattle.step.specs.declared.Settings.{Settings}

@@ -3,8 +3,8 @@
 use Prim.Native.Nat.{ℕ, _≤_}
 use mathlib.Core.List.{List, [], _∷_, _++_}
 use lib.ListN.{length, replicate}
-use Rattle.memory.specs.Answers.{numberOfAnswer}
-use Rattle.memory.specs.declared.Answer.{Answer}
+use Rattle.answers.specs.Numbers.{numberOfAnswer}
+use Rattle.answers.specs.declared.Answer.{Answer}
 use Rattle.evaluate.specs.declared.Wait.the-variants.{Running}
 use Rattle.step.specs.declared.Machine.{Machine}
 use Rattle.step.specs.declared.Settings.{Settings}

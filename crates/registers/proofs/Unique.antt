@@ -1,7 +1,7 @@
 -- No second answer fits a public function's contract.
 -- Assumes nothing.
 use mathlib.Core.Path.{refl, sym, _∙_}
-use Rattle.u8oru16.proofs.Determined.{Determines}
+use Rattle.answers.proofs.Determined.{Determines}
 use Rattle.registers.proofs.CCBit
 use Rattle.registers.proofs.CCBits
 use Rattle.registers.proofs.Name

@@ -12,7 +12,7 @@ use borrow.Author.Tests.{eqb-true, leb-true, lt-ltb, le-ltb}
 use Rattle.srecord.specs.Text.{isFigure, isCapital, isDigit, valueOf, digitOf, byteOf, pairs, isPaired, bytesOf, checksum, summed, textOf}
 use Rattle.srecord.specs.Line.{refused, mayHold, isShaped, isSummed, bytes, addressOf, dataOf, meant, lineOf}
 use Rattle.srecord.specs.Promises.{Bytes, IsLine, Stands, LineExact}
-use Rattle.srecord.specs.declared.Refusal.the-variants.{Shape, Checksum}
+use Rattle.answers.specs.declared.Refusal.the-variants.{LineShape, Checksum}
 use Rattle.srecord.proofs.Bools.{and-parts}
 use Rattle.srecord.proofs.Digits.{value-figure, value-capital, value-small, byte-small}
 use Rattle.srecord.proofs.Scan.{take-one}
@@ -149,7 +149,7 @@ stands text kind a d l = go (eqb kind 48) refl (eqb kind 57) refl (leb (a + leng
     go false p false q true r = rw (p, q, r) (rw (kind-1 kind (length d) p q (l .count)) at l)
     go false p false q false r = rw (p, q, r) tt
 
-not-shaped : (text : List ℕ) → isShaped text ≡ false → lineOf text ≡ refused Shape
+not-shaped : (text : List ℕ) → isShaped text ≡ false → lineOf text ≡ refused LineShape
 unfolding lineOf
 not-shaped text e = rw e
 

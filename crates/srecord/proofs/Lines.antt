@@ -15,8 +15,8 @@ use Rattle.srecord.specs.Line.{Meaning, heading, piece, start, refused, 
 use Rattle.srecord.specs.File.{joined, linesOf, first, lineEnd, meaningsOf, failed, ended, judged, landed}
 use Rattle.srecord.specs.Written.{plainEnd}
 use Rattle.srecord.specs.declared.Line.the-variants.{Header, Data, End, Bad}
-use Rattle.srecord.specs.declared.Refusal.{Refusal}
-use Rattle.srecord.specs.declared.Refusal.the-variants.{Shape, Checksum, PastTop}
+use Rattle.answers.specs.declared.Refusal.{Refusal}
+use Rattle.answers.specs.declared.Refusal.the-variants.{LineShape, Checksum, PastTop}
 use Rattle.srecord.proofs.Scan.{first-joined}
 use Rattle.srecord.proofs.Shapes.{shaped-length, shaped-room}
 
@@ -141,7 +141,7 @@ pub plain-end : shown (lineOf plainEnd) ≡ End 0
 unfolding lineOf isShaped isSummed isPaired bytesOf valueOf total
 plain-end = refl
 
-pub bad-shape : (text : List ℕ) → isShaped text ≡ false → Bad Shape ≡ shown (lineOf text)
+pub bad-shape : (text : List ℕ) → isShaped text ≡ false → Bad LineShape ≡ shown (lineOf text)
 unfolding lineOf
 bad-shape text e = rw e
 
@@ -176,7 +176,7 @@ module _ (text : List ℕ) (a n : ℕ) where
   data-line e = go (isShaped text) refl (isSummed (bytes text)) refl
     where
       go : (u : Bool) → isShaped text ≡ u → (v : Bool) → isSummed (bytes text) ≡ v → IsData
-      go false p v q = let z : Bad Shape ≡ Data a n = bad-shape text p ∙ e in let y : _≡_ {A = ℕ} 0 1 = cc in absurd (omega arith)
+      go false p v q = let z : Bad LineShape ≡ Data a n = bad-shape text p ∙ e in let y : _≡_ {A = ℕ} 0 1 = cc in absurd (omega arith)
       go true p false q = let z : Bad Checksum ≡ Data a n = bad-sum text p q ∙ e in let y : _≡_ {A = ℕ} 0 1 = cc in absurd (omega arith)
       go true p true q =
           let l = shaped-length text p in

@@ -12,7 +12,7 @@ use borrow.Author.Tests.{eq-eqb, ne-eqb, le-leb, lt-leb, leb-true, eqb-true}
 use Rattle.srecord.specs.Text.{isPaired, bytesOf, byteOf, isDigit, total}
 use Rattle.srecord.specs.Line.{most, mayHold, isCounted, isShaped, isSummed, bytes, addressOf, dataOf, meant, shown}
 use Rattle.srecord.specs.declared.Line.the-variants.{Header, Data, End, Bad}
-use Rattle.srecord.specs.declared.Refusal.the-variants.{PastTop}
+use Rattle.answers.specs.declared.Refusal.the-variants.{PastTop}
 use Rattle.srecord.proofs.Bools.{and-false, and-parts}
 use Rattle.srecord.proofs.Bytes.{byte-of}
 

@@ -3,16 +3,8 @@
 use mathlib.Core.Path.{refl, sym, ap, _∙_}
 use mathlib.Core.List.{List}
 use Prim.Native.Nat.{ℕ}
-use Rattle.u8oru16.proofs.Determined.{Determines}
+use Rattle.answers.proofs.Determined.{Determines}
 use Rattle.srecord.proofs
-use Rattle.srecord.proofs.Refusal
-use Rattle.srecord.proofs.Answer
-
-pub refusal-number : Determines 0 Refusal.number.Kinds.ps Refusal.number.Kinds.r Refusal.number.Reads.Post
-refusal-number κs a x y ws vs p q = (p ∙ sym q, refl)
-
-pub answer-number : Determines 0 Answer.number.Kinds.ps Answer.number.Kinds.r Answer.number.Reads.Post
-answer-number κs a x y ws vs p q = (p ∙ sym q, refl)
 
 pub line-of : Determines 1 proofs.line_of.Kinds.ps proofs.line_of.Kinds.r proofs.line_of.Reads.Post
 line-of κs a x y ws vs p q = (p ∙ sym q, refl)

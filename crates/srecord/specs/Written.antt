@@ -7,9 +7,9 @@ use lib.Dec.{eqb, ltb}
 use lib.ListN.{length, take, drop}
 use lib.Seq.{sets}
 use Rattle.srecord.specs.Text.{kind1, kind9, textOf}
-use Rattle.srecord.specs.declared.Answer.the-variants.{Done, Refused}
-use Rattle.srecord.specs.declared.Refusal.{Refusal}
-use Rattle.srecord.specs.declared.Refusal.the-variants.{MemoryLength, OutputShort}
+use Rattle.answers.specs.declared.Answer.the-variants.{Done, Refused}
+use Rattle.answers.specs.declared.Refusal.{Refusal}
+use Rattle.answers.specs.declared.Refusal.the-variants.{MemoryLength, OutputShort}
 use Rattle.srecord.specs.declared.Written.{Written}
 
 -- the k-th 32 bytes of memory

@@ -5,26 +5,12 @@ ghost use mathlib.Core.List.{[]};
 ghost use Prim.Native.Nat.{_+_, _*_, _%_, _≤_, _<_};
 ghost use lib.ListN.{length, getD, take, drop};
 ghost use lib.Seq.{sets};
-ghost use Rattle.srecord.specs.Answers.{numberOf, numberOfAnswer};
 ghost use Rattle.srecord.specs.Text.{kind9, isDigit, valueOf, digitOf, pair, byteOf, pairs, isPaired, total, textOf, isSame};
 ghost use Rattle.srecord.specs.Line.{most, isShaped, isSummed, mayHold, bytes, addressOf, dataOf, meant, lineOf, shown};
 ghost use Rattle.srecord.specs.File.{lineEnd, failed, meaningsOf, judged, landed, loadedOf, memoryAfter};
 ghost use Rattle.srecord.specs.Written.{stopped, rowsText, isZero, writtenOf, outputAfter};
-
-// Why a call is refused: numbers 1, 17 and 20 to 23.
-pub enum Refusal {
-    MemoryLength,
-    OutputShort,
-    Shape,
-    Checksum,
-    PastTop,
-    NoEnd,
-}
-
-pub enum Answer {
-    Done,
-    Refused(Refusal),
-}
+use answers::Answer;
+use answers::Refusal;
 
 // One line. The data of an S1 line stand in its text as pairs of digits, from index 8 on.
 pub enum Line {
@@ -44,32 +30,6 @@ pub struct Loaded {
 pub struct Written {
     pub count: usize,
     pub answer: Answer,
-}
-
-impl Refusal {
-    pub fn number(self) -> u8
-        ensures { λ r. ⌜ r ≡ numberOf self ⌝ }
-    {
-        match self {
-            Refusal::MemoryLength => 1,
-            Refusal::OutputShort => 17,
-            Refusal::Shape => 20,
-            Refusal::Checksum => 21,
-            Refusal::PastTop => 22,
-            Refusal::NoEnd => 23,
-        }
-    }
-}
-
-impl Answer {
-    pub fn number(self) -> u8
-        ensures { λ r. ⌜ r ≡ numberOfAnswer self ⌝ }
-    {
-        match self {
-            Answer::Done => 0,
-            Answer::Refused(refusal) => refusal.number(),
-        }
-    }
 }
 
 fn is_digit(c: u8) -> bool
@@ -224,7 +184,7 @@ pub fn line_of(text: &[u8]) -> Line
         return Line::End(0);
     }
     if !shaped(text) {
-        return Line::Bad(Refusal::Shape);
+        return Line::Bad(Refusal::LineShape);
     }
     if !summed(text) {
         return Line::Bad(Refusal::Checksum);
@@ -270,7 +230,7 @@ fn judge(file: &[u8]) -> Loaded
             } => {}
             Line::End(start) => {
                 if end < file.len() {
-                    return refused(Refusal::Shape);
+                    return refused(Refusal::LineShape);
                 }
                 return Loaded {
                     start,

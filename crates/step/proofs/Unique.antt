@@ -3,7 +3,7 @@
 use mathlib.Core.Path.{refl, sym, ap, _∙_}
 use mathlib.Core.List.{List}
 use Prim.Native.Nat.{ℕ}
-use Rattle.u8oru16.proofs.Determined.{Determines}
+use Rattle.answers.proofs.Determined.{Determines}
 use Rattle.step.proofs
 
 pub refused : Determines 0 proofs.refused.Kinds.ps proofs.refused.Kinds.r proofs.refused.Reads.Post

@@ -6,7 +6,7 @@ use mathlib.Core.Path.{_≡_}
 use Prim.Native.Nat.{ℕ}
 use lib.Dec.{eqb}
 use lib.ListN.{length}
-use Rattle.memory.specs.Answers.{numberOfAnswer}
+use Rattle.answers.specs.Numbers.{numberOfAnswer}
 use Rattle.memory.specs.Map.{byteAt}
 use Rattle.addressing.specs.Resolve.{addressOf}
 use Rattle.addressing.specs.declared.Resolved.{Resolved}
