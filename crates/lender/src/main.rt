@@ -7,11 +7,11 @@
 // hand. NOP is one byte, STA extended three, and each leaves a record. The first undo puts 00 back at 0200, and PC and the count
 // go back with each; the third undo finds no record (11) and leaves all as it stands.
 ghost use Rattle.journal.specs.Calls.{inHand, stepped, undone};
-ghost use Rattle.machine.specs.Lending.{Returns};
+ghost use Rattle.lent.specs.Lending.{Returns};
 use evaluate::Wait;
 use journal::Twin;
+use lent::Returned;
 use libc::STDOUT_FILENO;
-use machine::Returned;
 use registers::CCBits;
 use registers::Flags;
 use registers::Set;
@@ -30,7 +30,7 @@ fn step_owned(twin: Twin, mem: &mut [u8], journal: &mut [u8], settings: Settings
     ensures { λ r. ⌜ Returns r (now (mem .exit)) (now (journal .exit)) (stepped settings (inHand (now (mem .entry)) (now (journal .entry)) twin)) ⌝ }
 {
     let mut own = twin;
-    let reported = machine::step(&mut own, mem, journal, settings);
+    let reported = lent::step(&mut own, mem, journal, settings);
     Returned {
         reported,
         twin: own,
@@ -41,7 +41,7 @@ fn undo_owned(twin: Twin, mem: &mut [u8], journal: &[u8]) -> Returned
     ensures { λ r. ⌜ Returns r (now (mem .exit)) (now (journal .entry)) (undone (inHand (now (mem .entry)) (now (journal .entry)) twin)) ⌝ }
 {
     let mut own = twin;
-    let reported = machine::undo(&mut own, mem, journal);
+    let reported = lent::undo(&mut own, mem, journal);
     Returned {
         reported,
         twin: own,

@@ -42,23 +42,23 @@ use denote.Exit.{yes}
 use denote.Signature.{plain, shrSliceOf}
 use Rattle.journal.specs.Calls.{inHand, undone}
 use Rattle.journal.specs.declared.Twin.{Twin}
-use Rattle.machine.specs.Lending.{Returns}
-use Rattle.machine.specs.declared.Returned.{Returned}
+use Rattle.lent.specs.Lending.{Returns}
+use Rattle.lent.specs.declared.Returned.{Returned}
 use Rattle.journal.proofs.Twin as T
 use Rattle.journal.proofs.Twin.Laws as T′
-use Rattle.machine.proofs.Reported as N
-use Rattle.machine.proofs.Reported.Laws as N′
-use Rattle.machine.proofs.Returned as S
-use Rattle.machine.proofs.Returned.Laws as S′
-use Rattle.machine.proofs.Parts.{at-twin, at-report, twin-of, report-of, left}
-use Rattle.machine.proofs.undo_value as value
-use Rattle.machine.proofs.undo_value.Symbol as value-def
-use Rattle.machine.proofs.undo_value.Symbol.{name as #value}
-use Rattle.machine.proofs.undo_value.Met as value-thm
-use Rattle.machine.proofs.undo.Key.{name as #this}
-use Rattle.machine.proofs.undo as this
-use Rattle.machine.proofs.undo.Statement as stated
-use Rattle.machine.proofs.undo.Code as code
+use Rattle.lent.proofs.Reported as N
+use Rattle.lent.proofs.Reported.Laws as N′
+use Rattle.lent.proofs.Returned as S
+use Rattle.lent.proofs.Returned.Laws as S′
+use Rattle.lent.proofs.Parts.{at-twin, at-report, twin-of, report-of, left}
+use Rattle.lent.proofs.undo_value as value
+use Rattle.lent.proofs.undo_value.Symbol as value-def
+use Rattle.lent.proofs.undo_value.Symbol.{name as #value}
+use Rattle.lent.proofs.undo_value.Met as value-thm
+use Rattle.lent.proofs.undo.Key.{name as #this}
+use Rattle.lent.proofs.undo as this
+use Rattle.lent.proofs.undo.Statement as stated
+use Rattle.lent.proofs.undo.Code as code
 
 abbrev stayed : Stays (this.ended .signature .params) (this.ended .kept)
 stayed = (stay-ref (0 ∷ []) tt (plain (λ _. T.the-row)), (gave-slice (1 ∷ []) tt (plain (λ _. u8)), (stay-dropped (shrSliceOf (2 ∷ []) tt (plain (λ _. u8))) yes, tt)))

@@ -5,8 +5,8 @@ use mathlib.Core.List.{List}
 use mathlib.Core.Path.{_≡_}
 use Rattle.journal.specs.Calls.{Ended}
 use Rattle.journal.specs.declared.Twin.{Twin}
-use Rattle.machine.specs.declared.Reported.{Reported}
-use Rattle.machine.specs.declared.Returned.{Returned}
+use Rattle.lent.specs.declared.Reported.{Reported}
+use Rattle.lent.specs.declared.Returned.{Returned}
 
 -- the device writes and the answer
 abbrev pub reportOf : Ended → Reported

@@ -11,13 +11,13 @@ use Rattle.journal.specs.declared.Outcome.{Outcome}
 use Rattle.journal.specs.declared.Twin.{Twin}
 use Rattle.journal.proofs.Twin as T
 use Rattle.journal.proofs.Twin.Laws as T′
-use Rattle.machine.specs.Lending.{Returns, Leaves}
-use Rattle.machine.specs.declared.Reported.{Reported}
-use Rattle.machine.specs.declared.Returned.{Returned}
-use Rattle.machine.proofs.Reported as N
-use Rattle.machine.proofs.Reported.Laws as N′
-use Rattle.machine.proofs.Returned as S
-use Rattle.machine.proofs.Returned.Laws as S′
+use Rattle.lent.specs.Lending.{Returns, Leaves}
+use Rattle.lent.specs.declared.Reported.{Reported}
+use Rattle.lent.specs.declared.Returned.{Returned}
+use Rattle.lent.proofs.Reported as N
+use Rattle.lent.proofs.Reported.Laws as N′
+use Rattle.lent.proofs.Returned as S
+use Rattle.lent.proofs.Returned.Laws as S′
 
 -- what a recorded call returned, as report and twin
 abbrev pub parts : Outcome → Returned

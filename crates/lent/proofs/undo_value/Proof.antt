@@ -1,9 +1,9 @@
 -- `machine::undo_value` meets its contract: what `journal::undo` returned, put together anew.
 -- Assumes nothing.
 use borrow.Author.Needs.{needs}
-use Rattle.machine.proofs.Parts.{parted}
-use Rattle.machine.proofs.undo_value.Statement.{statement}
-use Rattle.machine.proofs.undo_value.Tie as tie
+use Rattle.lent.proofs.Parts.{parted}
+use Rattle.lent.proofs.undo_value.Statement.{statement}
+use Rattle.lent.proofs.undo_value.Tie as tie
 
 returns : tie.Need-returns
 returns c = parted _ _ _ _ (c .before .before .before .before .undo .ensures)

@@ -43,25 +43,25 @@ use denote.Signature.{plain}
 use Rattle.journal.specs.Calls.{inHand, stepped}
 use Rattle.journal.specs.declared.Twin.{Twin}
 use Rattle.step.specs.declared.Settings.{Settings}
-use Rattle.machine.specs.Lending.{Returns}
-use Rattle.machine.specs.declared.Returned.{Returned}
+use Rattle.lent.specs.Lending.{Returns}
+use Rattle.lent.specs.declared.Returned.{Returned}
 use Rattle.journal.proofs.Twin as T
 use Rattle.journal.proofs.Twin.Laws as T′
 use Rattle.step.proofs.Settings as G
 use Rattle.step.proofs.Settings.Laws as G′
-use Rattle.machine.proofs.Reported as N
-use Rattle.machine.proofs.Reported.Laws as N′
-use Rattle.machine.proofs.Returned as S
-use Rattle.machine.proofs.Returned.Laws as S′
-use Rattle.machine.proofs.Parts.{at-twin, at-report, twin-of, report-of, left}
-use Rattle.machine.proofs.step_value as value
-use Rattle.machine.proofs.step_value.Symbol as value-def
-use Rattle.machine.proofs.step_value.Symbol.{name as #value}
-use Rattle.machine.proofs.step_value.Met as value-thm
-use Rattle.machine.proofs.step.Key.{name as #this}
-use Rattle.machine.proofs.step as this
-use Rattle.machine.proofs.step.Statement as stated
-use Rattle.machine.proofs.step.Code as code
+use Rattle.lent.proofs.Reported as N
+use Rattle.lent.proofs.Reported.Laws as N′
+use Rattle.lent.proofs.Returned as S
+use Rattle.lent.proofs.Returned.Laws as S′
+use Rattle.lent.proofs.Parts.{at-twin, at-report, twin-of, report-of, left}
+use Rattle.lent.proofs.step_value as value
+use Rattle.lent.proofs.step_value.Symbol as value-def
+use Rattle.lent.proofs.step_value.Symbol.{name as #value}
+use Rattle.lent.proofs.step_value.Met as value-thm
+use Rattle.lent.proofs.step.Key.{name as #this}
+use Rattle.lent.proofs.step as this
+use Rattle.lent.proofs.step.Statement as stated
+use Rattle.lent.proofs.step.Code as code
 
 abbrev stayed : Stays (this.ended .signature .params) (this.ended .kept)
 stayed = (stay-ref (0 ∷ []) tt (plain (λ _. T.the-row)), (gave-slice (1 ∷ []) tt (plain (λ _. u8)), (gave-slice (2 ∷ []) tt (plain (λ _. u8)), (stay-none (λ _. G.the-row) yes, tt))))

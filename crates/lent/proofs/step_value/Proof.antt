@@ -1,9 +1,9 @@
 -- `machine::step_value` meets its contract: what `journal::step` returned, put together anew.
 -- Assumes nothing.
 use borrow.Author.Needs.{needs}
-use Rattle.machine.proofs.Parts.{parted}
-use Rattle.machine.proofs.step_value.Statement.{statement}
-use Rattle.machine.proofs.step_value.Tie as tie
+use Rattle.lent.proofs.Parts.{parted}
+use Rattle.lent.proofs.step_value.Statement.{statement}
+use Rattle.lent.proofs.step_value.Tie as tie
 
 returns : tie.Need-returns
 returns c = parted _ _ _ _ (c .before .before .before .before .before .before .step .ensures)
