@@ -9,7 +9,7 @@ use native.Mathlib.Nat.{add-zero, zero-add, add-suc, suc-add, le-of-suc-le-suc, 
 use native.Mathlib.Omega.{arith}
 use lib.Dec.{eqb}
 use lib.ListN.{getD}
-use Rattle.opcodes.specs.declared.Entry.{Entry}
+use Rattle.opcodes.specs.declared.Place.{Place}
 
 -- the values of f at n places from i on
 abbrev pub values : {A : Type 0} → (ℕ → A) → ℕ → ℕ → List A
@@ -68,5 +68,5 @@ last m n l h = go (ℕ-discrete n m)
     go (no d) = absurd (none-below m n (omega arith) h)
 
 -- the last arm, where the others are the m numbers before it
-pub final : (f : ℕ → Entry) (m : ℕ) {n : ℕ} {r e : Entry} → r ≡ e → n < suc m → NotIn n (down m) → e ≡ f m → r ≡ f n
+pub final : (f : ℕ → Place) (m : ℕ) {n : ℕ} {r e : Place} → r ≡ e → n < suc m → NotIn n (down m) → e ≡ f m → r ≡ f n
 final f m {n} p l h t = arm f p (last m n l h) t

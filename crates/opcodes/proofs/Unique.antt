@@ -6,6 +6,3 @@ use Rattle.opcodes.proofs
 
 pub lookup : Determines 0 proofs.lookup.Kinds.ps proofs.lookup.Kinds.r proofs.lookup.Reads.Post
 lookup κs a x y ws vs p q = (p ∙ sym q, refl)
-
-pub mnemonic : Determines 0 proofs.mnemonic.Kinds.ps proofs.mnemonic.Kinds.r proofs.mnemonic.Reads.Post
-mnemonic κs a x y ws vs p q = (p ∙ sym q, refl)

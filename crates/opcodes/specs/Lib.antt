@@ -1,3 +1,2 @@
 pub mod Manual
-pub mod Mnemonics
 pub mod Places

@@ -6,24 +6,27 @@ ghost use Rattle.opcodes.specs.declared.Page.the-variants.{Plain};
 use super::Acc;
 use super::Alu;
 use super::Cond;
-use super::Entry;
-use super::Op;
+use super::MemoryOp;
+use super::Mode;
+use super::Place;
+use super::RegisterOp;
 use super::Software;
 use super::Unary;
-use super::place::alu8;
-use super::place::branch;
-use super::place::compare16;
-use super::place::load16;
-use super::place::none;
-use super::place::on_acc;
-use super::place::on_memory;
-use super::place::place;
-use super::place::store16;
-use addressing::Mode;
-use registers::Name;
+use super::short::alu8;
+use super::short::branch;
+use super::short::compare16;
+use super::short::load16;
+use super::short::memory;
+use super::short::on_acc;
+use super::short::on_memory;
+use super::short::registers;
+use super::short::store16;
+use registers::Index;
+use registers::Stack;
+use registers::Word;
 
 // Memory, direct.
-fn row_0(low: u8) -> Entry
+fn row_0(low: u8) -> Place
     requires { ⌜ low < 16 ⌝ }
     ensures { λ r. ⌜ r ≡ entryOf Plain (0x00 + low) ⌝ }
 {
@@ -37,84 +40,84 @@ fn row_0(low: u8) -> Entry
         0x9 => on_memory(Unary::Rol, Mode::Direct, 2, 6),
         0xA => on_memory(Unary::Dec, Mode::Direct, 2, 6),
         0xC => on_memory(Unary::Inc, Mode::Direct, 2, 6),
-        0xD => on_memory(Unary::Tst, Mode::Direct, 2, 6),
-        0xE => place(Op::Jmp, Mode::Direct, 2, 3),
+        0xD => registers(RegisterOp::TestMemory, Mode::Direct, 2, 6),
+        0xE => registers(RegisterOp::Jmp, Mode::Direct, 2, 3),
         0xF => on_memory(Unary::Clr, Mode::Direct, 2, 6),
-        _ => none(),
+        _ => Place::None,
     }
 }
 
 // No operand, condition codes, exchanges, and the two long branches of this page.
-fn row_1(low: u8) -> Entry
+fn row_1(low: u8) -> Place
     requires { ⌜ low < 16 ⌝ }
     ensures { λ r. ⌜ r ≡ entryOf Plain (0x10 + low) ⌝ }
 {
     match low {
-        0x2 => place(Op::Nop, Mode::Inherent, 1, 2),
-        0x3 => place(Op::Sync, Mode::Inherent, 1, 4),
-        0x6 => branch(Cond::Ra, 3, 5),
-        0x7 => place(Op::Bsr, Mode::Relative, 3, 9),
-        0x9 => place(Op::Daa, Mode::Inherent, 1, 2),
-        0xA => place(Op::Orcc, Mode::Immediate, 2, 3),
-        0xC => place(Op::Andcc, Mode::Immediate, 2, 3),
-        0xD => place(Op::Sex, Mode::Inherent, 1, 2),
-        0xE => place(Op::Exg, Mode::Immediate, 2, 8),
-        0xF => place(Op::Tfr, Mode::Immediate, 2, 6),
-        _ => none(),
+        0x2 => registers(RegisterOp::Nop, Mode::Inherent, 1, 2),
+        0x3 => memory(MemoryOp::Sync, Mode::Inherent, 1, 4),
+        0x6 => branch(Cond::Ra, Mode::Relative16, 3, 5),
+        0x7 => memory(MemoryOp::Bsr, Mode::Relative16, 3, 9),
+        0x9 => registers(RegisterOp::Daa, Mode::Inherent, 1, 2),
+        0xA => registers(RegisterOp::Orcc, Mode::Immediate8, 2, 3),
+        0xC => registers(RegisterOp::Andcc, Mode::Immediate8, 2, 3),
+        0xD => registers(RegisterOp::Sex, Mode::Inherent, 1, 2),
+        0xE => registers(RegisterOp::Exg, Mode::Immediate8, 2, 8),
+        0xF => registers(RegisterOp::Tfr, Mode::Immediate8, 2, 6),
+        _ => Place::None,
     }
 }
 
 // Short branches.
-fn row_2(low: u8) -> Entry
+fn row_2(low: u8) -> Place
     requires { ⌜ low < 16 ⌝ }
     ensures { λ r. ⌜ r ≡ entryOf Plain (0x20 + low) ⌝ }
 {
     match low {
-        0x0 => branch(Cond::Ra, 2, 3),
-        0x1 => branch(Cond::Rn, 2, 3),
-        0x2 => branch(Cond::Hi, 2, 3),
-        0x3 => branch(Cond::Ls, 2, 3),
-        0x4 => branch(Cond::Cc, 2, 3),
-        0x5 => branch(Cond::Cs, 2, 3),
-        0x6 => branch(Cond::Ne, 2, 3),
-        0x7 => branch(Cond::Eq, 2, 3),
-        0x8 => branch(Cond::Vc, 2, 3),
-        0x9 => branch(Cond::Vs, 2, 3),
-        0xA => branch(Cond::Pl, 2, 3),
-        0xB => branch(Cond::Mi, 2, 3),
-        0xC => branch(Cond::Ge, 2, 3),
-        0xD => branch(Cond::Lt, 2, 3),
-        0xE => branch(Cond::Gt, 2, 3),
-        _ => branch(Cond::Le, 2, 3),
+        0x0 => branch(Cond::Ra, Mode::Relative8, 2, 3),
+        0x1 => branch(Cond::Rn, Mode::Relative8, 2, 3),
+        0x2 => branch(Cond::Hi, Mode::Relative8, 2, 3),
+        0x3 => branch(Cond::Ls, Mode::Relative8, 2, 3),
+        0x4 => branch(Cond::Cc, Mode::Relative8, 2, 3),
+        0x5 => branch(Cond::Cs, Mode::Relative8, 2, 3),
+        0x6 => branch(Cond::Ne, Mode::Relative8, 2, 3),
+        0x7 => branch(Cond::Eq, Mode::Relative8, 2, 3),
+        0x8 => branch(Cond::Vc, Mode::Relative8, 2, 3),
+        0x9 => branch(Cond::Vs, Mode::Relative8, 2, 3),
+        0xA => branch(Cond::Pl, Mode::Relative8, 2, 3),
+        0xB => branch(Cond::Mi, Mode::Relative8, 2, 3),
+        0xC => branch(Cond::Ge, Mode::Relative8, 2, 3),
+        0xD => branch(Cond::Lt, Mode::Relative8, 2, 3),
+        0xE => branch(Cond::Gt, Mode::Relative8, 2, 3),
+        _ => branch(Cond::Le, Mode::Relative8, 2, 3),
     }
 }
 
 // Addresses, the stacks, waiting, and what has no operand.
-fn row_3(low: u8) -> Entry
+fn row_3(low: u8) -> Place
     requires { ⌜ low < 16 ⌝ }
     ensures { λ r. ⌜ r ≡ entryOf Plain (0x30 + low) ⌝ }
 {
     match low {
-        0x0 => place(Op::Lea(Name::X), Mode::Indexed, 2, 4),
-        0x1 => place(Op::Lea(Name::Y), Mode::Indexed, 2, 4),
-        0x2 => place(Op::Lea(Name::S), Mode::Indexed, 2, 4),
-        0x3 => place(Op::Lea(Name::U), Mode::Indexed, 2, 4),
-        0x4 => place(Op::Pshs, Mode::Immediate, 2, 5),
-        0x5 => place(Op::Puls, Mode::Immediate, 2, 5),
-        0x6 => place(Op::Pshu, Mode::Immediate, 2, 5),
-        0x7 => place(Op::Pulu, Mode::Immediate, 2, 5),
-        0x9 => place(Op::Rts, Mode::Inherent, 1, 5),
-        0xA => place(Op::Abx, Mode::Inherent, 1, 3),
-        0xB => place(Op::Rti, Mode::Inherent, 1, 6),
-        0xC => place(Op::Cwai, Mode::Immediate, 2, 20),
-        0xD => place(Op::Mul, Mode::Inherent, 1, 11),
-        0xF => place(Op::Swi(Software::Swi), Mode::Inherent, 1, 19),
-        _ => none(),
+        0x0 => registers(RegisterOp::Lea(Index::X), Mode::Indexed, 2, 4),
+        0x1 => registers(RegisterOp::Lea(Index::Y), Mode::Indexed, 2, 4),
+        0x2 => registers(RegisterOp::Lea(Index::S), Mode::Indexed, 2, 4),
+        0x3 => registers(RegisterOp::Lea(Index::U), Mode::Indexed, 2, 4),
+        0x4 => memory(MemoryOp::Push(Stack::S), Mode::Immediate8, 2, 5),
+        0x5 => memory(MemoryOp::Pull(Stack::S), Mode::Immediate8, 2, 5),
+        0x6 => memory(MemoryOp::Push(Stack::U), Mode::Immediate8, 2, 5),
+        0x7 => memory(MemoryOp::Pull(Stack::U), Mode::Immediate8, 2, 5),
+        0x9 => memory(MemoryOp::Rts, Mode::Inherent, 1, 5),
+        0xA => registers(RegisterOp::Abx, Mode::Inherent, 1, 3),
+        0xB => memory(MemoryOp::Rti, Mode::Inherent, 1, 6),
+        0xC => memory(MemoryOp::Cwai, Mode::Immediate8, 2, 20),
+        0xD => registers(RegisterOp::Mul, Mode::Inherent, 1, 11),
+        0xF => memory(MemoryOp::Swi(Software::Swi), Mode::Inherent, 1, 19),
+        _ => Place::None,
     }
 }
 
 // Accumulator A.
-fn row_4(low: u8) -> Entry
+fn row_4(low: u8) -> Place
     requires { ⌜ low < 16 ⌝ }
     ensures { λ r. ⌜ r ≡ entryOf Plain (0x40 + low) ⌝ }
 {
@@ -128,14 +131,14 @@ fn row_4(low: u8) -> Entry
         0x9 => on_acc(Unary::Rol, Acc::A, 1, 2),
         0xA => on_acc(Unary::Dec, Acc::A, 1, 2),
         0xC => on_acc(Unary::Inc, Acc::A, 1, 2),
-        0xD => on_acc(Unary::Tst, Acc::A, 1, 2),
+        0xD => registers(RegisterOp::TestAcc(Acc::A), Mode::Inherent, 1, 2),
         0xF => on_acc(Unary::Clr, Acc::A, 1, 2),
-        _ => none(),
+        _ => Place::None,
     }
 }
 
 // Accumulator B.
-fn row_5(low: u8) -> Entry
+fn row_5(low: u8) -> Place
     requires { ⌜ low < 16 ⌝ }
     ensures { λ r. ⌜ r ≡ entryOf Plain (0x50 + low) ⌝ }
 {
@@ -149,14 +152,14 @@ fn row_5(low: u8) -> Entry
         0x9 => on_acc(Unary::Rol, Acc::B, 1, 2),
         0xA => on_acc(Unary::Dec, Acc::B, 1, 2),
         0xC => on_acc(Unary::Inc, Acc::B, 1, 2),
-        0xD => on_acc(Unary::Tst, Acc::B, 1, 2),
+        0xD => registers(RegisterOp::TestAcc(Acc::B), Mode::Inherent, 1, 2),
         0xF => on_acc(Unary::Clr, Acc::B, 1, 2),
-        _ => none(),
+        _ => Place::None,
     }
 }
 
 // Memory, indexed.
-fn row_6(low: u8) -> Entry
+fn row_6(low: u8) -> Place
     requires { ⌜ low < 16 ⌝ }
     ensures { λ r. ⌜ r ≡ entryOf Plain (0x60 + low) ⌝ }
 {
@@ -170,15 +173,15 @@ fn row_6(low: u8) -> Entry
         0x9 => on_memory(Unary::Rol, Mode::Indexed, 2, 6),
         0xA => on_memory(Unary::Dec, Mode::Indexed, 2, 6),
         0xC => on_memory(Unary::Inc, Mode::Indexed, 2, 6),
-        0xD => on_memory(Unary::Tst, Mode::Indexed, 2, 6),
-        0xE => place(Op::Jmp, Mode::Indexed, 2, 3),
+        0xD => registers(RegisterOp::TestMemory, Mode::Indexed, 2, 6),
+        0xE => registers(RegisterOp::Jmp, Mode::Indexed, 2, 3),
         0xF => on_memory(Unary::Clr, Mode::Indexed, 2, 6),
-        _ => none(),
+        _ => Place::None,
     }
 }
 
 // Memory, extended.
-fn row_7(low: u8) -> Entry
+fn row_7(low: u8) -> Place
     requires { ⌜ low < 16 ⌝ }
     ensures { λ r. ⌜ r ≡ entryOf Plain (0x70 + low) ⌝ }
 {
@@ -192,39 +195,39 @@ fn row_7(low: u8) -> Entry
         0x9 => on_memory(Unary::Rol, Mode::Extended, 3, 7),
         0xA => on_memory(Unary::Dec, Mode::Extended, 3, 7),
         0xC => on_memory(Unary::Inc, Mode::Extended, 3, 7),
-        0xD => on_memory(Unary::Tst, Mode::Extended, 3, 7),
-        0xE => place(Op::Jmp, Mode::Extended, 3, 4),
+        0xD => registers(RegisterOp::TestMemory, Mode::Extended, 3, 7),
+        0xE => registers(RegisterOp::Jmp, Mode::Extended, 3, 4),
         0xF => on_memory(Unary::Clr, Mode::Extended, 3, 7),
-        _ => none(),
+        _ => Place::None,
     }
 }
 
 // A, D and X, immediate.
-fn row_8(low: u8) -> Entry
+fn row_8(low: u8) -> Place
     requires { ⌜ low < 16 ⌝ }
     ensures { λ r. ⌜ r ≡ entryOf Plain (0x80 + low) ⌝ }
 {
     match low {
-        0x0 => alu8(Alu::Sub, Acc::A, Mode::Immediate, 2, 2),
-        0x1 => alu8(Alu::Cmp, Acc::A, Mode::Immediate, 2, 2),
-        0x2 => alu8(Alu::Sbc, Acc::A, Mode::Immediate, 2, 2),
-        0x3 => place(Op::Subd, Mode::Immediate, 3, 4),
-        0x4 => alu8(Alu::And, Acc::A, Mode::Immediate, 2, 2),
-        0x5 => alu8(Alu::Bit, Acc::A, Mode::Immediate, 2, 2),
-        0x6 => alu8(Alu::Ld, Acc::A, Mode::Immediate, 2, 2),
-        0x8 => alu8(Alu::Eor, Acc::A, Mode::Immediate, 2, 2),
-        0x9 => alu8(Alu::Adc, Acc::A, Mode::Immediate, 2, 2),
-        0xA => alu8(Alu::Or, Acc::A, Mode::Immediate, 2, 2),
-        0xB => alu8(Alu::Add, Acc::A, Mode::Immediate, 2, 2),
-        0xC => compare16(Name::X, Mode::Immediate, 3, 4),
-        0xD => place(Op::Bsr, Mode::Relative, 2, 7),
-        0xE => load16(Name::X, Mode::Immediate, 3, 3),
-        _ => none(),
+        0x0 => alu8(Alu::Sub, Acc::A, Mode::Immediate8, 2, 2),
+        0x1 => alu8(Alu::Cmp, Acc::A, Mode::Immediate8, 2, 2),
+        0x2 => alu8(Alu::Sbc, Acc::A, Mode::Immediate8, 2, 2),
+        0x3 => registers(RegisterOp::Subd, Mode::Immediate16, 3, 4),
+        0x4 => alu8(Alu::And, Acc::A, Mode::Immediate8, 2, 2),
+        0x5 => alu8(Alu::Bit, Acc::A, Mode::Immediate8, 2, 2),
+        0x6 => alu8(Alu::Ld, Acc::A, Mode::Immediate8, 2, 2),
+        0x8 => alu8(Alu::Eor, Acc::A, Mode::Immediate8, 2, 2),
+        0x9 => alu8(Alu::Adc, Acc::A, Mode::Immediate8, 2, 2),
+        0xA => alu8(Alu::Or, Acc::A, Mode::Immediate8, 2, 2),
+        0xB => alu8(Alu::Add, Acc::A, Mode::Immediate8, 2, 2),
+        0xC => compare16(Word::X, Mode::Immediate16, 3, 4),
+        0xD => memory(MemoryOp::Bsr, Mode::Relative8, 2, 7),
+        0xE => load16(Word::X, Mode::Immediate16, 3, 3),
+        _ => Place::None,
     }
 }
 
 // A, D and X, direct.
-fn row_9(low: u8) -> Entry
+fn row_9(low: u8) -> Place
     requires { ⌜ low < 16 ⌝ }
     ensures { λ r. ⌜ r ≡ entryOf Plain (0x90 + low) ⌝ }
 {
@@ -232,24 +235,24 @@ fn row_9(low: u8) -> Entry
         0x0 => alu8(Alu::Sub, Acc::A, Mode::Direct, 2, 4),
         0x1 => alu8(Alu::Cmp, Acc::A, Mode::Direct, 2, 4),
         0x2 => alu8(Alu::Sbc, Acc::A, Mode::Direct, 2, 4),
-        0x3 => place(Op::Subd, Mode::Direct, 2, 6),
+        0x3 => registers(RegisterOp::Subd, Mode::Direct, 2, 6),
         0x4 => alu8(Alu::And, Acc::A, Mode::Direct, 2, 4),
         0x5 => alu8(Alu::Bit, Acc::A, Mode::Direct, 2, 4),
         0x6 => alu8(Alu::Ld, Acc::A, Mode::Direct, 2, 4),
-        0x7 => place(Op::Store8(Acc::A), Mode::Direct, 2, 4),
+        0x7 => memory(MemoryOp::Store8(Acc::A), Mode::Direct, 2, 4),
         0x8 => alu8(Alu::Eor, Acc::A, Mode::Direct, 2, 4),
         0x9 => alu8(Alu::Adc, Acc::A, Mode::Direct, 2, 4),
         0xA => alu8(Alu::Or, Acc::A, Mode::Direct, 2, 4),
         0xB => alu8(Alu::Add, Acc::A, Mode::Direct, 2, 4),
-        0xC => compare16(Name::X, Mode::Direct, 2, 6),
-        0xD => place(Op::Jsr, Mode::Direct, 2, 7),
-        0xE => load16(Name::X, Mode::Direct, 2, 5),
-        _ => store16(Name::X, Mode::Direct, 2, 5),
+        0xC => compare16(Word::X, Mode::Direct, 2, 6),
+        0xD => memory(MemoryOp::Jsr, Mode::Direct, 2, 7),
+        0xE => load16(Word::X, Mode::Direct, 2, 5),
+        _ => store16(Word::X, Mode::Direct, 2, 5),
     }
 }
 
 // A, D and X, indexed.
-fn row_a(low: u8) -> Entry
+fn row_a(low: u8) -> Place
     requires { ⌜ low < 16 ⌝ }
     ensures { λ r. ⌜ r ≡ entryOf Plain (0xA0 + low) ⌝ }
 {
@@ -257,24 +260,24 @@ fn row_a(low: u8) -> Entry
         0x0 => alu8(Alu::Sub, Acc::A, Mode::Indexed, 2, 4),
         0x1 => alu8(Alu::Cmp, Acc::A, Mode::Indexed, 2, 4),
         0x2 => alu8(Alu::Sbc, Acc::A, Mode::Indexed, 2, 4),
-        0x3 => place(Op::Subd, Mode::Indexed, 2, 6),
+        0x3 => registers(RegisterOp::Subd, Mode::Indexed, 2, 6),
         0x4 => alu8(Alu::And, Acc::A, Mode::Indexed, 2, 4),
         0x5 => alu8(Alu::Bit, Acc::A, Mode::Indexed, 2, 4),
         0x6 => alu8(Alu::Ld, Acc::A, Mode::Indexed, 2, 4),
-        0x7 => place(Op::Store8(Acc::A), Mode::Indexed, 2, 4),
+        0x7 => memory(MemoryOp::Store8(Acc::A), Mode::Indexed, 2, 4),
         0x8 => alu8(Alu::Eor, Acc::A, Mode::Indexed, 2, 4),
         0x9 => alu8(Alu::Adc, Acc::A, Mode::Indexed, 2, 4),
         0xA => alu8(Alu::Or, Acc::A, Mode::Indexed, 2, 4),
         0xB => alu8(Alu::Add, Acc::A, Mode::Indexed, 2, 4),
-        0xC => compare16(Name::X, Mode::Indexed, 2, 6),
-        0xD => place(Op::Jsr, Mode::Indexed, 2, 7),
-        0xE => load16(Name::X, Mode::Indexed, 2, 5),
-        _ => store16(Name::X, Mode::Indexed, 2, 5),
+        0xC => compare16(Word::X, Mode::Indexed, 2, 6),
+        0xD => memory(MemoryOp::Jsr, Mode::Indexed, 2, 7),
+        0xE => load16(Word::X, Mode::Indexed, 2, 5),
+        _ => store16(Word::X, Mode::Indexed, 2, 5),
     }
 }
 
 // A, D and X, extended.
-fn row_b(low: u8) -> Entry
+fn row_b(low: u8) -> Place
     requires { ⌜ low < 16 ⌝ }
     ensures { λ r. ⌜ r ≡ entryOf Plain (0xB0 + low) ⌝ }
 {
@@ -282,47 +285,47 @@ fn row_b(low: u8) -> Entry
         0x0 => alu8(Alu::Sub, Acc::A, Mode::Extended, 3, 5),
         0x1 => alu8(Alu::Cmp, Acc::A, Mode::Extended, 3, 5),
         0x2 => alu8(Alu::Sbc, Acc::A, Mode::Extended, 3, 5),
-        0x3 => place(Op::Subd, Mode::Extended, 3, 7),
+        0x3 => registers(RegisterOp::Subd, Mode::Extended, 3, 7),
         0x4 => alu8(Alu::And, Acc::A, Mode::Extended, 3, 5),
         0x5 => alu8(Alu::Bit, Acc::A, Mode::Extended, 3, 5),
         0x6 => alu8(Alu::Ld, Acc::A, Mode::Extended, 3, 5),
-        0x7 => place(Op::Store8(Acc::A), Mode::Extended, 3, 5),
+        0x7 => memory(MemoryOp::Store8(Acc::A), Mode::Extended, 3, 5),
         0x8 => alu8(Alu::Eor, Acc::A, Mode::Extended, 3, 5),
         0x9 => alu8(Alu::Adc, Acc::A, Mode::Extended, 3, 5),
         0xA => alu8(Alu::Or, Acc::A, Mode::Extended, 3, 5),
         0xB => alu8(Alu::Add, Acc::A, Mode::Extended, 3, 5),
-        0xC => compare16(Name::X, Mode::Extended, 3, 7),
-        0xD => place(Op::Jsr, Mode::Extended, 3, 8),
-        0xE => load16(Name::X, Mode::Extended, 3, 6),
-        _ => store16(Name::X, Mode::Extended, 3, 6),
+        0xC => compare16(Word::X, Mode::Extended, 3, 7),
+        0xD => memory(MemoryOp::Jsr, Mode::Extended, 3, 8),
+        0xE => load16(Word::X, Mode::Extended, 3, 6),
+        _ => store16(Word::X, Mode::Extended, 3, 6),
     }
 }
 
 // B, D and U, immediate.
-fn row_c(low: u8) -> Entry
+fn row_c(low: u8) -> Place
     requires { ⌜ low < 16 ⌝ }
     ensures { λ r. ⌜ r ≡ entryOf Plain (0xC0 + low) ⌝ }
 {
     match low {
-        0x0 => alu8(Alu::Sub, Acc::B, Mode::Immediate, 2, 2),
-        0x1 => alu8(Alu::Cmp, Acc::B, Mode::Immediate, 2, 2),
-        0x2 => alu8(Alu::Sbc, Acc::B, Mode::Immediate, 2, 2),
-        0x3 => place(Op::Addd, Mode::Immediate, 3, 4),
-        0x4 => alu8(Alu::And, Acc::B, Mode::Immediate, 2, 2),
-        0x5 => alu8(Alu::Bit, Acc::B, Mode::Immediate, 2, 2),
-        0x6 => alu8(Alu::Ld, Acc::B, Mode::Immediate, 2, 2),
-        0x8 => alu8(Alu::Eor, Acc::B, Mode::Immediate, 2, 2),
-        0x9 => alu8(Alu::Adc, Acc::B, Mode::Immediate, 2, 2),
-        0xA => alu8(Alu::Or, Acc::B, Mode::Immediate, 2, 2),
-        0xB => alu8(Alu::Add, Acc::B, Mode::Immediate, 2, 2),
-        0xC => load16(Name::D, Mode::Immediate, 3, 3),
-        0xE => load16(Name::U, Mode::Immediate, 3, 3),
-        _ => none(),
+        0x0 => alu8(Alu::Sub, Acc::B, Mode::Immediate8, 2, 2),
+        0x1 => alu8(Alu::Cmp, Acc::B, Mode::Immediate8, 2, 2),
+        0x2 => alu8(Alu::Sbc, Acc::B, Mode::Immediate8, 2, 2),
+        0x3 => registers(RegisterOp::Addd, Mode::Immediate16, 3, 4),
+        0x4 => alu8(Alu::And, Acc::B, Mode::Immediate8, 2, 2),
+        0x5 => alu8(Alu::Bit, Acc::B, Mode::Immediate8, 2, 2),
+        0x6 => alu8(Alu::Ld, Acc::B, Mode::Immediate8, 2, 2),
+        0x8 => alu8(Alu::Eor, Acc::B, Mode::Immediate8, 2, 2),
+        0x9 => alu8(Alu::Adc, Acc::B, Mode::Immediate8, 2, 2),
+        0xA => alu8(Alu::Or, Acc::B, Mode::Immediate8, 2, 2),
+        0xB => alu8(Alu::Add, Acc::B, Mode::Immediate8, 2, 2),
+        0xC => load16(Word::D, Mode::Immediate16, 3, 3),
+        0xE => load16(Word::U, Mode::Immediate16, 3, 3),
+        _ => Place::None,
     }
 }
 
 // B, D and U, direct.
-fn row_d(low: u8) -> Entry
+fn row_d(low: u8) -> Place
     requires { ⌜ low < 16 ⌝ }
     ensures { λ r. ⌜ r ≡ entryOf Plain (0xD0 + low) ⌝ }
 {
@@ -330,24 +333,24 @@ fn row_d(low: u8) -> Entry
         0x0 => alu8(Alu::Sub, Acc::B, Mode::Direct, 2, 4),
         0x1 => alu8(Alu::Cmp, Acc::B, Mode::Direct, 2, 4),
         0x2 => alu8(Alu::Sbc, Acc::B, Mode::Direct, 2, 4),
-        0x3 => place(Op::Addd, Mode::Direct, 2, 6),
+        0x3 => registers(RegisterOp::Addd, Mode::Direct, 2, 6),
         0x4 => alu8(Alu::And, Acc::B, Mode::Direct, 2, 4),
         0x5 => alu8(Alu::Bit, Acc::B, Mode::Direct, 2, 4),
         0x6 => alu8(Alu::Ld, Acc::B, Mode::Direct, 2, 4),
-        0x7 => place(Op::Store8(Acc::B), Mode::Direct, 2, 4),
+        0x7 => memory(MemoryOp::Store8(Acc::B), Mode::Direct, 2, 4),
         0x8 => alu8(Alu::Eor, Acc::B, Mode::Direct, 2, 4),
         0x9 => alu8(Alu::Adc, Acc::B, Mode::Direct, 2, 4),
         0xA => alu8(Alu::Or, Acc::B, Mode::Direct, 2, 4),
         0xB => alu8(Alu::Add, Acc::B, Mode::Direct, 2, 4),
-        0xC => load16(Name::D, Mode::Direct, 2, 5),
-        0xD => store16(Name::D, Mode::Direct, 2, 5),
-        0xE => load16(Name::U, Mode::Direct, 2, 5),
-        _ => store16(Name::U, Mode::Direct, 2, 5),
+        0xC => load16(Word::D, Mode::Direct, 2, 5),
+        0xD => store16(Word::D, Mode::Direct, 2, 5),
+        0xE => load16(Word::U, Mode::Direct, 2, 5),
+        _ => store16(Word::U, Mode::Direct, 2, 5),
     }
 }
 
 // B, D and U, indexed.
-fn row_e(low: u8) -> Entry
+fn row_e(low: u8) -> Place
     requires { ⌜ low < 16 ⌝ }
     ensures { λ r. ⌜ r ≡ entryOf Plain (0xE0 + low) ⌝ }
 {
@@ -355,24 +358,24 @@ fn row_e(low: u8) -> Entry
         0x0 => alu8(Alu::Sub, Acc::B, Mode::Indexed, 2, 4),
         0x1 => alu8(Alu::Cmp, Acc::B, Mode::Indexed, 2, 4),
         0x2 => alu8(Alu::Sbc, Acc::B, Mode::Indexed, 2, 4),
-        0x3 => place(Op::Addd, Mode::Indexed, 2, 6),
+        0x3 => registers(RegisterOp::Addd, Mode::Indexed, 2, 6),
         0x4 => alu8(Alu::And, Acc::B, Mode::Indexed, 2, 4),
         0x5 => alu8(Alu::Bit, Acc::B, Mode::Indexed, 2, 4),
         0x6 => alu8(Alu::Ld, Acc::B, Mode::Indexed, 2, 4),
-        0x7 => place(Op::Store8(Acc::B), Mode::Indexed, 2, 4),
+        0x7 => memory(MemoryOp::Store8(Acc::B), Mode::Indexed, 2, 4),
         0x8 => alu8(Alu::Eor, Acc::B, Mode::Indexed, 2, 4),
         0x9 => alu8(Alu::Adc, Acc::B, Mode::Indexed, 2, 4),
         0xA => alu8(Alu::Or, Acc::B, Mode::Indexed, 2, 4),
         0xB => alu8(Alu::Add, Acc::B, Mode::Indexed, 2, 4),
-        0xC => load16(Name::D, Mode::Indexed, 2, 5),
-        0xD => store16(Name::D, Mode::Indexed, 2, 5),
-        0xE => load16(Name::U, Mode::Indexed, 2, 5),
-        _ => store16(Name::U, Mode::Indexed, 2, 5),
+        0xC => load16(Word::D, Mode::Indexed, 2, 5),
+        0xD => store16(Word::D, Mode::Indexed, 2, 5),
+        0xE => load16(Word::U, Mode::Indexed, 2, 5),
+        _ => store16(Word::U, Mode::Indexed, 2, 5),
     }
 }
 
 // B, D and U, extended.
-fn row_f(low: u8) -> Entry
+fn row_f(low: u8) -> Place
     requires { ⌜ low < 16 ⌝ }
     ensures { λ r. ⌜ r ≡ entryOf Plain (0xF0 + low) ⌝ }
 {
@@ -380,23 +383,23 @@ fn row_f(low: u8) -> Entry
         0x0 => alu8(Alu::Sub, Acc::B, Mode::Extended, 3, 5),
         0x1 => alu8(Alu::Cmp, Acc::B, Mode::Extended, 3, 5),
         0x2 => alu8(Alu::Sbc, Acc::B, Mode::Extended, 3, 5),
-        0x3 => place(Op::Addd, Mode::Extended, 3, 7),
+        0x3 => registers(RegisterOp::Addd, Mode::Extended, 3, 7),
         0x4 => alu8(Alu::And, Acc::B, Mode::Extended, 3, 5),
         0x5 => alu8(Alu::Bit, Acc::B, Mode::Extended, 3, 5),
         0x6 => alu8(Alu::Ld, Acc::B, Mode::Extended, 3, 5),
-        0x7 => place(Op::Store8(Acc::B), Mode::Extended, 3, 5),
+        0x7 => memory(MemoryOp::Store8(Acc::B), Mode::Extended, 3, 5),
         0x8 => alu8(Alu::Eor, Acc::B, Mode::Extended, 3, 5),
         0x9 => alu8(Alu::Adc, Acc::B, Mode::Extended, 3, 5),
         0xA => alu8(Alu::Or, Acc::B, Mode::Extended, 3, 5),
         0xB => alu8(Alu::Add, Acc::B, Mode::Extended, 3, 5),
-        0xC => load16(Name::D, Mode::Extended, 3, 6),
-        0xD => store16(Name::D, Mode::Extended, 3, 6),
-        0xE => load16(Name::U, Mode::Extended, 3, 6),
-        _ => store16(Name::U, Mode::Extended, 3, 6),
+        0xC => load16(Word::D, Mode::Extended, 3, 6),
+        0xD => store16(Word::D, Mode::Extended, 3, 6),
+        0xE => load16(Word::U, Mode::Extended, 3, 6),
+        _ => store16(Word::U, Mode::Extended, 3, 6),
     }
 }
 
-pub fn entry_at(code: u8) -> Entry
+pub fn entry_at(code: u8) -> Place
     ensures { λ r. ⌜ r ≡ entryOf Plain code ⌝ }
 {
     let low = code % 16;
