@@ -5,6 +5,7 @@ use Rattle.answers.proofs.Determined.{Determines}
 use Rattle.machine.proofs.Effect
 use Rattle.machine.proofs.Machine
 use Rattle.machine.proofs.Settings
+use Rattle.machine.proofs.record
 
 pub fresh : Determines 0 Machine.fresh.Kinds.ps Machine.fresh.Kinds.r Machine.fresh.Reads.Post
 fresh κs a x y ws vs p q = (p ∙ sym q, refl)
@@ -20,3 +21,9 @@ stores κs a x y ws vs p q = (p ∙ sym q, refl)
 
 pub refuses : Determines 0 Effect.refuses.Kinds.ps Effect.refuses.Kinds.r Effect.refuses.Reads.Post
 refuses κs a x y ws vs p q = (p ∙ sym q, refl)
+
+pub header-of : Determines 0 record.header_of.Kinds.ps record.header_of.Kinds.r record.header_of.Reads.Post
+header-of κs a x y ws vs p q = (p ∙ sym q, refl)
+
+pub machine-of : Determines 1 record.machine_of.Kinds.ps record.machine_of.Kinds.r record.machine_of.Reads.Post
+machine-of κs a x y ws vs p q = (p ∙ sym q, refl)

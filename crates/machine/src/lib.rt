@@ -1,10 +1,16 @@
 // The machine: registers, wait state and counters; the settings given with each call; what an instruction does to it.
+mod record;
+
 ghost use mathlib.Core.Path.{_≡_};
 ghost use Rattle.machine.specs.Machine.{fresh, settingsOf};
 ghost use Rattle.machine.specs.Effect.{changes, stores, refuses};
 use answers::Answer;
 use answers::Refusal;
 use memory::Writes;
+pub use record::HEADER;
+pub use record::WAIT;
+pub use record::header_of;
+pub use record::machine_of;
 use registers::Flags;
 use registers::Set;
 
