@@ -16,10 +16,12 @@ use Rattle.answers.specs.declared.Refusal.{Refusal}
 use Rattle.answers.specs.declared.Refusal.the-variants.{MemoryLength, JournalFull, NoRecord, JournalLength}
 use Rattle.memory.specs.declared.Write.{Write}
 use Rattle.memory.specs.declared.Writes.{Writes}
-use Rattle.step.specs.declared.Found.{Found}
-use Rattle.step.specs.declared.Machine.{Machine}
-use Rattle.journal.specs.Record.{encode, machineOf, waitAt, countOf, entriesOf, read}
-use Rattle.journal.specs.Calls.{State, ending, Leaves, need, unless, admitted, callAnswer, savedFor, recorded, concluded, called, recordAt, withRecord, newestOf, newestIn, undoAnswer, putBack, restored, undone}
+use Rattle.calls.specs.declared.Plan.{Plan}
+use Rattle.machine.specs.declared.Machine.{Machine}
+use Rattle.machine.specs.Record.{machineOf}
+use Rattle.journal.specs.Record.{encode, waitAt, countOf, entriesOf, read}
+use Rattle.journal.specs.Recorded.{State, ending, Leaves, need, unless, admitted, callAnswer, savedFor, recorded, concluded, called, recordAt, withRecord}
+use Rattle.journal.specs.Undo.{newestOf, newestIn, undoAnswer, putBack, restored, undone}
 use Rattle.journal.specs.declared.Outcome.{Outcome}
 
 -- ---- before a recorded call
@@ -78,14 +80,14 @@ pub refused-leaves : (a : Answer) (s new : State) (ds : List Write) (x : Refusal
 refused-leaves a s new ds x r e p = rw e (record { result = p; memory-is = refl; journal-is = refl })
 
 -- the record, the writes and the count
-pub recorded-leaves : (top : ℕ) (f : Found) (s : State) (d : Writes) (mem j : List ℕ) → f .answer ≡ Done → d ≡ writesOf (reported top (listed (f .writes)))
+pub recorded-leaves : (top : ℕ) (f : Plan) (s : State) (d : Writes) (mem j : List ℕ) → f .answer ≡ Done → d ≡ writesOf (reported top (listed (f .writes)))
     → mem ≡ stored top (listed (f .writes)) (s .memory)
     → j ≡ withRecord (s .twin .used) (encode (s .twin .machine) (savedFor top (listed (f .writes)) (s .memory))) (s .journal)
     → Leaves (record { devices = d; twin = record { machine = f .machine; used = s .twin .used + 1 }; answer = f .answer }) mem j (concluded (f .answer) top f s)
 unfolding recorded
 recorded-leaves top f s d mem j e p q t = rw e (record { result = rw p; memory-is = q; journal-is = t })
 
-module _ (early : Answer) (top : ℕ) (f : Found) (s : State) where
+module _ (early : Answer) (top : ℕ) (f : Plan) (s : State) where
   pub called-refused : (x : Refusal) (r : Outcome) → admitted (length (s .memory)) (length (s .journal)) (s .twin .used) early ≡ Refused x
       → r ≡ record { devices = writesOf []; twin = s .twin; answer = Refused x } → Leaves r (s .memory) (s .journal) (called early top f s)
   unfolding called

@@ -12,9 +12,10 @@ use Rattle.memory.specs.Map.{landingOf}
 use Rattle.memory.specs.declared.Landing.{Landing}
 use Rattle.memory.specs.declared.Landing.the-variants.{Stored, Device, Ignored}
 use Rattle.memory.specs.declared.Write.{Write}
-use Rattle.step.specs.declared.Machine.{Machine}
-use Rattle.journal.specs.Record.{Saved, bytes, front, header, entries, encode}
-use Rattle.journal.specs.Calls.{savedAt, savedFor}
+use Rattle.machine.specs.declared.Machine.{Machine}
+use Rattle.machine.specs.Record.{bytes, front, header}
+use Rattle.journal.specs.Record.{Saved, entries, encode}
+use Rattle.journal.specs.Recorded.{savedAt, savedFor}
 
 -- ---- parts
 

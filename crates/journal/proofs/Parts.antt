@@ -9,9 +9,10 @@ use native.Mathlib.Omega.{arith}
 use lib.ListN.{length, getD, take, drop, set, length-append, length-drop}
 use lib.Seq.{take-suc, getD-drop, drop-drop}
 use lib.Dec.{lit<}
-use Rattle.evaluate.specs.declared.Wait.the-variants.{Sync}
-use Rattle.journal.specs.Record.{number, read, waitOf}
-use Rattle.journal.specs.Calls.{putBack}
+use Rattle.machine.specs.declared.Wait.the-variants.{Sync}
+use Rattle.machine.specs.Record.{number, waitOf}
+use Rattle.journal.specs.Record.{read}
+use Rattle.journal.specs.Undo.{putBack}
 
 number-snoc : (l : List ℕ) (b : ℕ) → number (l ++ (b ∷ [])) ≡ number l * 256 + b
 unfolding number

@@ -8,11 +8,12 @@ use native.Mathlib.Omega.{arith}
 use lib.Arith.{mod-mul}
 use lib.Dec.{lit<, lit≤}
 use lib.ListN.{length, replicate, length-append, length-replicate}
-use Rattle.evaluate.specs.declared.Wait.{Wait}
-use Rattle.evaluate.specs.declared.Wait.the-variants.{Running, Cwai, Sync}
-use Rattle.step.specs.declared.Machine.{Machine}
-use Rattle.step.specs.Laws.{MachineFits}
-use Rattle.journal.specs.Record.{Saved, bytes, number, front, header, entries, encode, waitByte, waitOf, waitAt, machineOf, countOf, read, entriesOf}
+use Rattle.machine.specs.declared.Wait.{Wait}
+use Rattle.machine.specs.declared.Wait.the-variants.{Running, Cwai, Sync}
+use Rattle.machine.specs.declared.Machine.{Machine}
+use Rattle.machine.specs.Machine.{MachineFits}
+use Rattle.machine.specs.Record.{bytes, number, front, header, waitByte, waitOf, machineOf}
+use Rattle.journal.specs.Record.{Saved, entries, encode, waitAt, countOf, read, entriesOf}
 use Rattle.journal.specs.Sequence.{All}
 use Rattle.journal.proofs.Laying.{length-entries}
 

@@ -18,15 +18,19 @@ use Rattle.answers.specs.declared.Refusal.the-variants.{MemoryLength, NoRecord}
 use Rattle.memory.specs.declared.Write.{Write}
 use Rattle.memory.proofs.Fits.{bytes-set, bytes-stored}
 use Rattle.memory.proofs.Folds.{length-stored}
-use Rattle.step.specs.Laws.{MachineFits, FoundFits}
-use Rattle.step.specs.Step.{foundOf}
-use Rattle.step.specs.declared.Found.{Found}
-use Rattle.step.specs.declared.Machine.{Machine}
+use Rattle.machine.specs.Machine.{MachineFits}
+use Rattle.calls.specs.Plan.{PlanFits}
+use Rattle.calls.specs.Step.{stepPlan}
+use Rattle.calls.specs.declared.Plan.{Plan}
+use Rattle.machine.specs.declared.Machine.{Machine}
 use Rattle.step.proofs.Laws.{twelve-writes, step-fits}
-use Rattle.interrupts.specs.Interrupts.{interruptFound, resetFound}
+use Rattle.calls.specs.Interrupt.{interruptPlan}
+use Rattle.calls.specs.Reset.{resetPlan}
 use Rattle.interrupts.proofs.Laws.{interrupt-twelve, reset-twelve, interrupt-fits, reset-fits}
-use Rattle.journal.specs.Record.{encode, machineOf, waitAt, countOf, entriesOf}
-use Rattle.journal.specs.Calls.{State, ending, need, recordAt, withRecord, savedFor, admitted, callAnswer, recorded, concluded, called, whileWaiting, newestIn, undoAnswer, putBack, restored, undone}
+use Rattle.machine.specs.Record.{machineOf}
+use Rattle.journal.specs.Record.{encode, waitAt, countOf, entriesOf}
+use Rattle.journal.specs.Recorded.{State, ending, need, recordAt, withRecord, savedFor, admitted, callAnswer, recorded, concluded, called, whileWaiting}
+use Rattle.journal.specs.Undo.{newestIn, undoAnswer, putBack, restored, undone}
 use Rattle.journal.specs.Sequence.{Call, step, interrupt, reset, All, Window, Event, forward, back, host, Legal, Snap, World, push, pop, hostWrites, call, next, run, start, BringsBack, Undoes, Unchanged, Demand3}
 use Rattle.journal.proofs.Answers.{unless-done, admitted-done}
 use Rattle.journal.proofs.Laying.{saved-few}
@@ -159,13 +163,13 @@ undoes s (t ∷ ts) v = record {
 -- ---- a forward call
 
 -- what an accepted call has shown
-record Taken (s : State) (f : Found) : Type 0 where
+record Taken (s : State) (f : Plan) : Type 0 where
   size : length (s .memory) ≡ 65536
   space : s .twin .used * 68 + 68 ≤ length (s .journal)
   few : length (listed (f .writes)) ≤ 12
-  lawful : FoundFits f
+  lawful : PlanFits f
 
-recorded-inv : (top : ℕ) (s : State) (past : List Snap) (f : Found) → Taken s f → Inv s past → Inv (recorded top f s) (push Done s past)
+recorded-inv : (top : ℕ) (s : State) (past : List Snap) (f : Plan) → Taken s f → Inv s past → Inv (recorded top f s) (push Done s past)
 unfolding recorded
 recorded-inv top s past f t v =
     record {
@@ -202,7 +206,7 @@ recorded-inv top s past f t v =
     after : List ℕ
     after = withRecord (s .twin .used) entry (s .journal)
 
-call-inv : (top : ℕ) (a : Answer) (s : State) (past : List Snap) (f : Found) → (a ≡ Done → Taken s f) → Inv s past
+call-inv : (top : ℕ) (a : Answer) (s : State) (past : List Snap) (f : Plan) → (a ≡ Done → Taken s f) → Inv s past
     → Inv (concluded a top f s .state) (push (concluded a top f s .answer) s past)
 call-inv top Done s past f t v = recorded-inv top s past f (t refl) v
 call-inv top (Refused x) s past f t v = v
@@ -218,10 +222,10 @@ topOf (step t) = t .«ram_top»
 topOf (interrupt t i) = t .«ram_top»
 topOf (reset t) = t .«ram_top»
 
-abbrev foundBy : Call → Machine → List ℕ → Found
-foundBy (step t) m mem = foundOf mem m t
-foundBy (interrupt t i) m mem = interruptFound mem m t i
-foundBy (reset t) m mem = resetFound mem m
+abbrev foundBy : Call → Machine → List ℕ → Plan
+foundBy (step t) m mem = stepPlan mem m t
+foundBy (interrupt t i) m mem = interruptPlan mem m t i
+foundBy (reset t) m mem = resetPlan mem m
 
 call-is : (c : Call) (s : State) → call c s ≡ called (earlyOf c (s .twin .machine)) (topOf c) (foundBy c (s .twin .machine) (s .memory)) s
 call-is (step t) s = refl
@@ -233,7 +237,7 @@ found-few (step t) m mem = twelve-writes mem m t
 found-few (interrupt t i) m mem = interrupt-twelve mem m t i
 found-few (reset t) m mem = reset-twelve mem m
 
-found-fits : (c : Call) (m : Machine) (mem : List ℕ) → MachineFits m → Bytes mem → FoundFits (foundBy c m mem)
+found-fits : (c : Call) (m : Machine) (mem : List ℕ) → MachineFits m → Bytes mem → PlanFits (foundBy c m mem)
 found-fits (step t) m mem h b = step-fits mem m t h b
 found-fits (interrupt t i) m mem h b = interrupt-fits mem m t i h b
 found-fits (reset t) m mem h b = reset-fits mem m h b

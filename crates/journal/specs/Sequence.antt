@@ -16,11 +16,13 @@ use Rattle.memory.specs.Writes.{writesOf}
 use Rattle.answers.specs.declared.Answer.{Answer}
 use Rattle.answers.specs.declared.Answer.the-variants.{Done, Refused}
 use Rattle.answers.specs.declared.Refusal.the-variants.{MemoryLength, NoRecord}
-use Rattle.step.specs.Laws.{MachineFits}
-use Rattle.step.specs.declared.Machine.{Machine}
-use Rattle.step.specs.declared.Settings.{Settings}
-use Rattle.interrupts.specs.declared.InterruptType.{InterruptType}
-use Rattle.journal.specs.Calls.{State, Ended, need, stepped, interrupted, wasReset, undone}
+use Rattle.machine.specs.Machine.{MachineFits}
+use Rattle.machine.specs.declared.Machine.{Machine}
+use Rattle.machine.specs.declared.Settings.{Settings}
+use Rattle.calls.specs.declared.InterruptType.{InterruptType}
+use Rattle.journal.specs.Record.{recordLength}
+use Rattle.journal.specs.Recorded.{State, Ended, need, stepped, interrupted, wasReset}
+use Rattle.journal.specs.Undo.{undone}
 
 -- ---- sequences
 
@@ -125,7 +127,7 @@ pub record Undoes (w : World) : Type 0 where
   pub brings : BringsBack (w .now) (w .past) (undone (w .now))
   -- the journal has one record for each such call, and room for them: 12 is never given
   pub count : w .now .twin .used ≡ length (w .past)
-  pub room : w .now .twin .used * 68 ≤ length (w .now .journal)
+  pub room : w .now .twin .used * recordLength ≤ length (w .now .journal)
 
 -- A refused call changes nothing and reports nothing
 pub record Unchanged (s : State) (o : Ended) : Type 0 where

@@ -12,17 +12,17 @@ returns : tie.Need-returns
 returns c =
     let m = c .before .before .before .before .before .before .before .before .before .before .before .before .before .args .machine in
     let f : Fits (m .regs) =
-        record {
-          x = omega arith;
-          y = omega arith;
-          u = omega arith;
-          s = omega arith;
-          pc = omega arith;
-          a = omega arith;
-          b = omega arith;
-          dp = omega arith;
-          cc = omega (arith, c .before .before .before .before .before .before .before .before .before .before .get-as-byte .ensures);
-        } in
+    record {
+      x = omega arith;
+      y = omega arith;
+      u = omega arith;
+      s = omega arith;
+      pc = omega arith;
+      a = omega arith;
+      b = omega arith;
+      dp = omega arith;
+      cc = omega (arith, c .before .before .before .before .before .before .before .before .before .before .get-as-byte .ensures);
+    } in
     rw (c .before .before .before .before .before .before .before .before .before .before .before .before .wait-byte .ensures, c .before .before .before .before .before .before .before .before .before .before .get-as-byte .ensures) (sym (spelled m f))
 
 pub header-of-spec : {M : Type 1} → statement M

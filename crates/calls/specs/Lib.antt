@@ -1,0 +1,4 @@
+pub mod Plan
+pub mod Step
+pub mod Interrupt
+pub mod Reset

@@ -1,0 +1,39 @@
+// Reset. Neither a mask nor the byte that the vector leads to is looked at.
+ghost use mathlib.Core.Path.{_≡_};
+ghost use Rattle.calls.specs.Plan.{carriedOut, memoryWith};
+ghost use Rattle.calls.specs.Reset.{resetPlan};
+use super::Plan;
+use super::Report;
+use super::plan::accept;
+use super::plan::carry_out;
+use super::plan::refused;
+use super::plan::with_registers;
+use answers::Refusal;
+use machine::Machine;
+use machine::Settings;
+use machine::Wait;
+use memory::WordRead;
+use registers::Set;
+use vectors::Vector;
+
+pub fn plan_reset(mem: &[u8], machine: Machine) -> Plan
+    ensures { λ r. ⌜ r ≡ resetPlan (now (mem .entry)) machine ⌝ }
+{
+    if mem.len() != 65536 {
+        return refused(machine, Refusal::MemoryLength);
+    }
+    match memory::read_u16(mem, Vector::Reset.address()) {
+        WordRead::Word(pc) => {
+            let regs = operations::jump(Set::reset(), pc);
+            accept(with_registers(machine, regs, Wait::Running))
+        }
+        WordRead::Refused(refusal) => refused(machine, refusal),
+    }
+}
+
+pub fn reset(mem: &mut [u8], machine: Machine, settings: Settings) -> Report
+    ensures { λ r. ⌜ (r ≡ carriedOut settings (resetPlan (now (mem .entry)) machine)) × (now (mem .exit) ≡ memoryWith settings (resetPlan (now (mem .entry)) machine) (now (mem .entry))) ⌝ }
+{
+    let plan = plan_reset(mem, machine);
+    carry_out(mem, settings, plan)
+}
