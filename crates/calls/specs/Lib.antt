@@ -1,4 +1,4 @@
-pub mod Plan
-pub mod Step
-pub mod Interrupt
-pub mod Reset
+pub mod Plans
+pub mod Steps
+pub mod Interrupts
+pub mod Resets

@@ -21,7 +21,7 @@ use Rattle.machine.specs.declared.Machine.{Machine}
 use Rattle.machine.specs.Record.{machineOf}
 use Rattle.journal.specs.Record.{encode, waitAt, countOf, entriesOf, read}
 use Rattle.journal.specs.Recorded.{State, ending, Leaves, need, unless, admitted, callAnswer, savedFor, recorded, concluded, called, recordAt, withRecord}
-use Rattle.journal.specs.Undo.{newestOf, newestIn, undoAnswer, putBack, restored, undone}
+use Rattle.journal.specs.Undos.{newestOf, newestIn, undoAnswer, putBack, restored, undone}
 use Rattle.journal.specs.declared.Outcome.{Outcome}
 
 -- ---- before a recorded call

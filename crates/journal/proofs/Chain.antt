@@ -10,7 +10,7 @@ use Rattle.memory.specs.Fits.{Bytes}
 use Rattle.machine.specs.Machine.{MachineFits}
 use Rattle.journal.specs.Record.{Saved, encode}
 use Rattle.journal.specs.Recorded.{State, recordAt, withRecord}
-use Rattle.journal.specs.Undo.{putBack}
+use Rattle.journal.specs.Undos.{putBack}
 use Rattle.journal.specs.Sequence.{Same, Snap, All}
 use Rattle.journal.proofs.Reading.{SavedFits}
 use Rattle.journal.proofs.Stores.{same-trans, same-putBack}

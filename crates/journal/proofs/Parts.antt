@@ -12,7 +12,7 @@ use lib.Dec.{lit<}
 use Rattle.machine.specs.declared.Wait.the-variants.{Sync}
 use Rattle.machine.specs.Record.{number, waitOf}
 use Rattle.journal.specs.Record.{read}
-use Rattle.journal.specs.Undo.{putBack}
+use Rattle.journal.specs.Undos.{putBack}
 
 number-snoc : (l : List ℕ) (b : ℕ) → number (l ++ (b ∷ [])) ≡ number l * 256 + b
 unfolding number

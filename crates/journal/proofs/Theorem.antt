@@ -19,18 +19,18 @@ use Rattle.memory.specs.declared.Write.{Write}
 use Rattle.memory.proofs.Fits.{bytes-set, bytes-stored}
 use Rattle.memory.proofs.Folds.{length-stored}
 use Rattle.machine.specs.Machine.{MachineFits}
-use Rattle.calls.specs.Plan.{PlanFits}
-use Rattle.calls.specs.Step.{stepPlan}
+use Rattle.calls.specs.Plans.{PlanFits}
+use Rattle.calls.specs.Steps.{stepPlan}
 use Rattle.calls.specs.declared.Plan.{Plan}
 use Rattle.machine.specs.declared.Machine.{Machine}
 use Rattle.step.proofs.Laws.{twelve-writes, step-fits}
-use Rattle.calls.specs.Interrupt.{interruptPlan}
-use Rattle.calls.specs.Reset.{resetPlan}
+use Rattle.calls.specs.Interrupts.{interruptPlan}
+use Rattle.calls.specs.Resets.{resetPlan}
 use Rattle.interrupts.proofs.Laws.{interrupt-twelve, reset-twelve, interrupt-fits, reset-fits}
 use Rattle.machine.specs.Record.{machineOf}
 use Rattle.journal.specs.Record.{encode, waitAt, countOf, entriesOf}
 use Rattle.journal.specs.Recorded.{State, ending, need, recordAt, withRecord, savedFor, admitted, callAnswer, recorded, concluded, called, whileWaiting}
-use Rattle.journal.specs.Undo.{newestIn, undoAnswer, putBack, restored, undone}
+use Rattle.journal.specs.Undos.{newestIn, undoAnswer, putBack, restored, undone}
 use Rattle.journal.specs.Sequence.{Call, step, interrupt, reset, All, Window, Event, forward, back, host, Legal, Snap, World, push, pop, hostWrites, call, next, run, start, BringsBack, Undoes, Unchanged, Demand3}
 use Rattle.journal.proofs.Answers.{unless-done, admitted-done}
 use Rattle.journal.proofs.Laying.{saved-few}

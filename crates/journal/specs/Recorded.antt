@@ -19,11 +19,11 @@ use Rattle.memory.specs.declared.Write.{Write}
 use Rattle.memory.specs.declared.Writes.{Writes}
 use Rattle.machine.specs.declared.Wait.{Wait}
 use Rattle.machine.specs.declared.Wait.the-variants.{Running, Cwai, Sync}
-use Rattle.calls.specs.Step.{stepPlan}
+use Rattle.calls.specs.Steps.{stepPlan}
 use Rattle.calls.specs.declared.Plan.{Plan}
 use Rattle.machine.specs.declared.Settings.{Settings}
-use Rattle.calls.specs.Interrupt.{interruptPlan}
-use Rattle.calls.specs.Reset.{resetPlan}
+use Rattle.calls.specs.Interrupts.{interruptPlan}
+use Rattle.calls.specs.Resets.{resetPlan}
 use Rattle.calls.specs.declared.InterruptType.{InterruptType}
 use Rattle.machine.specs.Machine.{fresh}
 use Rattle.journal.specs.Record.{Saved, encode, recordLength}

@@ -22,7 +22,7 @@ use Rattle.machine.specs.declared.Settings.{Settings}
 use Rattle.calls.specs.declared.InterruptType.{InterruptType}
 use Rattle.journal.specs.Record.{recordLength}
 use Rattle.journal.specs.Recorded.{State, Ended, need, stepped, interrupted, wasReset}
-use Rattle.journal.specs.Undo.{undone}
+use Rattle.journal.specs.Undos.{undone}
 
 -- ---- sequences
 

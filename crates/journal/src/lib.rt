@@ -1,6 +1,6 @@
 // The journal: recorded calls, undo, and the newest record. A record holds the machine and the bytes of memory from before a call.
 mod recorded;
-mod undo;
+mod undos;
 
 ghost use mathlib.Core.Path.{_≡_};
 ghost use Rattle.journal.specs.Recorded.{freshTwin};
@@ -11,8 +11,8 @@ use memory::Writes;
 pub use recorded::interrupt;
 pub use recorded::reset;
 pub use recorded::step;
-pub use undo::newest;
-pub use undo::undo;
+pub use undos::newest;
+pub use undos::undo;
 
 // A record: the machine, the count of its entries, and room for twelve entries of a place and the byte that it had.
 const COUNT: usize = HEADER;

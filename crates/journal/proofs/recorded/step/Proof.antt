@@ -1,7 +1,7 @@
 -- `step` meets its contract.
 -- Assumes nothing.
 use mathlib.Core.Path.{sym, _∙_}
-use Rattle.calls.specs.Step.{stepPlan}
+use Rattle.calls.specs.Steps.{stepPlan}
 use Rattle.journal.specs.Recorded.{inHand, whileWaiting}
 use Rattle.journal.proofs.Answers.{admitted-done, called-refused, called-done}
 use borrow.Author.Needs.{needs}

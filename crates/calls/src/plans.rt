@@ -1,6 +1,6 @@
 // A call's plan, and how it is carried out. Not public: a plan is carried out where it was made.
 ghost use mathlib.Core.Path.{_≡_};
-ghost use Rattle.calls.specs.Plan.{refusedWith, accepted, withRegisters, carriedOut, memoryWith};
+ghost use Rattle.calls.specs.Plans.{refusedWith, accepted, withRegisters, carriedOut, memoryWith};
 use super::Plan;
 use super::Report;
 use answers::Answer;

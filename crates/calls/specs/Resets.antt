@@ -16,7 +16,7 @@ use Rattle.machine.specs.declared.Wait.the-variants.{Running}
 use Rattle.operations.specs.Branches.{jumped}
 use Rattle.vectors.specs.Vectors.{addressOf}
 use Rattle.vectors.specs.declared.Vector.the-variants.{Reset}
-use Rattle.calls.specs.Plan.{refusedWith, accepted, withRegisters}
+use Rattle.calls.specs.Plans.{refusedWith, accepted, withRegisters}
 use Rattle.calls.specs.declared.Plan.{Plan}
 
 abbrev pub resetTo : Machine → WordRead → Plan

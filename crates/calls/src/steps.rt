@@ -1,12 +1,12 @@
 // One step: decode the instruction, find its address, evaluate it, store its writes.
 ghost use mathlib.Core.Path.{_≡_};
 ghost use Rattle.machine.specs.Effect.{changes};
-ghost use Rattle.calls.specs.Plan.{carriedOut, memoryWith};
-ghost use Rattle.calls.specs.Step.{after, finished, decodedTo, operated, planned, stepPlan};
+ghost use Rattle.calls.specs.Plans.{carriedOut, memoryWith};
+ghost use Rattle.calls.specs.Steps.{after, finished, decodedTo, operated, planned, stepPlan};
 use super::Plan;
 use super::Report;
-use super::plan::carry_out;
-use super::plan::refused;
+use super::plans::carry_out;
+use super::plans::refused;
 use addressing::Resolved;
 use answers::Answer;
 use answers::Refusal;

@@ -6,10 +6,10 @@ use native.Mathlib.Nat.{sub-self}
 use native.Mathlib.Omega.{arith}
 use lib.ListN.{length, drop, length-set}
 use Rattle.journal.specs.Record.{read}
-use Rattle.journal.specs.Undo.{putBack}
+use Rattle.journal.specs.Undos.{putBack}
 use Rattle.journal.proofs.Parts.{put-more}
-use Rattle.journal.proofs.undo.put_back.Statement.{statement}
-use Rattle.journal.proofs.undo.put_back.Tie as tie
+use Rattle.journal.proofs.undos.put_back.Statement.{statement}
+use Rattle.journal.proofs.undos.put_back.Tie as tie
 
 abbrev Inv-loop : tie.InvT-loop
 Inv-loop mem₀ r n k₀ mem k = (k ≤ n) × ((length mem ≡ 65536) × (mem ≡ putBack mem₀ (read k (drop (32 + (n - k) * 3) r))))

@@ -22,10 +22,10 @@ use Rattle.addressing.specs.Address.{resolvedOf}
 use Rattle.addressing.specs.declared.Resolved.{Resolved}
 use Rattle.addressing.specs.declared.Resolved.the-variants.{At as Addressed, Refused as NoAddress}
 use Rattle.evaluate.specs.Evaluate.{evaluateOf}
-use Rattle.calls.specs.Plan.{refusedWith}
+use Rattle.calls.specs.Plans.{refusedWith}
 use Rattle.calls.specs.declared.Plan.{Plan}
-use Rattle.calls.specs.declared.step.Reached.{Reached}
-use Rattle.calls.specs.declared.step.Reached.the-variants.{At, Refused as NotReached}
+use Rattle.calls.specs.declared.steps.Reached.{Reached}
+use Rattle.calls.specs.declared.steps.Reached.the-variants.{At, Refused as NotReached}
 
 -- ---- what stands before the operation
 

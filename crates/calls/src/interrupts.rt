@@ -1,14 +1,14 @@
 // IRQ, FIRQ and NMI.
 ghost use mathlib.Core.Path.{_≡_};
-ghost use Rattle.calls.specs.Plan.{withRegisters, carriedOut, memoryWith};
-ghost use Rattle.calls.specs.Interrupt.{vectorOf, isMasked, taken, afterMasked, ofEffect, interruptPlan};
+ghost use Rattle.calls.specs.Plans.{withRegisters, carriedOut, memoryWith};
+ghost use Rattle.calls.specs.Interrupts.{vectorOf, isMasked, taken, afterMasked, ofEffect, interruptPlan};
 use super::InterruptType;
 use super::Plan;
 use super::Report;
-use super::plan::accept;
-use super::plan::carry_out;
-use super::plan::refused;
-use super::plan::with_registers;
+use super::plans::accept;
+use super::plans::carry_out;
+use super::plans::refused;
+use super::plans::with_registers;
 use answers::Answer;
 use answers::Refusal;
 use machine::Effect;

@@ -2,8 +2,8 @@
 -- Assumes nothing.
 use Rattle.journal.proofs.Answers.{none-used, beyond, whole}
 use borrow.Author.Needs.{needs}
-use Rattle.journal.proofs.undo.newest.Statement.{statement}
-use Rattle.journal.proofs.undo.newest.Tie as tie
+use Rattle.journal.proofs.undos.newest.Statement.{statement}
+use Rattle.journal.proofs.undos.newest.Tie as tie
 
 returns : tie.Need-returns
 returns c = none-used _ _ (c .before .if1 .taken)

@@ -21,7 +21,7 @@ use Rattle.machine.specs.declared.Wait.the-variants.{Running, Cwai, Sync}
 use Rattle.vectors.specs.Vectors.{served, servedStacked}
 use Rattle.vectors.specs.declared.Vector.{Vector}
 use Rattle.vectors.specs.declared.Vector.the-variants.{Irq as IRQ, Firq as FIRQ, Nmi as NMI}
-use Rattle.calls.specs.Plan.{refusedWith, accepted, withRegisters}
+use Rattle.calls.specs.Plans.{refusedWith, accepted, withRegisters}
 use Rattle.calls.specs.declared.InterruptType.{InterruptType}
 use Rattle.calls.specs.declared.InterruptType.the-variants.{Irq, Firq, Nmi}
 use Rattle.calls.specs.declared.Plan.{Plan}

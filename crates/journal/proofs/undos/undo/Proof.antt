@@ -4,8 +4,8 @@ use borrow.Author.Needs.{needs}
 use Rattle.journal.specs.Record.{waitAt, countOf}
 use Rattle.journal.specs.Recorded.{inHand}
 use Rattle.journal.proofs.Answers.{newest-part, undo-refused, undo-done, undo-1, undo-12, undo-11, undo-wait, undo-count, undo-0}
-use Rattle.journal.proofs.undo.undo.Statement.{statement}
-use Rattle.journal.proofs.undo.undo.Tie as tie
+use Rattle.journal.proofs.undos.undo.Statement.{statement}
+use Rattle.journal.proofs.undos.undo.Tie as tie
 
 returns : tie.Need-returns
 returns c =

@@ -4,7 +4,7 @@ ghost use Prim.Native.Nat.{_≤_};
 ghost use lib.ListN.{length, drop};
 ghost use Rattle.journal.specs.Record.{most, entriesAt, recordLength, read};
 ghost use Rattle.journal.specs.Recorded.{inHand, Leaves};
-ghost use Rattle.journal.specs.Undo.{newestOf, putBack, undone};
+ghost use Rattle.journal.specs.Undos.{newestOf, putBack, undone};
 use super::COUNT;
 use super::ENTRIES;
 use super::ENTRY;

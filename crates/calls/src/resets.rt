@@ -1,13 +1,13 @@
 // Reset. Neither a mask nor the byte that the vector leads to is looked at.
 ghost use mathlib.Core.Path.{_≡_};
-ghost use Rattle.calls.specs.Plan.{carriedOut, memoryWith};
-ghost use Rattle.calls.specs.Reset.{resetPlan};
+ghost use Rattle.calls.specs.Plans.{carriedOut, memoryWith};
+ghost use Rattle.calls.specs.Resets.{resetPlan};
 use super::Plan;
 use super::Report;
-use super::plan::accept;
-use super::plan::carry_out;
-use super::plan::refused;
-use super::plan::with_registers;
+use super::plans::accept;
+use super::plans::carry_out;
+use super::plans::refused;
+use super::plans::with_registers;
 use answers::Refusal;
 use machine::Machine;
 use machine::Settings;
