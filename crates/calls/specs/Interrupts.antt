@@ -21,10 +21,11 @@ use Rattle.machine.specs.declared.Wait.the-variants.{Running, Cwai, Sync}
 use Rattle.vectors.specs.Vectors.{served, servedStacked}
 use Rattle.vectors.specs.declared.Vector.{Vector}
 use Rattle.vectors.specs.declared.Vector.the-variants.{Irq as IRQ, Firq as FIRQ, Nmi as NMI}
-use Rattle.calls.specs.Plans.{refusedWith, accepted, withRegisters}
+use Rattle.calls.specs.Plans.{refusedWith, accepted, withRegisters, carriedOut, memoryWith}
 use Rattle.calls.specs.declared.InterruptType.{InterruptType}
 use Rattle.calls.specs.declared.InterruptType.the-variants.{Irq, Firq, Nmi}
 use Rattle.calls.specs.declared.Plan.{Plan}
+use Rattle.calls.specs.declared.Report.{Report}
 
 abbrev pub vectorOf : InterruptType → Vector
 vectorOf Irq = IRQ
@@ -63,3 +64,10 @@ interruptPlan mem m s i =
     (cond (isMasked i (m .regs .cc)) (accepted (withRegisters m (m .regs) (afterMasked (m .wait))))
     (takenBy m (taken (m .wait) mem s (m .regs) (vectorOf i))))
     (refusedWith m MemoryLength)
+
+-- the interrupt carried out
+abbrev pub interruptOf : List ℕ → Machine → Settings → InterruptType → Report
+interruptOf mem m s i = carriedOut s (interruptPlan mem m s i)
+
+abbrev pub memoryAfterInterrupt : List ℕ → Machine → Settings → InterruptType → List ℕ
+memoryAfterInterrupt mem m s i = memoryWith s (interruptPlan mem m s i) mem

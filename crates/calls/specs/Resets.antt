@@ -12,12 +12,14 @@ use Rattle.memory.specs.Map.{wordAt}
 use Rattle.memory.specs.declared.WordRead.{WordRead}
 use Rattle.memory.specs.declared.WordRead.the-variants.{Word, Refused}
 use Rattle.machine.specs.declared.Machine.{Machine}
+use Rattle.machine.specs.declared.Settings.{Settings}
 use Rattle.machine.specs.declared.Wait.the-variants.{Running}
 use Rattle.operations.specs.Branches.{jumped}
 use Rattle.vectors.specs.Vectors.{addressOf}
 use Rattle.vectors.specs.declared.Vector.the-variants.{Reset}
-use Rattle.calls.specs.Plans.{refusedWith, accepted, withRegisters}
+use Rattle.calls.specs.Plans.{refusedWith, accepted, withRegisters, carriedOut, memoryWith}
 use Rattle.calls.specs.declared.Plan.{Plan}
+use Rattle.calls.specs.declared.Report.{Report}
 
 abbrev pub resetTo : Machine → WordRead → Plan
 resetTo m (Word pc) = accepted (withRegisters m (jumped afterReset pc) Running)
@@ -25,3 +27,10 @@ resetTo m (Refused x) = refusedWith m x
 
 unfoldable pub resetPlan : List ℕ → Machine → Plan
 resetPlan mem m = cond (eqb (length mem) 65536) (resetTo m (wordAt mem (addressOf Reset))) (refusedWith m MemoryLength)
+
+-- the reset carried out
+abbrev pub resetOf : List ℕ → Machine → Settings → Report
+resetOf mem m s = carriedOut s (resetPlan mem m)
+
+abbrev pub memoryAfterReset : List ℕ → Machine → Settings → List ℕ
+memoryAfterReset mem m s = memoryWith s (resetPlan mem m) mem

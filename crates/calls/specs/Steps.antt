@@ -22,8 +22,9 @@ use Rattle.addressing.specs.Address.{resolvedOf}
 use Rattle.addressing.specs.declared.Resolved.{Resolved}
 use Rattle.addressing.specs.declared.Resolved.the-variants.{At as Addressed, Refused as NoAddress}
 use Rattle.evaluate.specs.Evaluate.{evaluateOf}
-use Rattle.calls.specs.Plans.{refusedWith}
+use Rattle.calls.specs.Plans.{refusedWith, carriedOut, memoryWith}
 use Rattle.calls.specs.declared.Plan.{Plan}
+use Rattle.calls.specs.declared.Report.{Report}
 use Rattle.calls.specs.declared.steps.Reached.{Reached}
 use Rattle.calls.specs.declared.steps.Reached.the-variants.{At, Refused as NotReached}
 
@@ -73,3 +74,10 @@ planned mem m s (NotReached x) = refusedWith m x
 
 unfoldable pub stepPlan : List ℕ → Machine → Settings → Plan
 stepPlan mem m s = planned mem m s (reached mem m)
+
+-- the step carried out: what it returns, and memory
+abbrev pub stepOf : List ℕ → Machine → Settings → Report
+stepOf mem m s = carriedOut s (stepPlan mem m s)
+
+abbrev pub memoryAfterStep : List ℕ → Machine → Settings → List ℕ
+memoryAfterStep mem m s = memoryWith s (stepPlan mem m s) mem

@@ -1,7 +1,7 @@
 // IRQ, FIRQ and NMI.
 ghost use mathlib.Core.Path.{_≡_};
-ghost use Rattle.calls.specs.Plans.{withRegisters, carriedOut, memoryWith};
-ghost use Rattle.calls.specs.Interrupts.{vectorOf, isMasked, taken, afterMasked, ofEffect, interruptPlan};
+ghost use Rattle.calls.specs.Plans.{withRegisters};
+ghost use Rattle.calls.specs.Interrupts.{vectorOf, isMasked, taken, afterMasked, ofEffect, interruptPlan, interruptOf, memoryAfterInterrupt};
 use super::InterruptType;
 use super::Plan;
 use super::Report;
@@ -104,7 +104,7 @@ pub fn interrupt(
     settings: Settings,
     which: InterruptType,
 ) -> Report
-    ensures { λ r. ⌜ (r ≡ carriedOut settings (interruptPlan (now (mem .entry)) machine settings which)) × (now (mem .exit) ≡ memoryWith settings (interruptPlan (now (mem .entry)) machine settings which) (now (mem .entry))) ⌝ }
+    ensures { λ r. ⌜ (r ≡ interruptOf (now (mem .entry)) machine settings which) × (now (mem .exit) ≡ memoryAfterInterrupt (now (mem .entry)) machine settings which) ⌝ }
 {
     let plan = plan_interrupt(mem, machine, settings, which);
     carry_out(mem, settings, plan)

@@ -1,7 +1,6 @@
 // Reset. Neither a mask nor the byte that the vector leads to is looked at.
 ghost use mathlib.Core.Path.{_≡_};
-ghost use Rattle.calls.specs.Plans.{carriedOut, memoryWith};
-ghost use Rattle.calls.specs.Resets.{resetPlan};
+ghost use Rattle.calls.specs.Resets.{resetPlan, resetOf, memoryAfterReset};
 use super::Plan;
 use super::Report;
 use super::plans::accept;
@@ -32,7 +31,7 @@ pub fn plan_reset(mem: &[u8], machine: Machine) -> Plan
 }
 
 pub fn reset(mem: &mut [u8], machine: Machine, settings: Settings) -> Report
-    ensures { λ r. ⌜ (r ≡ carriedOut settings (resetPlan (now (mem .entry)) machine)) × (now (mem .exit) ≡ memoryWith settings (resetPlan (now (mem .entry)) machine) (now (mem .entry))) ⌝ }
+    ensures { λ r. ⌜ (r ≡ resetOf (now (mem .entry)) machine settings) × (now (mem .exit) ≡ memoryAfterReset (now (mem .entry)) machine settings) ⌝ }
 {
     let plan = plan_reset(mem, machine);
     carry_out(mem, settings, plan)

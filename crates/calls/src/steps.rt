@@ -1,8 +1,7 @@
 // One step: decode the instruction, find its address, evaluate it, store its writes.
 ghost use mathlib.Core.Path.{_≡_};
 ghost use Rattle.machine.specs.Effect.{changes};
-ghost use Rattle.calls.specs.Plans.{carriedOut, memoryWith};
-ghost use Rattle.calls.specs.Steps.{after, finished, decodedTo, operated, planned, stepPlan};
+ghost use Rattle.calls.specs.Steps.{after, finished, decodedTo, operated, planned, stepPlan, stepOf, memoryAfterStep};
 use super::Plan;
 use super::Report;
 use super::plans::carry_out;
@@ -136,7 +135,7 @@ pub fn plan_step(mem: &[u8], machine: Machine, settings: Settings) -> Plan
 }
 
 pub fn step(mem: &mut [u8], machine: Machine, settings: Settings) -> Report
-    ensures { λ r. ⌜ (r ≡ carriedOut settings (stepPlan (now (mem .entry)) machine settings)) × (now (mem .exit) ≡ memoryWith settings (stepPlan (now (mem .entry)) machine settings) (now (mem .entry))) ⌝ }
+    ensures { λ r. ⌜ (r ≡ stepOf (now (mem .entry)) machine settings) × (now (mem .exit) ≡ memoryAfterStep (now (mem .entry)) machine settings) ⌝ }
 {
     let plan = plan_step(mem, machine, settings);
     carry_out(mem, settings, plan)

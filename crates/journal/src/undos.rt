@@ -52,10 +52,10 @@ pub fn undo(mem: &mut [u8], journal: &[u8], twin: Twin) -> Outcome
     if r[WAIT] > 2 {
         return refused(twin, Refusal::JournalLength);
     }
-    if r[COUNT] as usize > MOST {
+    let n = r[COUNT] as usize;
+    if n > MOST {
         return refused(twin, Refusal::JournalLength);
     }
-    let n = r[COUNT] as usize;
     put_back(mem, r, n);
     let machine = machine::machine_of(r);
     Outcome {

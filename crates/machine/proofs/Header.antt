@@ -55,6 +55,10 @@ number-bytes (suc n) x = rw (length-bytes n x, number-bytes n x, pow-succ') (sym
 number-back : (n x : ℕ) → x < 256 ^ n → number (bytes n x) ≡ x
 number-back n x h = number-bytes n x ∙ mod-eq-of-lt h
 
+-- two bytes, read back
+pub two-back : (x : ℕ) → x < 65536 → x / 256 % 256 * 256 + (x / 1 % 256 * 1 + 0) ≡ x
+two-back x h = omega arith
+
 -- one byte more
 pub number-more : (r : List ℕ) (at i : ℕ) → numberAt r at (i + 1) ≡ numberAt r at i * 256 + getD r (at + i) 0
 unfolding numberAt

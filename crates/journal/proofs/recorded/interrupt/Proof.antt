@@ -18,15 +18,15 @@ returns : tie.Need-returns
 returns c =
     let a = c .before .before .before .before .before .before .before .before .args in
     let s = inHand (a .mem .now) (a .journal .now) (a .twin) in
-    called-refused Done (a .settings .«ram_top») (interruptPlan (a .mem .now) (a .twin .machine) (a .settings) (a .which)) s _ (c .refused .result)
+    called-refused Done (a .settings) (interruptPlan (a .mem .now) (a .twin .machine) (a .settings) (a .which)) s _ (c .refused .result)
     (sym (c .before .before .before .before .admits .ensures) ∙ c .before .before .refusal .given .1) (c .refused .ensures)
 
 returns-2 : tie.Need-returns-2
 returns-2 c =
     let a = c .before .before .before .before .before .before .before .before .before .before .before .before .before .before .before .args in
     let s = inHand (a .mem .now) (a .journal .now) (a .twin) in
-    called-done Done (a .settings .«ram_top») (interruptPlan (a .mem .now) (a .twin .machine) (a .settings) (a .which)) s _ _ _
-    (sym (c .before .before .before .before .before .before .before .before .before .before .before .admits .ensures) ∙ c .before .before .before .before .before .before .before .before .before .enum-told .given .1) (rw (c .before .before .before .before .before .before .before .find .ensures) at (c .before .before .before .before .conclude .ensures))
+    called-done Done (a .settings) (interruptPlan (a .mem .now) (a .twin .machine) (a .settings) (a .which)) s _ _ _
+    (sym (c .before .before .before .before .before .before .before .before .before .before .before .admits .ensures) ∙ c .before .before .before .before .before .before .before .before .before .enum-told .given .1) (rw (c .before .before .before .before .before .before .before .plan-interrupt .ensures) at (c .before .before .before .before .conclude .ensures))
 
 pub interrupt-spec : {M : Type 1} → statement M
 interrupt-spec =

@@ -4,7 +4,7 @@ use mathlib.Core.Path.{refl, sym, _∙_}
 use native.Mathlib.Nat.{add-zero}
 use native.Mathlib.Omega.{arith}
 use Rattle.journal.specs.Record.{entries}
-use Rattle.journal.proofs.Laying.{two}
+use Rattle.machine.proofs.Header.{two}
 use borrow.Author.Needs.{needs}
 use Rattle.journal.proofs.recorded.save.Statement.{statement}
 use Rattle.journal.proofs.recorded.save.Tie as tie

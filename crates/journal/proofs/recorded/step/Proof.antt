@@ -18,16 +18,16 @@ returns : tie.Need-returns
 returns c =
     let a = c .before .before .before .before .before .before .before .before .before .args in
     let s = inHand (a .mem .now) (a .journal .now) (a .twin) in
-    called-refused (whileWaiting (a .twin .machine .wait)) (a .settings .«ram_top») (stepPlan (a .mem .now) (a .twin .machine) (a .settings)) s _ (c .refused .result)
+    called-refused (whileWaiting (a .twin .machine .wait)) (a .settings) (stepPlan (a .mem .now) (a .twin .machine) (a .settings)) s _ (c .refused .result)
     (rw (← (c .before .before .before .before .before .waiting .ensures)) (sym (c .before .before .before .before .admits .ensures) ∙ c .before .before .refusal .given .1)) (c .refused .ensures)
 
 returns-2 : tie.Need-returns-2
 returns-2 c =
     let a = c .before .before .before .before .before .before .before .before .before .before .before .before .before .before .before .before .args in
     let s = inHand (a .mem .now) (a .journal .now) (a .twin) in
-    called-done (whileWaiting (a .twin .machine .wait)) (a .settings .«ram_top») (stepPlan (a .mem .now) (a .twin .machine) (a .settings)) s _ _ _
+    called-done (whileWaiting (a .twin .machine .wait)) (a .settings) (stepPlan (a .mem .now) (a .twin .machine) (a .settings)) s _ _ _
     (rw (← (c .before .before .before .before .before .before .before .before .before .before .before .before .waiting .ensures)) (sym (c .before .before .before .before .before .before .before .before .before .before .before .admits .ensures) ∙ c .before .before .before .before .before .before .before .before .before .enum-told .given .1))
-    (rw (c .before .before .before .before .before .before .before .find .ensures) at (c .before .before .before .before .conclude .ensures))
+    (rw (c .before .before .before .before .before .before .before .plan-step .ensures) at (c .before .before .before .before .conclude .ensures))
 
 pub step-spec : {M : Type 1} → statement M
 step-spec =

@@ -1,7 +1,8 @@
 -- `undo` meets its contract.
 -- Assumes nothing.
+use native.Mathlib.Omega.{arith}
 use borrow.Author.Needs.{needs}
-use Rattle.journal.specs.Record.{waitAt, countOf}
+use Rattle.journal.specs.Record.{countAt, waitAt, countOf}
 use Rattle.journal.specs.Recorded.{inHand}
 use Rattle.journal.proofs.Answers.{newest-part, undo-refused, undo-done, undo-1, undo-12, undo-11, undo-wait, undo-count, undo-0}
 use Rattle.journal.proofs.undos.undo.Statement.{statement}
@@ -44,13 +45,17 @@ returns-5 c =
 returns-6 : tie.Need-returns-6
 unfolding waitAt countOf
 returns-6 c =
-    let a = c .before .before .before .before .before .before .before .before .before .before .before .before .before .before .before .before .before .args in
+    let a = c .before .before .before .before .before .before .before .before .before .before .before .before .before .before .before .before .args in
     let s = inHand (a .mem .now) (a .journal .now) (a .twin) in
     undo-done s (c .before .machine-of .result) (c .before .before .before .before .put-back .last .0) (c .none .result)
-    (undo-0 s (c .before .before .before .before .before .before .before .before .before .before .before .before .before .before .if1 .left) (c .before .before .before .before .before .before .before .before .before .before .before .before .before .if2 .left) (c .before .before .before .before .before .before .before .before .before .before .before .before .if3 .left) (rw (newest-part s) (c .before .before .before .before .before .before .before .before .before .if4 .left)) (rw (newest-part s) (c .before .before .before .before .before .before .before .if5 .left)))
+    (undo-0 s (c .before .before .before .before .before .before .before .before .before .before .before .before .before .if1 .left) (c .before .before .before .before .before .before .before .before .before .before .before .before .if2 .left) (c .before .before .before .before .before .before .before .before .before .before .before .if3 .left) (rw (newest-part s) (c .before .before .before .before .before .before .before .before .if4 .left)) (rw (newest-part s) (c .before .before .before .before .before .before .if5 .left)))
     (rw (newest-part s) (c .before .machine-of .ensures)) (rw (newest-part s) (c .before .before .before .before .put-back .ensures)) (c .none .ensures)
+
+-- the count is a byte
+cast-n : tie.Need-cast-n
+cast-n c = omega (arith, c .before .before .shared-slice-known2 .given countAt)
 
 pub undo-spec : {M : Type 1} → statement M
 undo-spec =
     tie.close
-    (tie.spec (search needs) returns (search needs) returns-2 (search needs) returns-3 (search needs) (search needs) (search needs) (search needs) (search needs) (search needs) (search needs) (search needs) returns-4 (search needs) (search needs) returns-5 (search needs) (search needs) (search needs) (search needs) (search needs) (search needs) (search needs) returns-6)
+    (tie.spec (search needs) returns (search needs) returns-2 (search needs) returns-3 (search needs) (search needs) (search needs) (search needs) (search needs) (search needs) (search needs) (search needs) returns-4 (search needs) cast-n (search needs) returns-5 (search needs) (search needs) (search needs) (search needs) (search needs) returns-6)
