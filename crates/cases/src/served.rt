@@ -16,9 +16,9 @@ use super::operands::register;
 use super::operands::seeded;
 use super::operands::truth;
 use answers::Answer;
-use evaluate::Effect;
-use evaluate::Wait;
-use interrupts::InterruptType;
+use machine::Effect;
+use machine::Wait;
+use calls::InterruptType;
 use memory::Writes;
 use opcodes::Op;
 use opcodes::Software;
@@ -26,8 +26,8 @@ use registers::CCBit;
 use registers::Flags;
 use registers::Name;
 use registers::Set;
-use step::Machine;
-use step::Settings;
+use machine::Machine;
+use machine::Settings;
 use u8oru16::u8u16;
 
 // Types are counted as in the Rust: reset 0, NMI 1, FIRQ 2, IRQ 3, SWI 4, SWI2 5, SWI3 6.
@@ -105,7 +105,7 @@ fn unmasked(regs: Set, which: InterruptType) -> Set {
 fn hardware(case: Case, mem: &mut Memory, which: InterruptType) -> Reply {
     let regs = unmasked(stacking(case.w3, case.w2), which);
     let before = machine(regs, truth(case.w1 / 256));
-    let stepped = interrupts::interrupt(mem, before, settings(case.w3), which);
+    let stepped = calls::interrupt(mem, before, settings(case.w3), which);
     let after = stepped.machine;
     let answer = stepped.answer;
     let left = after.regs;
@@ -148,7 +148,7 @@ fn from_wait(mem: &Memory, ram_top: u16, regs: Set, kind: u16) -> Effect {
 pub fn reset(case: Case, mem: &mut Memory) -> Reply {
     point(mem, vector_of(0), case.w2);
     let before = machine(seeded(case.w3), false);
-    let stepped = interrupts::reset(mem, before, settings(case.w3));
+    let stepped = calls::reset(mem, before, settings(case.w3));
     let after = stepped.machine;
     let answer = stepped.answer;
     let reply = read_back(mem, after.regs, register(case.w1), answer);

@@ -23,7 +23,7 @@ use Rattle.addressing.proofs.PostBytes.{both, both-T, agree, agree→eq}
 use Rattle.addressing.specs.PostByte.{isIndirect, formOf, isRefused, fiveBits}
 use Rattle.answers.specs.Numbers.{numberOfAnswer}
 use Rattle.evaluate.specs.Stack.{bytesOf}
-use Rattle.step.specs.declared.Found.{Found}
+use Rattle.calls.specs.declared.Plan.{Plan}
 use Rattle.interrupts.specs.Interrupts.{isEntire}
 use Rattle.interrupts.proofs.Laws.{small-stack}
 use Rattle.checked.proofs.Addresses.{offset-row, refused-row, system-row, ignored-row}

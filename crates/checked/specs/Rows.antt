@@ -25,12 +25,12 @@ use Rattle.addressing.specs.declared.Decoded.the-variants.{Taken, Refused as No
 use Rattle.addressing.specs.declared.Mode.the-variants.{Indexed}
 use Rattle.addressing.specs.declared.Resolved.{Resolved}
 use Rattle.addressing.specs.declared.Resolved.the-variants.{At, Refused}
-use Rattle.evaluate.specs.declared.Wait.the-variants.{Cwai}
-use Rattle.step.specs.declared.Machine.{Machine}
-use Rattle.step.specs.declared.Settings.{Settings}
+use Rattle.machine.specs.declared.Wait.the-variants.{Cwai}
+use Rattle.machine.specs.declared.Machine.{Machine}
+use Rattle.machine.specs.declared.Settings.{Settings}
 use Rattle.interrupts.specs.Interrupts.{isMasked, interruptOf}
-use Rattle.interrupts.specs.declared.InterruptType.{InterruptType}
-use Rattle.interrupts.specs.declared.InterruptType.the-variants.{Irq}
+use Rattle.calls.specs.declared.InterruptType.{InterruptType}
+use Rattle.calls.specs.declared.InterruptType.the-variants.{Irq}
 
 pub data Row : Type 0 where
   -- an operation on a and b: the result, flags as bought, flags by the manual; whatever the condition codes were

@@ -3,7 +3,7 @@
 // bytes of cycles and of the count of records.
 mod program;
 
-use evaluate::Wait;
+use machine::Wait;
 use journal::Twin;
 use libc::STDIN_FILENO;
 use libc::STDOUT_FILENO;
@@ -11,8 +11,8 @@ use program::Memory;
 use registers::CCBits;
 use registers::Flags;
 use registers::Set;
-use step::Machine;
-use step::Settings;
+use machine::Machine;
+use machine::Settings;
 
 // As the run program's.
 const ROOM: usize = 65280;

@@ -16,7 +16,7 @@ use denote.Laws.{Is, shows}
 use denote.Steps.{owned, facts}
 use denote.Struct.Steps.{spelt}
 use denote.Struct.Laws as LL
-use Rattle.journal.specs.Calls.{Ended}
+use Rattle.journal.specs.Recorded.{Ended}
 use Rattle.journal.specs.declared.Twin.{Twin}
 use Rattle.journal.proofs.Twin as T
 use Rattle.journal.proofs.Twin.Laws as T′

@@ -6,17 +6,18 @@
 // A line for each call: the answer's number, PC, the count of records, and the byte at 0200. What it prints is worked out by
 // hand. NOP is one byte, STA extended three, and each leaves a record. The first undo puts 00 back at 0200, and PC and the count
 // go back with each; the third undo finds no record (11) and leaves all as it stands.
-ghost use Rattle.journal.specs.Calls.{inHand, stepped, undone};
+ghost use Rattle.journal.specs.Recorded.{inHand, stepped};
+ghost use Rattle.journal.specs.Undos.{undone};
 ghost use Rattle.lent.specs.Lending.{Returns};
-use evaluate::Wait;
+use machine::Wait;
 use journal::Twin;
 use lent::Returned;
 use libc::STDOUT_FILENO;
 use registers::CCBits;
 use registers::Flags;
 use registers::Set;
-use step::Machine;
-use step::Settings;
+use machine::Machine;
+use machine::Settings;
 
 type Memory = [u8; 0x10000];
 

@@ -6,7 +6,7 @@ use Prim.Native.Nat.{ℕ}
 use mir.Val.{Val}
 use denote.Laws.{Is}
 use denote.Struct.Laws as LL
-use Rattle.journal.specs.Calls.{Ended, Leaves as Recorded}
+use Rattle.journal.specs.Recorded.{Ended, Leaves as Recorded}
 use Rattle.journal.specs.declared.Outcome.{Outcome}
 use Rattle.journal.specs.declared.Twin.{Twin}
 use Rattle.journal.proofs.Twin as T

@@ -3,7 +3,7 @@
 use Prim.Native.Nat.{ℕ}
 use mathlib.Core.List.{List}
 use mathlib.Core.Path.{_≡_}
-use Rattle.journal.specs.Calls.{Ended}
+use Rattle.journal.specs.Recorded.{Ended}
 use Rattle.journal.specs.declared.Twin.{Twin}
 use Rattle.lent.specs.declared.Reported.{Reported}
 use Rattle.lent.specs.declared.Returned.{Returned}

@@ -1,11 +1,12 @@
 // The machine lent by its owner: step and undo on a twin behind a `&mut`, over the recorded calls on values.
 // Each is three statements, whatever the call does: every test and every refusal is below.
-ghost use Rattle.journal.specs.Calls.{inHand, stepped, undone};
+ghost use Rattle.journal.specs.Recorded.{inHand, stepped};
+ghost use Rattle.journal.specs.Undos.{undone};
 ghost use Rattle.lent.specs.Lending.{Returns, Leaves};
 use answers::Answer;
 use journal::Twin;
 use memory::Writes;
-use step::Settings;
+use machine::Settings;
 
 // What a call returns once the twin is written back: the device writes that it reports, and its answer.
 pub struct Reported {

@@ -13,11 +13,11 @@ use Rattle.srecord.specs.File.{loadedOf, memoryAfter}
 use Rattle.answers.specs.declared.Answer.the-variants.{Done, Refused}
 use Rattle.srecord.specs.declared.Loaded.{Loaded}
 use Rattle.answers.specs.declared.Refusal.{Refusal}
-use Rattle.step.specs.Step.{stepOf, memoryAfterStep}
-use Rattle.step.specs.declared.Machine.{Machine}
-use Rattle.step.specs.declared.Settings.{Settings}
-use Rattle.step.specs.declared.Stepped.{Stepped}
-use Rattle.interrupts.specs.Interrupts.{resetOf, memoryAfterReset}
+use Rattle.calls.specs.Steps.{stepOf, memoryAfterStep}
+use Rattle.machine.specs.declared.Machine.{Machine}
+use Rattle.machine.specs.declared.Settings.{Settings}
+use Rattle.calls.specs.declared.Report.{Report}
+use Rattle.calls.specs.Resets.{resetOf, memoryAfterReset}
 use Rattle.player.specs.Line.{alone, sixteen}
 use Rattle.player.specs.Play.{first, zeros}
 use Rattle.player.specs.Boot.{ramTop, flagByte, steps, text, setTo, shown, stepLines, runLines, bootLines, bootPrinted}
@@ -38,7 +38,7 @@ module _ (t : Settings) (out₀ : List ℕ) (at : ℕ) where
 
   module _ (whole : List ℕ) where
     one-less : (n used : ℕ) (out mem : List ℕ) (m : Machine) → ToGo t out₀ at whole (suc n) used out mem m
-        → {r : Stepped} → r ≡ stepOf mem m t → {new : List ℕ} → new ≡ memoryAfterStep mem m t
+        → {r : Report} → r ≡ stepOf mem m t → {new : List ℕ} → new ≡ memoryAfterStep mem m t
         → {end : ℕ} {text : List ℕ} → end ≡ used + length (shown r) → text ≡ sets out used (shown r)
         → ToGo t out₀ at whole n end text new (r .machine)
     unfolding stepLines
@@ -53,7 +53,7 @@ module _ (t : Settings) (out₀ : List ℕ) (at : ℕ) where
         }
 
     pub turn : (n used : ℕ) (out mem : List ℕ) (m : Machine) → ToGo t out₀ at whole n used out mem m → 0 < n
-        → {r : Stepped} → r ≡ stepOf mem m t → {new : List ℕ} → new ≡ memoryAfterStep mem m t
+        → {r : Report} → r ≡ stepOf mem m t → {new : List ℕ} → new ≡ memoryAfterStep mem m t
         → {end : ℕ} {text : List ℕ} → end ≡ used + length (shown r) → text ≡ sets out used (shown r)
         → ToGo t out₀ at whole (n - 1) end text new (r .machine)
     turn n used out mem m h p er en ee et = let e : n ≡ suc (n - 1) = omega arith in one-less (n - 1) used out mem m (rw e at h) er en ee et
@@ -69,7 +69,7 @@ module _ (t : Settings) (out₀ : List ℕ) (at : ℕ) where
 -- ---- the reset before them
 
 module _ (t : Settings) (n : ℕ) (mem out₀ : List ℕ) where
-  pub reset-first : {m : Machine} → m ≡ first → {r : Stepped} → r ≡ resetOf mem m t → {new : List ℕ} → new ≡ memoryAfterReset mem m t
+  pub reset-first : {m : Machine} → m ≡ first → {r : Report} → r ≡ resetOf mem m t → {new : List ℕ} → new ≡ memoryAfterReset mem m t
       → {at : ℕ} {out : List ℕ} → at ≡ 0 + length (shown r) → out ≡ sets out₀ 0 (shown r)
       → {end : ℕ} {done : List ℕ} → end ≡ at + length (stepLines t n new (r .machine)) → done ≡ sets out at (stepLines t n new (r .machine))
       → (end ≡ length (runLines t n mem)) × (done ≡ sets out₀ 0 (runLines t n mem))

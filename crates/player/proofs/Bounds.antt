@@ -12,11 +12,11 @@ use Rattle.answers.specs.Numbers.{numberOf}
 use Rattle.srecord.specs.File.{loadedOf, memoryAfter}
 use Rattle.answers.specs.declared.Answer.{Answer}
 use Rattle.answers.specs.declared.Answer.the-variants.{Done, Refused}
-use Rattle.step.specs.Step.{stepOf, memoryAfterStep}
-use Rattle.step.specs.declared.Machine.{Machine}
-use Rattle.step.specs.declared.Settings.{Settings}
-use Rattle.interrupts.specs.Interrupts.{resetOf, memoryAfterReset}
-use Rattle.journal.specs.Calls.{inHand}
+use Rattle.calls.specs.Steps.{stepOf, memoryAfterStep}
+use Rattle.machine.specs.declared.Machine.{Machine}
+use Rattle.machine.specs.declared.Settings.{Settings}
+use Rattle.calls.specs.Resets.{resetOf, memoryAfterReset}
+use Rattle.journal.specs.Recorded.{inHand}
 use Rattle.runfile.specs.Format.{Parsed, says, malformed, parsed}
 use Rattle.runfile.specs.Answers.{placed}
 use Rattle.runfile.proofs.Operations.{they-fit, not-longer}

@@ -12,10 +12,10 @@ use Rattle.answers.specs.declared.Answer.{Answer}
 use Rattle.answers.specs.declared.Answer.the-variants.{Done, Refused}
 use Rattle.answers.specs.declared.Refusal.{Refusal}
 use Rattle.answers.specs.declared.Refusal.the-variants.{MemoryLength, Waiting, Opcode, PastEnd, PostByte, WordAtTop, TransferCode, StackTooSmall, ZeroAtVector, JournalFull, NoRecord, JournalLength}
-use Rattle.step.specs.declared.Machine.{Machine}
-use Rattle.step.specs.declared.Settings.{Settings}
+use Rattle.machine.specs.declared.Machine.{Machine}
+use Rattle.machine.specs.declared.Settings.{Settings}
 use Rattle.journal.specs.declared.Outcome.{Outcome}
-use Rattle.journal.specs.Calls.{State, inHand, Leaves}
+use Rattle.journal.specs.Recorded.{State, inHand, Leaves}
 use Rattle.runfile.specs.Format.{Parsed, says, malformed, parsed, operationAt}
 use Rattle.runfile.specs.Answers.{loaded, nextOf}
 use Rattle.runfile.specs.declared.Operation.{Operation}

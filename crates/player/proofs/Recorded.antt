@@ -11,17 +11,16 @@ use Rattle.answers.specs.declared.Answer.{Answer}
 use Rattle.answers.specs.declared.Answer.the-variants.{Done, Refused}
 use Rattle.answers.specs.declared.Refusal.{Refusal}
 use Rattle.memory.proofs.Folds.{length-stored}
-use Rattle.evaluate.specs.declared.Wait.{Wait}
-use Rattle.evaluate.specs.declared.Wait.the-variants.{Running, Cwai, Sync}
-use Rattle.step.specs.Step.{foundOf, memoryWith}
-use Rattle.step.specs.declared.Found.{Found}
-use Rattle.step.specs.declared.Machine.{Machine}
-use Rattle.step.specs.declared.Settings.{Settings}
-use Rattle.step.proofs.Laws.{refused-step, twelve-writes}
-use Rattle.interrupts.specs.Interrupts.{resetFound}
-use Rattle.interrupts.proofs.Laws.{refused-reset, reset-twelve}
+use Rattle.machine.specs.declared.Wait.{Wait}
+use Rattle.machine.specs.declared.Wait.the-variants.{Running, Cwai, Sync}
+use Rattle.calls.specs.Steps.{stepPlan, memoryWith}
+use Rattle.calls.specs.declared.Plan.{Plan}
+use Rattle.machine.specs.declared.Machine.{Machine}
+use Rattle.machine.specs.declared.Settings.{Settings}
+use Rattle.calls.proofs.Laws.{refused-step, twelve-writes, refused-reset, reset-twelve}
+use Rattle.calls.specs.Resets.{resetPlan}
 use Rattle.journal.specs.Record.{encode}
-use Rattle.journal.specs.Calls.{State, Ended, inHand, unless, admitted, callAnswer, savedFor, recorded, concluded, called, whileWaiting, stepped, wasReset}
+use Rattle.journal.specs.Recorded.{State, Ended, inHand, unless, admitted, callAnswer, savedFor, recorded, concluded, called, whileWaiting, stepped, wasReset}
 use Rattle.journal.proofs.Laying.{saved-few}
 use Rattle.journal.proofs.Reading.{length-encode}
 use Rattle.journal.proofs.Chain.{length-withRecord}
@@ -85,11 +84,11 @@ module _ (t : Settings) where
   following h rest = rw (h .line, ← h .memory, ← h .machine, rest)
 
   -- 2 is given while waiting, recorded or not
-  on-time : (mem : List ℕ) (m : Machine) → length mem ≡ 65536 → unless (whileWaiting (m .wait)) (foundOf mem m t .answer) ≡ foundOf mem m t .answer
-  unfolding foundOf
+  on-time : (mem : List ℕ) (m : Machine) → length mem ≡ 65536 → unless (whileWaiting (m .wait)) (stepPlan mem m t .answer) ≡ stepPlan mem m t .answer
+  unfolding stepPlan
   on-time mem m size = go (m .wait) refl
     where
-      go : (w : Wait) → m .wait ≡ w → unless (whileWaiting w) (foundOf mem m t .answer) ≡ foundOf mem m t .answer
+      go : (w : Wait) → m .wait ≡ w → unless (whileWaiting w) (stepPlan mem m t .answer) ≡ stepPlan mem m t .answer
       go Running e = refl
       go Cwai e = rw (eq-eqb (length mem) 65536 size, e)
       go Sync e = rw (eq-eqb (length mem) 65536 size, e)
@@ -101,9 +100,9 @@ module _ (t : Settings) where
   steps-recorded (suc k) s size space =
       let mem = s .memory in
       let m = s .twin .machine in
-      let h = shows (whileWaiting (m .wait)) (t .«ram_top») (foundOf mem m t) s k size space (twelve-writes mem m t) (on-time mem m size)
+      let h = shows (whileWaiting (m .wait)) (t .«ram_top») (stepPlan mem m t) s k size space (twelve-writes mem m t) (on-time mem m size)
       (λ x e. let q = refused-step mem m t x e in (q .0, q .1)) in
-      following h (steps-recorded k (stepped t s .state) (ap length (h .memory) ∙ length-stored (t .«ram_top») (listed (foundOf mem m t .writes)) mem ∙ size) (h .room))
+      following h (steps-recorded k (stepped t s .state) (ap length (h .memory) ∙ length-stored (t .«ram_top») (listed (stepPlan mem m t .writes)) mem ∙ size) (h .room))
 
 length-zeros : (n : ℕ) → length (zeros n) ≡ n
 unfolding zeros
@@ -115,5 +114,5 @@ as-recorded t n mem size few =
     let s = inHand mem (zeros 65280) start in
     let m = start .machine in
     let space : (0 + suc n) * 68 ≤ length (zeros 65280) = rw (length-zeros 65280) (omega arith) in
-    let h = shows Done (t .«ram_top») (resetFound mem m) s n size space (reset-twelve mem m) refl (λ x e. let q = refused-reset mem m t x e in (q .0, q .1)) in
-    following t h (steps-recorded t n (wasReset t s .state) (ap length (h .memory) ∙ length-stored (t .«ram_top») (listed (resetFound mem m .writes)) mem ∙ size) (h .room))
+    let h = shows Done (t .«ram_top») (resetPlan mem m) s n size space (reset-twelve mem m) refl (λ x e. let q = refused-reset mem m t x e in (q .0, q .1)) in
+    following t h (steps-recorded t n (wasReset t s .state) (ap length (h .memory) ∙ length-stored (t .«ram_top») (listed (resetPlan mem m .writes)) mem ∙ size) (h .room))

@@ -14,12 +14,12 @@ use Rattle.answers.specs.Numbers.{numberOf}
 use Rattle.srecord.specs.File.{loadedOf, memoryAfter}
 use Rattle.answers.specs.declared.Answer.{Answer}
 use Rattle.answers.specs.declared.Answer.the-variants.{Done, Refused}
-use Rattle.step.specs.Step.{stepOf, memoryAfterStep}
-use Rattle.step.specs.declared.Machine.{Machine}
-use Rattle.step.specs.declared.Settings.{Settings}
-use Rattle.step.specs.declared.Stepped.{Stepped}
-use Rattle.interrupts.specs.Interrupts.{resetOf, memoryAfterReset}
-use Rattle.journal.specs.Calls.{inHand}
+use Rattle.calls.specs.Steps.{stepOf, memoryAfterStep}
+use Rattle.machine.specs.declared.Machine.{Machine}
+use Rattle.machine.specs.declared.Settings.{Settings}
+use Rattle.calls.specs.declared.Report.{Report}
+use Rattle.calls.specs.Resets.{resetOf, memoryAfterReset}
+use Rattle.journal.specs.Recorded.{inHand}
 use Rattle.runfile.specs.declared.Operation.the-variants.{Step, Reset}
 use Rattle.player.specs.Line.{alone, sixteen}
 use Rattle.player.specs.Play.{first, start, lineOf, lines, zeros}
@@ -53,7 +53,7 @@ setTo top f = record { «ram_top» = top; flags = f }
 -- ---- the run
 
 -- the line of a call that is not recorded
-abbrev pub shown : Stepped → List ℕ
+abbrev pub shown : Report → List ℕ
 shown r = lineOf (r .answer) (r .machine)
 
 -- so many steps, one after the other, a line for each

@@ -5,12 +5,13 @@ use mathlib.Core.List.{List, [], _∷_, _++_}
 use lib.ListN.{length, replicate}
 use Rattle.answers.specs.Numbers.{numberOfAnswer}
 use Rattle.answers.specs.declared.Answer.{Answer}
-use Rattle.evaluate.specs.declared.Wait.the-variants.{Running}
-use Rattle.step.specs.declared.Machine.{Machine}
-use Rattle.step.specs.declared.Settings.{Settings}
-use Rattle.interrupts.specs.declared.InterruptType.the-variants.{Irq as IRQ, Firq as FIRQ, Nmi as NMI}
+use Rattle.machine.specs.declared.Wait.the-variants.{Running}
+use Rattle.machine.specs.declared.Machine.{Machine}
+use Rattle.machine.specs.declared.Settings.{Settings}
+use Rattle.calls.specs.declared.InterruptType.the-variants.{Irq as IRQ, Firq as FIRQ, Nmi as NMI}
 use Rattle.journal.specs.declared.Twin.{Twin}
-use Rattle.journal.specs.Calls.{State, Ended, inHand, stepped, interrupted, wasReset, undone}
+use Rattle.journal.specs.Recorded.{State, Ended, inHand, stepped, interrupted, wasReset}
+use Rattle.journal.specs.Undos.{undone}
 use Rattle.runfile.specs.Format.{RunFile, Parsed, says, malformed, parsed}
 use Rattle.runfile.specs.Answers.{placed}
 use Rattle.runfile.specs.declared.Operation.{Operation}

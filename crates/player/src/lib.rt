@@ -4,7 +4,7 @@ ghost use mathlib.Core.Path.{_≡_};
 ghost use Prim.Native.Nat.{_+_, _*_, _≤_, _<_};
 ghost use lib.ListN.{length, set};
 ghost use lib.Seq.{sets};
-ghost use Rattle.journal.specs.Calls.{inHand, interrupted, Leaves};
+ghost use Rattle.journal.specs.Recorded.{inHand, interrupted, Leaves};
 ghost use Rattle.runfile.specs.Format.{parsed};
 ghost use Rattle.runfile.specs.Answers.{loaded};
 ghost use Rattle.player.specs.Play.{first, start, zeros, acted, lineOf, played, printed};
@@ -12,8 +12,8 @@ ghost use Rattle.player.specs.Line.{glyph, hex2, hex4, decimal, line, al
 ghost use Rattle.player.specs.Boot.{setTo, stepLines, runLines, bootLines, bootPrinted};
 use answers::Answer;
 use answers::Answer as Read;
-use evaluate::Wait;
-use interrupts::InterruptType;
+use machine::Wait;
+use calls::InterruptType;
 use journal::Outcome;
 use journal::Twin;
 use registers::CCBits;
@@ -23,8 +23,8 @@ use runfile::Loaded;
 use runfile::Next;
 use runfile::Operation;
 use runfile::Start;
-use step::Machine;
-use step::Settings;
+use machine::Machine;
+use machine::Settings;
 
 const MEMORY: usize = 0x10000;
 
@@ -262,7 +262,7 @@ fn put_steps(
     let mut used = at;
     let mut left = count;
     while 0 < left {
-        let stepped = step::step(mem, current, settings);
+        let stepped = calls::step(mem, current, settings);
         let answer = stepped.answer;
         current = stepped.machine;
         used = put_call(out, used, answer, current);
@@ -275,7 +275,7 @@ fn put_steps(
 fn put_run(out: &mut [u8], mem: &mut [u8], settings: Settings, count: u16) -> usize
     ensures { λ r. ⌜ (r ≡ length (runLines settings count (now (mem .entry)))) × (now (out .exit) ≡ sets (now (out .entry)) 0 (runLines settings count (now (mem .entry)))) ⌝ }
 {
-    let reset = interrupts::reset(mem, first_machine(), settings);
+    let reset = calls::reset(mem, first_machine(), settings);
     let answer = reset.answer;
     let machine = reset.machine;
     let at = put_call(out, 0, answer, machine);

@@ -2,12 +2,12 @@
 mod scene;
 mod text;
 
-use evaluate::Wait;
+use machine::Wait;
 use libc::STDIN_FILENO;
 use libc::STDOUT_FILENO;
 use memory::Writes;
 use scene::Ended;
-use step::Machine;
+use machine::Machine;
 use text::LINE;
 use text::Line;
 use text::OUT;

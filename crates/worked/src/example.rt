@@ -4,14 +4,14 @@ use super::text::Line;
 use super::text::byte_at;
 use super::text::word_at;
 use answers::Answer;
-use evaluate::Wait;
-use interrupts::InterruptType;
+use machine::Wait;
+use calls::InterruptType;
 use registers::CCBits;
 use registers::Flags;
 use registers::Set;
-use step::Machine;
-use step::Settings;
-use step::Stepped;
+use machine::Machine;
+use machine::Settings;
+use calls::Report;
 
 pub const BYTES: usize = 0x10000;
 
@@ -76,7 +76,7 @@ fn put(mem: &mut Memory, at: u16, line: &Line, from: usize, count: usize)
     }
 }
 
-fn outcome_of(stepped: Stepped) -> Ended {
+fn outcome_of(stepped: Report) -> Ended {
     let machine = stepped.machine;
     let answer = stepped.answer;
     Ended { machine, answer }
@@ -86,11 +86,11 @@ fn outcome_of(stepped: Stepped) -> Ended {
 fn act(mem: &mut Memory, before: Ended, settings: Settings, letter: u8) -> Ended {
     let machine = before.machine;
     match letter {
-        b'S' => outcome_of(step::step(mem, machine, settings)),
-        b'I' => outcome_of(interrupts::interrupt(mem, machine, settings, InterruptType::Irq)),
-        b'F' => outcome_of(interrupts::interrupt(mem, machine, settings, InterruptType::Firq)),
-        b'N' => outcome_of(interrupts::interrupt(mem, machine, settings, InterruptType::Nmi)),
-        b'R' => outcome_of(interrupts::reset(mem, machine, settings)),
+        b'S' => outcome_of(calls::step(mem, machine, settings)),
+        b'I' => outcome_of(calls::interrupt(mem, machine, settings, InterruptType::Irq)),
+        b'F' => outcome_of(calls::interrupt(mem, machine, settings, InterruptType::Firq)),
+        b'N' => outcome_of(calls::interrupt(mem, machine, settings, InterruptType::Nmi)),
+        b'R' => outcome_of(calls::reset(mem, machine, settings)),
         _ => before,
     }
 }

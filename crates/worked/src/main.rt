@@ -2,7 +2,7 @@
 mod example;
 mod text;
 
-use evaluate::Wait;
+use machine::Wait;
 use example::BYTES;
 use example::Ended;
 use example::Memory;

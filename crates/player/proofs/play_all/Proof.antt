@@ -5,7 +5,7 @@ use Prim.Native.Nat.{ℕ, _+_, _-_, _≤_, _<_}
 use mathlib.Core.Path.{_≡_, refl, sym, ap, _∙_}
 use native.Mathlib.Omega.{arith}
 use lib.ListN.{length, getD}
-use Rattle.journal.specs.Calls.{inHand}
+use Rattle.journal.specs.Recorded.{inHand}
 use Rattle.runfile.specs.Format.{parsed, operationAt}
 use Rattle.runfile.specs.Answers.{nextOf}
 use Rattle.runfile.specs.declared.Operation.the-variants.{Step}
