@@ -17,6 +17,7 @@ use Rattle.srecord.specs.Promises.{zeros, blank, ReadsBack, OneForm}
 use Rattle.srecord.specs.declared.Loaded.{Loaded}
 use Rattle.srecord.proofs.Bools.{and-parts}
 use Rattle.srecord.proofs.Digits.{not-feed}
+use Rattle.srecord.proofs.Shapes.{held}
 use Rattle.srecord.proofs.Sound.{Each, each, each-take, each-drop, hold-kinds, allBytes, are-bytes, text-is, reads}
 
 -- no line feed
@@ -42,7 +43,7 @@ line-cut : (kind a : ℕ) (d rest : List ℕ) → a < 65536 → Each d → mayHo
     → meaningsOf (textOf kind a d ++ rest) ≡ meant kind a d ∷ meaningsOf rest
 unfolding meaningsOf
 line-cut kind a d rest low are may =
-    let k = hold-kinds kind (length d) may in
+    let k = hold-kinds (held kind (length d) may) in
     let t = text-is kind a d in
     let p = pairs (allBytes a d) in
     let c = cut (83 ∷ kind ∷ p) rest ((λ e. omega arith), ((λ e. omega arith), no-feed _ (are-bytes kind a d low are may))) in

@@ -10,7 +10,7 @@ use lib.ListN.{length, take, drop, length-append, length-drop}
 use lib.Seq.{sets, length-sets, length-take-le}
 use Rattle.srecord.specs.Text.{pair, pairs, total, summed, textOf, digitOf}
 use Rattle.srecord.specs.Written.{rowOf, isZero, rowText, rowsText, plainEnd}
-use Rattle.srecord.proofs.Laying.{sets-two, pairs-length}
+use Rattle.srecord.proofs.Laying.{sets-two, pairs-length, pairs-one}
 
 pub text-length : (kind a : ℕ) (d : List ℕ) → length (textOf kind a d) ≡ 11 + 2 * length d
 unfolding textOf
@@ -22,12 +22,12 @@ pub sum-fields : (c h l t : ℕ) (d : List ℕ) → t ≡ (total (c ∷ h ∷ l 
 unfolding total
 sum-fields c h l t d e = omega arith
 
--- the parts of a line, one sets other behind the
+-- the parts of a line, each stored behind the one before it
 module _ (at kind a sum : ℕ) (d out o₁ o₂ o₃ o₄ o₅ : List ℕ)
     (e₁ : o₁ ≡ sets out at (83 ∷ kind ∷ []))
     (e₂ : o₂ ≡ sets o₁ (at + 2) (pairs ((length d + 3) ∷ a / 256 ∷ a % 256 ∷ [])))
     (e₃ : o₃ ≡ sets o₂ (at + 8) (pairs d))
-    (e₄ : o₄ ≡ sets o₃ (at + 8 + 2 * length d) (pair (255 - sum)))
+    (e₄ : o₄ ≡ sets o₃ (at + 8 + 2 * length d) (pairs ((255 - sum) ∷ [])))
     (e₅ : o₅ ≡ sets o₄ (at + 8 + 2 * length d + 2) (10 ∷ []))
     (s : sum ≡ total (summed a d) % 256) where
   abbrev f : List ℕ
@@ -54,7 +54,7 @@ module _ (at kind a sum : ℕ) (d out o₁ o₂ o₃ o₄ o₅ : List ℕ)
       let m = pairs-length d in
       let k = length-append h f in
       let j = length-append (h ++ f) (pairs d) in
-      e₄ ∙ rw three (sets-two at (at + 8 + 2 * length d) ((h ++ f) ++ pairs d) (pair (255 - sum)) out (omega arith))
+      e₄ ∙ rw (three, pairs-one (255 - sum)) (sets-two at (at + 8 + 2 * length d) ((h ++ f) ++ pairs d) (pair (255 - sum)) out (omega arith))
 
   pub line-put : o₅ ≡ sets out at (textOf kind a d)
   unfolding textOf pairs

@@ -6,8 +6,8 @@ use mathlib.Core.List.{List}
 use lib.Dec.{eqb, leb}
 use lib.ListN.{length, getD, take, drop}
 use Rattle.srecord.specs.Text.{letterS, kind0, kind1, kind9, isPaired, bytesOf, checksum}
-use Rattle.srecord.specs.declared.Line.{Line}
-use Rattle.srecord.specs.declared.Line.the-variants.{Header, Data, End, Bad}
+use Rattle.srecord.specs.declared.line.Line.{Line}
+use Rattle.srecord.specs.declared.line.Line.the-variants.{Header, Data, End, Bad}
 use Rattle.answers.specs.declared.Refusal.{Refusal}
 use Rattle.answers.specs.declared.Refusal.the-variants.{LineShape, Checksum, PastTop}
 

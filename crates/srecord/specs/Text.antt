@@ -76,10 +76,3 @@ summed a d = (length d + 3) ∷ a / 256 ∷ a % 256 ∷ d
 
 unfoldable pub textOf : ℕ → ℕ → List ℕ → List ℕ
 textOf kind a d = letterS ∷ kind ∷ (pairs (summed a d) ++ (pair (checksum (summed a d)) ++ (lineFeed ∷ [])))
-
--- whether two texts are the same
-unfoldable pub isSame : List ℕ → List ℕ → Bool
-isSame [] [] = true
-isSame [] (b ∷ m) = false
-isSame (a ∷ l) [] = false
-isSame (a ∷ l) (b ∷ m) = eqb a b && isSame l m

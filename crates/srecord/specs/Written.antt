@@ -10,7 +10,7 @@ use Rattle.srecord.specs.Text.{kind1, kind9, textOf}
 use Rattle.answers.specs.declared.Answer.the-variants.{Done, Refused}
 use Rattle.answers.specs.declared.Refusal.{Refusal}
 use Rattle.answers.specs.declared.Refusal.the-variants.{MemoryLength, OutputShort}
-use Rattle.srecord.specs.declared.Written.{Written}
+use Rattle.srecord.specs.declared.written.Written.{Written}
 
 -- the k-th 32 bytes of memory
 abbrev pub rowOf : List ℕ → ℕ → List ℕ
