@@ -3,7 +3,7 @@
 use Prim.Native.Nat.{ℕ, suc, _+_, _-_, _*_, _≤_, _<_}
 use native.Mathlib.Omega.{arith}
 use native.Mathlib.Decide.{ℕ-discrete}
-use mathlib.Core.Path.{_≡_, refl, sym, ap, _∙_}
+use mathlib.Core.Path.{_≡_, refl, sym, ap, _∙_, subst}
 use mathlib.Core.Bool.{Bool, true, false}
 use mathlib.Core.List.{List, [], _∷_, map}
 use lib.Dec.{eqb, leb}
@@ -14,7 +14,10 @@ use Rattle.srecord.specs.Text.{isPaired, bytesOf, valueOf, total}
 use Rattle.srecord.specs.Line.{Meaning, heading, piece, start, refused, bytes, isShaped, isSummed, addressOf, dataOf, meant, lineOf, shown}
 use Rattle.srecord.specs.File.{joined, linesOf, first, lineEnd, meaningsOf, failed, ended, judged, landed}
 use Rattle.srecord.specs.Written.{plainEnd}
+use denote.Enum.Declared.{tagOf}
+use types.Run.{OneOf, miss}
 use Rattle.srecord.specs.declared.line.Line.{Line}
+use Rattle.srecord.proofs.line.Line.{the-type}
 use Rattle.srecord.specs.declared.line.Line.the-variants.{Header, Data, End, Bad}
 use Rattle.srecord.specs.declared.Loaded.{Loaded}
 use Rattle.answers.specs.declared.Refusal.{Refusal}
@@ -97,22 +100,23 @@ judge-one (refused r) ms = refl
 pub judge-by : {l : Line} (m : Meaning) (ms : List Meaning) → shown m ≡ l → judged (m ∷ ms) ≡ answerBy l ms
 judge-by m ms e = judge-one m ms ∙ ap (λ (l : Line). answerBy l ms) e
 
--- a line that stores nothing
-abbrev pub Idle : Line → Type 0
-Idle Header = Unit {0}
-Idle (Data a n) = ⊥
-Idle (End a) = Unit {0}
-Idle (Bad r) = Unit {0}
+-- the judge goes on after S0 and S1, by their tags
+pub passed : (l : Line) (ms : List Meaning) → OneOf (0 ∷ 1 ∷ []) (tagOf the-type l) → answerBy l ms ≡ judged ms
+passed Header ms h = refl
+passed (Data a n) ms h = refl
+passed (End a) ms h = absurd (miss (0 ∷ 1 ∷ []) 2 tt h)
+passed (Bad r) ms h = absurd (miss (0 ∷ 1 ∷ []) 3 tt h)
 
-lands-idle : (m : Meaning) (ms : List Meaning) (mem : List ℕ) → Idle (shown m) → landed (m ∷ ms) mem ≡ landed ms mem
+-- any other line than S1 stores nothing
+lands-none-of : (m : Meaning) (ms : List Meaning) (mem : List ℕ) → OneOf (0 ∷ 2 ∷ 3 ∷ []) (tagOf the-type (shown m)) → landed (m ∷ ms) mem ≡ landed ms mem
 unfolding landed
-lands-idle (heading d) ms mem i = refl
-lands-idle (piece a d) ms mem i = absurd i
-lands-idle (start a) ms mem i = refl
-lands-idle (refused r) ms mem i = refl
+lands-none-of (heading d) ms mem h = refl
+lands-none-of (piece a d) ms mem h = absurd (miss (0 ∷ 2 ∷ 3 ∷ []) 1 tt h)
+lands-none-of (start a) ms mem h = refl
+lands-none-of (refused r) ms mem h = refl
 
-pub lands-by : {l : Line} (m : Meaning) (ms : List Meaning) (mem : List ℕ) → Idle l → shown m ≡ l → landed (m ∷ ms) mem ≡ landed ms mem
-lands-by m ms mem i e = lands-idle m ms mem (rw e i)
+pub idle : {l : Line} (m : Meaning) (ms : List Meaning) (mem : List ℕ) → l ≡ shown m → OneOf (0 ∷ 2 ∷ 3 ∷ []) (tagOf the-type l) → landed (m ∷ ms) mem ≡ landed ms mem
+idle m ms mem e h = lands-none-of m ms mem (subst (λ (l : Line). OneOf (0 ∷ 2 ∷ 3 ∷ []) (tagOf the-type l)) e h)
 
 pub lands-none : (mem : List ℕ) → landed [] mem ≡ mem
 unfolding landed

@@ -43,11 +43,6 @@ fn judge(file: &[u8]) -> Loaded
     while from < file.len() {
         let end = line_end(file, from);
         match line_of(&file[from..end]) {
-            Line::Header => {}
-            Line::Data {
-                address: _,
-                count: _,
-            } => {}
             Line::End(start) => {
                 if end < file.len() {
                     return refused(Refusal::LineShape);
@@ -58,6 +53,7 @@ fn judge(file: &[u8]) -> Loaded
                 };
             }
             Line::Bad(refusal) => return refused(refusal),
+            _ => {}
         }
         from = end;
     }
@@ -86,11 +82,8 @@ fn store_lines(mem: &mut [u8], file: &[u8])
     while from < file.len() {
         let end = line_end(file, from);
         let text = &file[from..end];
-        match line_of(text) {
-            Line::Header => {}
-            Line::Data { address, count } => store_data(mem, text, address, count),
-            Line::End(_) => {}
-            Line::Bad(_) => {}
+        if let Line::Data { address, count } = line_of(text) {
+            store_data(mem, text, address, count);
         }
         from = end;
     }
