@@ -22,11 +22,8 @@ fn put_text(out: &mut [u8], at: usize, text: &[u8])
     requires { ⌜ at + length (now text) ≤ length (now out) ⌝ }
     ensures { λ _. ⌜ now (out .exit) ≡ sets (now (out .entry)) at (now (text .entry)) ⌝ }
 {
-    let mut i = 0;
-    while i < text.len() {
-        out[at + i] = text[i];
-        i += 1;
-    }
+    let end = at + text.len();
+    bytes::copy(text, &mut out[at..end]);
 }
 
 fn put_pairs(out: &mut [u8], at: usize, list: &[u8])

@@ -1,33 +1,28 @@
--- `put_text` meets its contract.
+-- `put_text` copies the text over a part of the output as long as the text.
 -- Assumes nothing.
 use borrow.Author.Needs.{needs}
-use Prim.Native.Nat.{_-_, _≤_}
-use mathlib.Core.Path.{_≡_, refl, _∙_}
+use Prim.Native.Nat.{ℕ, _+_, _-_, _≤_}
+use mathlib.Core.Path.{_≡_, sym, _∙_}
+use mathlib.Core.List.{List, _++_, append-assoc, append-nil}
 use native.Mathlib.Omega.{arith}
-use lib.ListN.{length, take, length-set}
+use lib.ListN.{length, take, drop, length-take, drop-of-length-le}
+use lib.Seq.{sets, sets-eq, take-all, drop-drop}
 use denote.Ref.{now}
-use Rattle.srecord.proofs.Laying.{sets-more}
-use lib.Seq.{sets, take-all}
 use Rattle.srecord.proofs.written.put_text.Statement.{statement}
 use Rattle.srecord.proofs.written.put_text.Tie as tie
 
-abbrev Inv-loop : tie.InvT-loop
-Inv-loop out₀ at text i₀ out i = (i ≤ length text) × ((length out ≡ length out₀) × (out ≡ sets out₀ at (take i text)))
+over : (out part text : List ℕ) (at k : ℕ) → k ≡ length text → at + length text ≤ length out
+    → part ≡ take (length text) text ++ drop (length text) (take k (drop at out))
+    → take at out ++ (part ++ drop k (drop at out)) ≡ sets out at text
+over out part text at k e room p =
+    let n = length-take k (drop at out) in
+    let q : part ≡ text = p ∙ rw (take-all (length text) text (omega arith), drop-of-length-le (take k (drop at out)) {i = length text} (omega arith)) (append-nil text) in
+    rw (q, drop-drop k at out, e) (sym (sets-eq text out at room ∙ append-assoc (take at out) text (drop (at + length text) out)))
 
-abbrev μ-loop : tie.MeasureT-loop
-μ-loop out₀ at text i₀ out i = length text - i
-
-loop-holds : tie.Need-loop-holds Inv-loop μ-loop
-loop-holds c = (omega arith, (refl, refl))
-
-loop-again : tie.Need-loop-again Inv-loop μ-loop
-loop-again c = (omega arith, (simp length-set (c .before .before .loop .inv .1 .0), sets-more (c .before .before .before .args .at) (c .before .before .loop .i) _ (now (c .before .before .before .args .text)) (now (c .before .before .before .args .out)) (c .before .before .loop .out) (omega arith) (c .before .before .loop .inv .1 .1) refl))
-
-same-length : tie.Need-same-length Inv-loop μ-loop
-same-length c = c .before .loop .inv .1 .0
-
-returns : tie.Need-returns Inv-loop μ-loop
-returns c = c .before .loop .inv .1 .1 ∙ rw (take-all (c .before .loop .i) (now (c .before .before .args .text)) (omega arith))
+returns : tie.Need-returns
+returns c =
+    let a = c .before .before .before .before .before .before .args in
+    over (now (a .out)) _ (now (a .text)) (a .at) (a .at + length (now (a .text)) - a .at) (omega arith) (omega arith) (c .before .before .copy .ensures .1)
 
 pub put-text-spec : {M : Type 1} → statement M
-put-text-spec = tie.close (tie.spec Inv-loop μ-loop loop-holds (search needs) (search needs) (search needs) (search needs) (search needs) loop-again same-length returns)
+put-text-spec = tie.close (tie.spec (search needs) (search needs) (search needs) (search needs) (search needs) (search needs) returns)
