@@ -13,7 +13,6 @@ use borrow.Author.Tests.{eq-eqb, ne-eqb, leb-true}
 use Rattle.srecord.specs.Text.{isPaired, bytesOf, valueOf, total}
 use Rattle.srecord.specs.Line.{Meaning, heading, piece, start, refused, bytes, isShaped, isSummed, addressOf, dataOf, meant, lineOf, shown}
 use Rattle.srecord.specs.File.{joined, linesOf, first, lineEnd, meaningsOf, failed, ended, judged, landed}
-use Rattle.srecord.specs.Written.{plainEnd}
 use denote.Enum.Declared.{tagOf}
 use types.Run.{OneOf, miss}
 use Rattle.srecord.specs.declared.line.Line.{Line}
@@ -125,18 +124,6 @@ lands-none mem = refl
 pub lands : (m : Meaning) (ms : List Meaning) (mem : List ℕ) (a : ℕ) (d : List ℕ) → m ≡ piece a d → landed (m ∷ ms) mem ≡ landed ms (sets mem a d)
 unfolding landed
 lands m ms mem a d e = rw e
-
-pub plain-end : shown (lineOf plainEnd) ≡ End 0
-unfolding lineOf isShaped isSummed isPaired bytesOf valueOf total
-plain-end = refl
-
-pub bad-shape : (text : List ℕ) → isShaped text ≡ false → Bad LineShape ≡ shown (lineOf text)
-unfolding lineOf
-bad-shape text e = rw e
-
-pub bad-sum : (text : List ℕ) → isShaped text ≡ true → isSummed (bytes text) ≡ false → Bad Checksum ≡ shown (lineOf text)
-unfolding lineOf
-bad-sum text e f = rw (e, f)
 
 pub sound : (text : List ℕ) → isShaped text ≡ true → isSummed (bytes text) ≡ true → lineOf text ≡ meant (getD text 1 0) (addressOf (bytes text)) (dataOf (bytes text))
 unfolding lineOf

@@ -9,7 +9,7 @@ use mathlib.Core.List.{List, [], _∷_, _++_, append-assoc, append-nil}
 use lib.ListN.{length, take, drop, length-append, length-drop}
 use lib.Seq.{sets, length-sets, length-take-le}
 use Rattle.srecord.specs.Text.{pair, pairs, total, summed, textOf, digitOf}
-use Rattle.srecord.specs.Written.{rowOf, isZero, rowText, rowsText, plainEnd}
+use Rattle.srecord.specs.Written.{rowOf, isZero, rowText, rowsText}
 use Rattle.srecord.proofs.Laying.{sets-two, pairs-length, pairs-one}
 
 pub text-length : (kind a : ℕ) (d : List ℕ) → length (textOf kind a d) ≡ 11 + 2 * length d
@@ -68,10 +68,6 @@ module _ (at kind a sum : ℕ) (d out o₁ o₂ o₃ o₄ o₅ : List ℕ)
       rw four (sets-two at (at + 8 + 2 * length d + 2) (((h ++ f) ++ pairs d) ++ pair (255 - sum)) (10 ∷ []) out (omega arith)) in
       let same : ((((h ++ f) ++ pairs d) ++ pair (255 - sum)) ++ (10 ∷ [])) ≡ textOf kind a d = rw s (ap (λ (l : List ℕ). (h ++ f) ++ l) (append-assoc (pairs d) (pair (255 - total (summed a d) % 256)) (10 ∷ []))) in
       e₅ ∙ last ∙ ap (λ (l : List ℕ). sets out at l) same
-
-pub plain-text : textOf 57 0 [] ≡ plainEnd
-unfolding textOf pairs digitOf total
-plain-text = refl
 
 -- the rows of memory
 module _ (mem : List ℕ) (k w : ℕ) (wide : w ≡ 32) (z : Bool) (e : z ≡ isZero (take w (drop (32 * k) mem))) where

@@ -33,10 +33,6 @@ rowsText mem (suc k) = rowsText mem k ++ rowText mem k
 unfoldable pub textFor : List ℕ → ℕ → List ℕ
 textFor mem a = rowsText mem 2048 ++ textOf kind9 a []
 
--- the line S9030000FC
-abbrev pub plainEnd : List ℕ
-plainEnd = 83 ∷ 57 ∷ 48 ∷ 51 ∷ 48 ∷ 48 ∷ 48 ∷ 48 ∷ 70 ∷ 67 ∷ 10 ∷ []
-
 abbrev pub stopped : Refusal → Written
 stopped r = record { count = 0; answer = Refused r }
 

@@ -1,4 +1,4 @@
--- `line_end` meets its contract.
+-- `line_end`: no line feed before i, so that the line ends where one that starts at i does.
 -- Assumes nothing.
 use borrow.Author.Needs.{needs}
 use Prim.Native.Nat.{_-_}

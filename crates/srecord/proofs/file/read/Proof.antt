@@ -1,4 +1,4 @@
--- `read` meets its contract.
+-- `read` by the answer: memory of another length, a file that is taken, a file that is refused.
 -- Assumes nothing.
 use borrow.Author.Needs.{needs}
 use mathlib.Core.Path.{_∙_}

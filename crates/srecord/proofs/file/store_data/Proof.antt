@@ -1,4 +1,4 @@
--- `store_data` meets its contract.
+-- `store_data`: the first i data bytes are stored.
 -- Assumes nothing.
 use borrow.Author.Needs.{needs}
 use Prim.Native.Nat.{_-_, _≤_}

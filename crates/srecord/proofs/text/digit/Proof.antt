@@ -1,4 +1,4 @@
--- `digit` meets its contract.
+-- `digit`: figures below 10, capitals from 10 on.
 -- Assumes nothing.
 use borrow.Author.Needs.{needs}
 use borrow.Author.Tests.{lt-ltb, le-ltb}

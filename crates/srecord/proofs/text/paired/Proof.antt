@@ -1,4 +1,4 @@
--- `paired` meets its contract.
+-- `paired`: the characters before i are pairs of digits, so that the answer is that of the rest.
 -- Assumes nothing.
 use borrow.Author.Needs.{needs}
 use borrow.Author.Tests.{not-true, not-false}

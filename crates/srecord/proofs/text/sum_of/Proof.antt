@@ -1,4 +1,4 @@
--- `sum_of` meets its contract.
+-- `sum_of`: the sum of the first i bytes, modulo 256.
 -- Assumes nothing.
 use borrow.Author.Needs.{needs}
 use Prim.Native.Nat.{_-_, _%_, _≤_}

@@ -1,4 +1,4 @@
--- `value` meets its contract.
+-- `value` by the ranges of the characters: figures, capitals, and what lies below, between and above.
 -- Assumes nothing.
 use native.Mathlib.Omega.{arith}
 use borrow.Author.Needs.{needs}

@@ -1,4 +1,4 @@
--- `all_zero` meets its contract.
+-- `all_zero`: the bytes before i are zero, so that the answer is that of the rest.
 -- Assumes nothing.
 use borrow.Author.Needs.{needs}
 use Prim.Native.Nat.{_-_}

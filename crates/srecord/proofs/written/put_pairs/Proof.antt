@@ -1,4 +1,4 @@
--- `put_pairs` meets its contract.
+-- `put_pairs`: the digits of the first i bytes are stored.
 -- Assumes nothing.
 use borrow.Author.Needs.{needs}
 use Prim.Native.Nat.{_-_, _≤_}

@@ -1,4 +1,4 @@
--- `put_rows` meets its contract.
+-- `put_rows`: the text of the first k rows is stored, and `at` is its length.
 -- Assumes nothing.
 use borrow.Author.Needs.{needs}
 use borrow.Author.Tests.{not-true, not-false}

@@ -1,4 +1,4 @@
--- `rows_length` meets its contract.
+-- `rows_length`: 75 characters for each row of the first k that is not all zero.
 -- Assumes nothing.
 use borrow.Author.Needs.{needs}
 use borrow.Author.Tests.{not-true, not-false}

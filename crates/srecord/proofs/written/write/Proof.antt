@@ -1,4 +1,4 @@
--- `write` meets its contract.
+-- `write` by the answer: memory of another length, an output too short, and the text stored.
 -- Assumes nothing.
 use borrow.Author.Needs.{needs}
 use mathlib.Core.Path.{_∙_}
