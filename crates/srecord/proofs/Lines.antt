@@ -1,16 +1,15 @@
 -- A file's lines, the first one split off; and what a line's answer says of its meaning.
 -- Assumes nothing.
-use Prim.Native.Nat.{ℕ, suc, _+_, _-_, _*_, _≤_, _<_}
+use Prim.Native.Nat.{ℕ, suc, _+_, _-_, _≤_, _<_}
 use native.Mathlib.Omega.{arith}
 use native.Mathlib.Decide.{ℕ-discrete}
 use mathlib.Core.Path.{_≡_, refl, sym, ap, _∙_, subst}
 use mathlib.Core.Bool.{Bool, true, false}
 use mathlib.Core.List.{List, [], _∷_, map}
-use lib.Dec.{eqb, leb}
+use lib.Dec.{leb}
 use lib.ListN.{length, getD, take, drop, length-drop, drop-of-length-le}
-use lib.Seq.{sets, length-sets, drop-drop, length-take-le}
+use lib.Seq.{sets, length-sets, drop-drop}
 use borrow.Author.Tests.{eq-eqb, ne-eqb, leb-true}
-use Rattle.srecord.specs.Text.{isPaired, bytesOf, valueOf, total}
 use Rattle.srecord.specs.Line.{Meaning, heading, piece, start, refused, bytes, isShaped, isSummed, addressOf, dataOf, meant, lineOf, shown}
 use Rattle.srecord.specs.File.{joined, linesOf, first, lineEnd, meaningsOf, failed, ended, judged, landed}
 use denote.Enum.Declared.{tagOf}

@@ -8,7 +8,7 @@ use mathlib.Core.Bool.{Bool, true, false}
 use mathlib.Core.List.{List, [], _∷_, _++_, append-assoc, append-nil}
 use lib.ListN.{length, take, drop, length-append, length-drop}
 use lib.Seq.{sets, length-sets, length-take-le}
-use Rattle.srecord.specs.Text.{pair, pairs, total, summed, textOf, digitOf}
+use Rattle.srecord.specs.Text.{pair, pairs, total, summed, textOf}
 use Rattle.srecord.specs.Written.{rowOf, isZero, rowText, rowsText}
 use Rattle.srecord.proofs.Laying.{sets-two, pairs-length, pairs-one}
 

@@ -3,12 +3,11 @@
 use Prim.Native.Nat.{ℕ, zero, suc, _+_, _-_, _/_, _%_, _≤_, _<_}
 use native.Mathlib.Omega.{arith}
 use mathlib.Core.Path.{_≡_, refl, sym, ap, _∙_}
-use mathlib.Core.Bool.{Bool, true, false}
+use mathlib.Core.Bool.{true}
 use mathlib.Core.List.{List, [], _∷_, _++_, append-assoc}
-use lib.Dec.{eqb, leb}
 use lib.ListN.{length, take, drop, length-append}
 use lib.Seq.{take-append-seam, getD-append-seam}
-use borrow.Author.Tests.{eq-eqb, le-leb, leb-true, eqb-true}
+use borrow.Author.Tests.{eq-eqb, le-leb}
 use Rattle.srecord.specs.Text.{pair, pairs, isPaired, bytesOf, checksum, summed, textOf}
 use Rattle.srecord.specs.Line.{most, mayHold, isShaped, isSummed, bytes, addressOf, dataOf, meant, lineOf}
 use Rattle.srecord.specs.Promises.{Bytes, LineReads}

@@ -37,9 +37,6 @@ returns c =
 returns-2 : tie.Need-returns-2 Inv-loop μ-loop
 returns-2 c = sym (ap (ended _) (no-lines (now (c .before .before .before .before .before .before .before .before .before .before .args .file)) (c .before .before .before .before .before .before .line-end .result) (c .if1 .left))) ∙ answer (c .before .before .before .before) (c .before .before .start .given .1)
 
-returns-3 : tie.Need-returns-3 Inv-loop μ-loop
-returns-3 c = c .refused2 .ensures ∙ answer (c .before .before .before .before) (c .before .before .refusal .given .1)
-
 loop-again : tie.Need-loop-again Inv-loop μ-loop
 loop-again c = (omega (arith, fits (c .before .before .before)), sym (passed (c .before .line-of .result) _ (c .match .keys3)) ∙ answer (c .before) refl)
 
@@ -51,4 +48,4 @@ pub judge-spec : {M : Type 1} → statement M
 judge-spec =
     tie.close
     (tie.spec Inv-loop μ-loop (λ c. (omega arith, refl)) (search needs) (λ c. omega (arith, fits c)) (λ c. omega (arith, fits c)) (λ c. omega (arith, fits c)) (search needs) (search needs) (search needs) returns returns-2
-    (search needs) (search needs) returns-3 (λ c. omega (arith, fits (c .before .before .before))) loop-again (search needs) returns-4)
+    (search needs) (search needs) (λ c. c .refused2 .ensures ∙ answer (c .before .before .before .before) (c .before .before .refusal .given .1)) (λ c. omega (arith, fits (c .before .before .before))) loop-again (search needs) returns-4)

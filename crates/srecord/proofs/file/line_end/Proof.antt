@@ -17,17 +17,11 @@ Inv-loop file from i₀ i = lineEnd file i ≡ lineEnd file from
 abbrev μ-loop : tie.MeasureT-loop
 μ-loop file from i₀ i = length file - i
 
-loop-holds : tie.Need-loop-holds Inv-loop μ-loop
-loop-holds c = refl
-
 returns : tie.Need-returns Inv-loop μ-loop
 returns c = omega (arith, end-found (now (c .before .before .before .before .args .file)) (c .before .before .before .loop .i) (c .before .before .loop-test .taken) (c .if1 .taken))
 
 loop-again : tie.Need-loop-again Inv-loop μ-loop
 loop-again c = omega (arith, end-on (now (c .before .before .before .before .args .file)) (c .before .before .before .loop .i) (c .before .before .loop-test .taken) (c .if1 .left))
 
-returns-2 : tie.Need-returns-2 Inv-loop μ-loop
-returns-2 c = omega (arith, end-none (now (c .before .before .args .file)) (c .before .loop .i) (c .loop-test .left))
-
 pub line-end-spec : {M : Type 1} → statement M
-line-end-spec = tie.close (tie.spec Inv-loop μ-loop loop-holds (search needs) (search needs) returns (search needs) (search needs) loop-again returns-2)
+line-end-spec = tie.close (tie.spec Inv-loop μ-loop (λ c. refl) (search needs) (search needs) returns (search needs) (search needs) loop-again (λ c. omega (arith, end-none (now (c .before .before .args .file)) (c .before .loop .i) (c .loop-test .left))))

@@ -19,18 +19,12 @@ Inv-loop mem₀ text address count first i₀ mem i = (i ≤ count) × ((length 
 abbrev μ-loop : tie.MeasureT-loop
 μ-loop mem₀ text address count first i₀ mem i = count - i
 
-loop-holds : tie.Need-loop-holds Inv-loop μ-loop
-loop-holds c = (omega arith, (refl, refl))
-
 loop-again : tie.Need-loop-again Inv-loop μ-loop
 loop-again c =
     let l = c .before .before .loop in
     let a = c .before .before .before .before .before .args in
     let n = data-length (bytes (now (a .text))) (a .count) (omega arith) in
     (omega arith, (simp length-set (l .inv .1 .0), sets-more (a .address) (l .i) (c .byte .result) (take (a .count) (drop 3 (bytes (now (a .text))))) (now (a .mem)) (l .mem) (omega arith) (l .inv .1 .1) (c .byte .ensures ∙ sym (data-at (bytes (now (a .text))) (a .count) (omega arith) (l .i) (omega arith)))))
-
-same-length : tie.Need-same-length Inv-loop μ-loop
-same-length c = c .before .loop .inv .1 .0
 
 returns : tie.Need-returns Inv-loop μ-loop
 returns c =
@@ -39,4 +33,4 @@ returns c =
     c .before .loop .inv .1 .1 ∙ rw (take-all (c .before .loop .i) (take (a .count) (drop 3 (bytes (now (a .text))))) (omega arith))
 
 pub store-data-spec : {M : Type 1} → statement M
-store-data-spec = tie.close (tie.spec Inv-loop μ-loop loop-holds (search needs) (search needs) (search needs) (search needs) (search needs) (search needs) loop-again same-length returns)
+store-data-spec = tie.close (tie.spec Inv-loop μ-loop (λ c. (omega arith, (refl, refl))) (search needs) (search needs) (search needs) (search needs) (search needs) (search needs) loop-again (λ c. c .before .loop .inv .1 .0) returns)

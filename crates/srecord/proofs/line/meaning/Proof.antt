@@ -2,21 +2,14 @@
 -- Assumes nothing.
 use borrow.Author.Needs.{needs}
 use borrow.Author.Tests.{ne-eqb, le-leb, lt-leb}
-use mathlib.Core.Path.{_≡_, _∙_}
-use Prim.Native.Nat.{_+_, _-_, _*_, _≤_, _<_}
+use Prim.Native.Nat.{_+_}
 use native.Mathlib.Omega.{arith}
 use lib.ListN.{length, getD}
 use denote.Ref.{now}
 use Rattle.srecord.specs.Line.{bytes, addressOf, dataOf}
-use Rattle.srecord.proofs.Shapes.{Shaped, is-shaped}
+use Rattle.srecord.proofs.Shapes.{is-shaped}
 use Rattle.srecord.proofs.line.meaning.Statement.{statement}
 use Rattle.srecord.proofs.line.meaning.Tie as tie
-
-returns : tie.Need-returns
-returns c = rw (c .match .keys1)
-
-returns-2 : tie.Need-returns-2
-returns-2 c = rw (c .match .keys2, c .before .before .before .before .byte .ensures, c .before .before .before .byte2 .ensures)
 
 returns-3 : tie.Need-returns-3
 returns-3 c =
@@ -35,4 +28,4 @@ meaning-spec =
     tie.close
     (tie.spec (search needs) (search needs) (search needs) (search needs) (search needs) (search needs) (search needs) (λ c. omega (arith, is-shaped (now (c .before .before .before .before .args .text)) (c .before .before .before .before .pre) .room))
     (λ c. omega (arith, is-shaped (now (c .before .before .before .before .before .args .text)) (c .before .before .before .before .before .pre) .size)) (search needs)
-    (λ c. omega (arith, is-shaped (now (c .before .before .before .before .before .before .args .text)) (c .before .before .before .before .before .before .pre) .size)) returns returns-2 returns-3 returns-4)
+    (λ c. omega (arith, is-shaped (now (c .before .before .before .before .before .before .args .text)) (c .before .before .before .before .before .before .pre) .size)) (λ c. rw (c .match .keys1)) (λ c. rw (c .match .keys2, c .before .before .before .before .byte .ensures, c .before .before .before .byte2 .ensures)) returns-3 returns-4)

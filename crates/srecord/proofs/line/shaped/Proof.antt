@@ -9,12 +9,6 @@ use Rattle.srecord.proofs.Shapes.{shape-short, shape-first, shape-paire
 use Rattle.srecord.proofs.line.shaped.Statement.{statement}
 use Rattle.srecord.proofs.line.shaped.Tie as tie
 
-returns : tie.Need-returns
-returns c = shape-short (now (c .before .before .args .text)) (c .if1 .taken)
-
-returns-2 : tie.Need-returns-2
-returns-2 c = shape-first (now (c .before .before .before .before .args .text)) (c .if2 .taken)
-
 returns-3 : tie.Need-returns-3
 returns-3 c = shape-paired (now (c .before .before .before .before .before .before .before .args .text)) (sym (c .before .paired .ensures) ∙ not-true _ (c .if3 .taken))
 
@@ -30,4 +24,4 @@ returns-6 c =
     (shape-kind (now (c .before .before .before .before .before .before .before .before .before .before .before .before .before .args .text)) (c .before .before .before .before .before .before .before .before .before .if2 .left) (sym (c .before .before .before .before .before .before .before .paired .ensures) ∙ not-false _ (c .before .before .before .before .before .before .if3 .left)) (omega arith) (omega arith))
 
 pub shaped-spec : {M : Type 1} → statement M
-shaped-spec = tie.close (tie.spec returns (search needs) returns-2 (search needs) (search needs) (search needs) (search needs) returns-3 (search needs) returns-4 (search needs) (search needs) (search needs) returns-5 (search needs) (search needs) returns-6)
+shaped-spec = tie.close (tie.spec (λ c. shape-short (now (c .before .before .args .text)) (c .if1 .taken)) (search needs) (λ c. shape-first (now (c .before .before .before .before .args .text)) (c .if2 .taken)) (search needs) (search needs) (search needs) (search needs) returns-3 (search needs) returns-4 (search needs) (search needs) (search needs) returns-5 (search needs) (search needs) returns-6)

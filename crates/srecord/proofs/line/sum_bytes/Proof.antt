@@ -27,8 +27,5 @@ loop-again c =
     let l = c .before .before .before .loop in
     (omega arith, c .wrapping-add-u8 .ensures ∙ sum-more (bytes (now (c .before .before .before .before .before .args .text))) (l .i) _ _ (omega arith) (l .inv .1) (c .before .byte .ensures))
 
-returns : tie.Need-returns Inv-loop μ-loop
-returns c = let e : c .before .loop .i ≡ c .before .before .before .args .n = omega arith in c .before .loop .inv .1 ∙ rw e
-
 pub sum-bytes-spec : {M : Type 1} → statement M
-sum-bytes-spec = tie.close (tie.spec Inv-loop μ-loop loop-holds (search needs) (search needs) (search needs) (search needs) loop-again returns)
+sum-bytes-spec = tie.close (tie.spec Inv-loop μ-loop loop-holds (search needs) (search needs) (search needs) (search needs) loop-again (λ c. let e : c .before .loop .i ≡ c .before .before .before .args .n = omega arith in c .before .loop .inv .1 ∙ rw e))

@@ -4,7 +4,7 @@ use native.Mathlib.Omega.{arith}
 use borrow.Author.Needs.{needs}
 use denote.Ref.{now}
 use Rattle.srecord.specs.Line.{isSummed}
-use Rattle.srecord.proofs.Shapes.{Shaped, is-shaped}
+use Rattle.srecord.proofs.Shapes.{is-shaped}
 use Rattle.srecord.proofs.line.summed.Statement.{statement}
 use Rattle.srecord.proofs.line.summed.Tie as tie
 

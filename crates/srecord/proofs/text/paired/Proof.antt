@@ -19,9 +19,6 @@ Inv-loop text i₀ i = (i ≤ length text) × (isPaired (drop i text) ≡ isPair
 abbrev μ-loop : tie.MeasureT-loop
 μ-loop text i₀ i = length text - i
 
-loop-holds : tie.Need-loop-holds Inv-loop μ-loop
-loop-holds c = (omega arith, refl)
-
 returns : tie.Need-returns Inv-loop μ-loop
 returns c =
     let d : isDigit (getD (now (c .before .before .before .before .before .before .before .before .args .text)) (c .before .before .before .before .before .before .loop .i) 0) && isDigit (getD (now (c .before .before .before .before .before .before .before .before .args .text)) (c .before .before .before .before .before .before .loop .i + 1) 0) ≡ false =
@@ -41,4 +38,4 @@ returns-3 : tie.Need-returns-3 Inv-loop μ-loop
 returns-3 c = sym (paired-none (now (c .before .before .before .before .args .text)) (c .before .before .loop .i) (omega arith)) ∙ c .before .before .loop .inv .1
 
 pub paired-spec : {M : Type 1} → statement M
-paired-spec = tie.close (tie.spec Inv-loop μ-loop loop-holds (search needs) (search needs) (search needs) (search needs) (search needs) (search needs) returns (search needs) (search needs) loop-again (search needs) returns-2 returns-3)
+paired-spec = tie.close (tie.spec Inv-loop μ-loop (λ c. (omega arith, refl)) (search needs) (search needs) (search needs) (search needs) (search needs) (search needs) returns (search needs) (search needs) loop-again (search needs) returns-2 returns-3)

@@ -25,8 +25,5 @@ loop-holds c = (omega arith, refl)
 loop-again : tie.Need-loop-again Inv-loop μ-loop
 loop-again c = (omega arith, c .wrapping-add-u8 .ensures ∙ sum-more (now (c .before .before .before .before .before .args .list)) (c .before .before .before .loop .i) _ _ (omega arith) (c .before .before .before .loop .inv .1) refl)
 
-returns : tie.Need-returns Inv-loop μ-loop
-returns c = c .before .loop .inv .1 ∙ rw (take-all (c .before .loop .i) (now (c .before .before .before .args .list)) (omega arith))
-
 pub sum-of-spec : {M : Type 1} → statement M
-sum-of-spec = tie.close (tie.spec Inv-loop μ-loop loop-holds (search needs) (search needs) (search needs) (search needs) loop-again returns)
+sum-of-spec = tie.close (tie.spec Inv-loop μ-loop loop-holds (search needs) (search needs) (search needs) (search needs) loop-again (λ c. c .before .loop .inv .1 ∙ rw (take-all (c .before .loop .i) (now (c .before .before .before .args .list)) (omega arith))))

@@ -15,17 +15,5 @@ Inv-loop row i₀ i = isZero (drop i row) ≡ isZero row
 abbrev μ-loop : tie.MeasureT-loop
 μ-loop row i₀ i = length row - i
 
-loop-holds : tie.Need-loop-holds Inv-loop μ-loop
-loop-holds c = refl
-
-returns : tie.Need-returns Inv-loop μ-loop
-returns c = sym (zero-not _ _ (c .before .before .loop-test .taken) (c .if1 .taken)) ∙ c .before .before .before .loop .inv
-
-loop-again : tie.Need-loop-again Inv-loop μ-loop
-loop-again c = sym (zero-on _ _ (c .before .before .loop-test .taken) (c .if1 .left)) ∙ c .before .before .before .loop .inv
-
-returns-2 : tie.Need-returns-2 Inv-loop μ-loop
-returns-2 c = sym (zero-none _ _ (c .loop-test .left)) ∙ c .before .loop .inv
-
 pub all-zero-spec : {M : Type 1} → statement M
-all-zero-spec = tie.close (tie.spec Inv-loop μ-loop loop-holds (search needs) returns (search needs) (search needs) loop-again returns-2)
+all-zero-spec = tie.close (tie.spec Inv-loop μ-loop (λ c. refl) (search needs) (λ c. sym (zero-not _ _ (c .before .before .loop-test .taken) (c .if1 .taken)) ∙ c .before .before .before .loop .inv) (search needs) (search needs) (λ c. sym (zero-on _ _ (c .before .before .loop-test .taken) (c .if1 .left)) ∙ c .before .before .before .loop .inv) (λ c. sym (zero-none _ _ (c .loop-test .left)) ∙ c .before .loop .inv))

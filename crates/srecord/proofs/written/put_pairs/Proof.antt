@@ -29,11 +29,8 @@ loop-again c =
     let a = c .before .before .before .before .before .before .before .before .before .before .before .args in
     (omega arith, (ap length e ∙ simp length-set (l .inv .1 .0), e ∙ pairs-more (a .at) (l .i) (now (a .list)) (now (a .out)) (l .out) (omega arith) (l .inv .1 .1)))
 
-same-length : tie.Need-same-length Inv-loop μ-loop
-same-length c = c .before .loop .inv .1 .0
-
 returns : tie.Need-returns Inv-loop μ-loop
 returns c = c .before .loop .inv .1 .1 ∙ rw (take-all (c .before .loop .i) (now (c .before .before .before .before .args .list)) (omega arith))
 
 pub put-pairs-spec : {M : Type 1} → statement M
-put-pairs-spec = tie.close (tie.spec Inv-loop μ-loop loop-holds (search needs) (search needs) (search needs) (search needs) (search needs) (search needs) (search needs) (search needs) loop-again same-length returns)
+put-pairs-spec = tie.close (tie.spec Inv-loop μ-loop loop-holds (search needs) (search needs) (search needs) (search needs) (search needs) (search needs) (search needs) (search needs) loop-again (λ c. c .before .loop .inv .1 .0) returns)

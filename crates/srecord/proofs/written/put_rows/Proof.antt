@@ -48,11 +48,8 @@ loop-again c =
     (c .if1 .came) in
     (omega arith, (done .ends, (done .keeps, done .holds)))
 
-same-length : tie.Need-same-length Inv-loop μ-loop
-same-length c = c .before .loop .inv .1 .1 .0
-
 returns : tie.Need-returns Inv-loop μ-loop
 returns c = let e : c .before .loop .k ≡ 2048 = omega arith in (rw (← e) (c .before .loop .inv .1 .0), rw (← e) (c .before .loop .inv .1 .1 .1))
 
 pub put-rows-spec : {M : Type 1} → statement M
-put-rows-spec = tie.close (tie.spec Inv-loop μ-loop loop-holds (search needs) (search needs) (search needs) (search needs) (search needs) (search needs) (search needs) (search needs) put-line-requires add-at (search needs) (search needs) loop-again same-length returns)
+put-rows-spec = tie.close (tie.spec Inv-loop μ-loop loop-holds (search needs) (search needs) (search needs) (search needs) (search needs) (search needs) (search needs) (search needs) put-line-requires add-at (search needs) (search needs) loop-again (λ c. c .before .loop .inv .1 .1 .0) returns)

@@ -34,8 +34,5 @@ loop-again c =
     (omega arith, (omega (arith, v .1), omega (arith, v .1))))
     (c .if1 .came)
 
-returns : tie.Need-returns Inv-loop μ-loop
-returns c = let e : c .before .loop .k ≡ 2048 = omega arith in c .before .loop .inv .1 .1 ∙ rw e
-
 pub rows-length-spec : {M : Type 1} → statement M
-rows-length-spec = tie.close (tie.spec Inv-loop μ-loop loop-holds (search needs) (search needs) (search needs) (search needs) (search needs) (search needs) (search needs) (search needs) (search needs) loop-again returns)
+rows-length-spec = tie.close (tie.spec Inv-loop μ-loop loop-holds (search needs) (search needs) (search needs) (search needs) (search needs) (search needs) (search needs) (search needs) (search needs) loop-again (λ c. let e : c .before .loop .k ≡ 2048 = omega arith in c .before .loop .inv .1 .1 ∙ rw e))
