@@ -2,14 +2,14 @@
 -- Assumes nothing.
 use borrow.Author.Needs.{needs}
 use borrow.Author.Tests.{not-true, not-false}
-use Prim.Native.Nat.{_+_, _-_, _*_, _≤_}
-use mathlib.Core.Path.{_≡_, refl, ap, _∙_}
+use Prim.Native.Nat.{_-_, _*_, _≤_}
+use mathlib.Core.Path.{_≡_, refl, sym, ap, _∙_}
 use mathlib.Core.Logic.{⊎-elim}
 use native.Mathlib.Omega.{arith}
 use lib.ListN.{length}
 use denote.Ref.{now}
-use Rattle.srecord.proofs.Rows.{row-skip, row-length}
-use Rattle.srecord.specs.Written.{rowsText}
+use Rattle.srecord.proofs.Rows.{row-part, row-length, row-skip}
+use Rattle.srecord.specs.Written.{isZero, rowsText}
 use Rattle.srecord.proofs.written.rows_length.Statement.{statement}
 use Rattle.srecord.proofs.written.rows_length.Tie as tie
 
@@ -25,12 +25,15 @@ loop-holds c = (omega arith, (omega arith, refl))
 
 loop-again : tie.Need-loop-again Inv-loop μ-loop
 loop-again c =
+    let m = now (c .before .before .before .before .before .before .args .mem) in
+    let k = c .before .before .before .before .loop .k in
+    let z = sym (c .before .all-zero .ensures ∙ ap isZero (row-part m k)) in
     ⊎-elim
     (λ v.
-    let r = row-length (now (c .before .before .before .before .before .before .args .mem)) (c .before .before .before .before .loop .k) (32 * (c .before .before .before .before .loop .k) + 32 - 32 * (c .before .before .before .before .loop .k)) (omega arith) _ (c .before .all-zero .ensures) (c .before .before .before .before .before .before .pre) (c .before .before .before .loop-test .taken) (not-true _ (v .0 .taken)) in
+    let r = row-length m k (c .before .before .before .before .before .before .pre) (c .before .before .before .loop-test .taken) (z ∙ not-true _ (v .0 .taken)) in
     (omega arith, (omega (arith, v .1), omega (arith, v .1))))
     (λ v.
-    let r = ap length (row-skip (now (c .before .before .before .before .before .before .args .mem)) (c .before .before .before .before .loop .k) (32 * (c .before .before .before .before .loop .k) + 32 - 32 * (c .before .before .before .before .loop .k)) (omega arith) _ (c .before .all-zero .ensures) (not-false _ (v .0 .left))) in
+    let r = ap length (row-skip m k (z ∙ not-false _ (v .0 .left))) in
     (omega arith, (omega (arith, v .1), omega (arith, v .1))))
     (c .if1 .came)
 
