@@ -16,9 +16,9 @@ use Rattle.answers.specs.declared.Answer.{Answer}
 use Rattle.answers.specs.declared.Answer.the-variants.{Done, Refused}
 use Rattle.srecord.specs.declared.Loaded.{Loaded}
 use Rattle.answers.specs.declared.Refusal.{Refusal}
-use Rattle.answers.specs.declared.Refusal.the-variants.{MemoryLength, OutputShort, LineShape, Checksum, PastTop, NoEnd}
+use Rattle.answers.specs.declared.Refusal.the-variants.{MemoryLength, OutputShort}
 use Rattle.answers.proofs.Numbers.{refused-by-a-number}
-use Rattle.srecord.specs.declared.Written.{Written}
+use Rattle.srecord.specs.declared.written.Written.{Written}
 use Rattle.srecord.proofs.Laying.{sets-two}
 use Rattle.srecord.proofs.Rows.{text-length}
 

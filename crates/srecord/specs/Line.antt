@@ -1,13 +1,13 @@
 -- What one line means: its kind, address and data, or why it is refused. A line is its text with its line feed.
 -- Assumes nothing.
 use Prim.Native.Nat.{ℕ, _+_, _-_, _*_}
-use mathlib.Core.Bool.{Bool, true, false, cond, _&&_, _||_}
+use mathlib.Core.Bool.{Bool, cond, _&&_}
 use mathlib.Core.List.{List}
 use lib.Dec.{eqb, leb}
 use lib.ListN.{length, getD, take, drop}
 use Rattle.srecord.specs.Text.{letterS, kind0, kind1, kind9, isPaired, bytesOf, checksum}
-use Rattle.srecord.specs.declared.Line.{Line}
-use Rattle.srecord.specs.declared.Line.the-variants.{Header, Data, End, Bad}
+use Rattle.srecord.specs.declared.line.Line.{Line}
+use Rattle.srecord.specs.declared.line.Line.the-variants.{Header, Data, End, Bad}
 use Rattle.answers.specs.declared.Refusal.{Refusal}
 use Rattle.answers.specs.declared.Refusal.the-variants.{LineShape, Checksum, PastTop}
 
