@@ -20,18 +20,16 @@ use Rattle.memory.proofs.Fits.{bytes-set, bytes-stored}
 use Rattle.memory.proofs.Folds.{length-stored}
 use Rattle.machine.specs.Machine.{MachineFits}
 use Rattle.calls.specs.Plans.{PlanFits}
-use Rattle.calls.specs.Steps.{stepPlan}
 use Rattle.machine.specs.declared.Settings.{Settings}
 use Rattle.calls.specs.declared.Plan.{Plan}
 use Rattle.machine.specs.declared.Machine.{Machine}
-use Rattle.calls.proofs.Laws.{twelve-writes, step-fits, interrupt-twelve, reset-twelve, interrupt-fits, reset-fits}
-use Rattle.calls.specs.Interrupts.{interruptPlan}
-use Rattle.calls.specs.Resets.{resetPlan}
+use Rattle.calls.specs.Calls.{Call, step, interrupt, reset, settingsIn, planOf}
+use Rattle.calls.proofs.Laws.{few-writes, call-fits}
 use Rattle.machine.specs.Record.{machineOf}
 use Rattle.journal.specs.Record.{encode, waitAt, countOf, entriesOf}
 use Rattle.journal.specs.Recorded.{State, ending, need, recordAt, withRecord, savedFor, admitted, callAnswer, recorded, concluded, called, whileWaiting}
 use Rattle.journal.specs.Undos.{newestIn, undoAnswer, putBack, restored, undone}
-use Rattle.journal.specs.Sequence.{Call, step, interrupt, reset, All, Window, Event, forward, back, host, Legal, Snap, World, push, pop, hostWrites, call, next, run, start, BringsBack, Undoes, Unchanged, Demand3}
+use Rattle.journal.specs.Sequence.{All, Window, Event, forward, back, host, Legal, Snap, World, push, pop, hostWrites, call, next, run, start, BringsBack, Undoes, Unchanged, Demand3}
 use Rattle.journal.proofs.Answers.{unless-done, admitted-done}
 use Rattle.journal.proofs.Laying.{saved-few}
 use Rattle.journal.proofs.Reading.{machine-back, wait-at, count-back, entries-back, length-encode}
@@ -211,52 +209,32 @@ call-inv : (set : Settings) (a : Answer) (s : State) (past : List Snap) (f : Pla
 call-inv set Done s past f t v = recorded-inv set s past f (t refl) v
 call-inv set (Refused x) s past f t v = v
 
--- what a forward call is refused by before 10, its settings, and its plan
+-- what a forward call is refused by before 10
 abbrev earlyOf : Call → Machine → Answer
 earlyOf (step t) m = whileWaiting (m .wait)
 earlyOf (interrupt t i) m = Done
 earlyOf (reset t) m = Done
 
-abbrev settingsOf : Call → Settings
-settingsOf (step t) = t
-settingsOf (interrupt t i) = t
-settingsOf (reset t) = t
-
-abbrev planBy : Call → Machine → List ℕ → Plan
-planBy (step t) m mem = stepPlan mem m t
-planBy (interrupt t i) m mem = interruptPlan mem m t i
-planBy (reset t) m mem = resetPlan mem m
-
-call-is : (c : Call) (s : State) → call c s ≡ called (earlyOf c (s .twin .machine)) (settingsOf c) (planBy c (s .twin .machine) (s .memory)) s
+call-is : (c : Call) (s : State) → call c s ≡ called (earlyOf c (s .twin .machine)) (settingsIn c) (planOf c (s .memory) (s .twin .machine)) s
 call-is (step t) s = refl
 call-is (interrupt t i) s = refl
 call-is (reset t) s = refl
 
-plan-few : (c : Call) (m : Machine) (mem : List ℕ) → length (listed (planBy c m mem .writes)) ≤ 12
-plan-few (step t) m mem = twelve-writes mem m t
-plan-few (interrupt t i) m mem = interrupt-twelve mem m t i
-plan-few (reset t) m mem = reset-twelve mem m
-
-plan-fits : (c : Call) (m : Machine) (mem : List ℕ) → MachineFits m → Bytes mem → PlanFits (planBy c m mem)
-plan-fits (step t) m mem h b = step-fits mem m t h b
-plan-fits (interrupt t i) m mem h b = interrupt-fits mem m t i h b
-plan-fits (reset t) m mem h b = reset-fits mem m h b
-
 taken : (c : Call) (s : State) → MachineFits (s .twin .machine) → Bytes (s .memory)
-    → callAnswer (earlyOf c (s .twin .machine)) (planBy c (s .twin .machine) (s .memory)) s ≡ Done → Taken s (planBy c (s .twin .machine) (s .memory))
+    → callAnswer (earlyOf c (s .twin .machine)) (planOf c (s .memory) (s .twin .machine)) s ≡ Done → Taken s (planOf c (s .memory) (s .twin .machine))
 taken c s f b e =
     let m = s .twin .machine in
     let e1 = unless-done (admitted (length (s .memory)) (length (s .journal)) (s .twin .used) (earlyOf c m)) _ e in
     let h = admitted-done (length (s .memory)) (length (s .journal)) (s .twin .used) (earlyOf c m) (e1 .0) in
-    record { size = h .size; space = h .space; few = plan-few c m (s .memory); lawful = plan-fits c m (s .memory) f b }
+    record { size = h .size; space = h .space; few = few-writes c (s .memory) m; lawful = call-fits c (s .memory) m f b }
 
 next-inv : (e : Event) (w : World) → Legal e → Inv (w .now) (w .past) → Inv (next e w .now) (next e w .past)
 unfolding next called
 next-inv (forward c) w l v =
     let m = w .now .twin .machine in
-    let f = planBy c m (w .now .memory) in
+    let f = planOf c (w .now .memory) m in
     rw (call-is c (w .now))
-    (call-inv (settingsOf c) (callAnswer (earlyOf c m) f (w .now)) (w .now) (w .past) f (taken c (w .now) (v .sound) (v .bytes)) v)
+    (call-inv (settingsIn c) (callAnswer (earlyOf c m) f (w .now)) (w .now) (w .past) f (taken c (w .now) (v .sound) (v .bytes)) v)
 next-inv back w l v = undo-inv (w .now) (w .past) v
 next-inv (host a b) w l v = host-inv (w .now) (w .past) a b (l .0) (l .1) v
 
@@ -269,10 +247,10 @@ called-stays : (c : Call) (s : State) → call c s .answer ≢ Done → Unchange
 unfolding called
 called-stays c s =
     let m = s .twin .machine in
-    let f = planBy c m (s .memory) in
+    let f = planOf c (s .memory) m in
     let a = callAnswer (earlyOf c m) f s in
-    let ds = reported (settingsOf c .«ram_top») (listed (f .writes)) in
-    rw (call-is c s) (λ h. stays a s (recorded (settingsOf c) f s) ds (λ e. h (answered a s (recorded (settingsOf c) f s) ds ∙ e)))
+    let ds = reported (settingsIn c .«ram_top») (listed (f .writes)) in
+    rw (call-is c s) (λ h. stays a s (recorded (settingsIn c) f s) ds (λ e. h (answered a s (recorded (settingsIn c) f s) ds ∙ e)))
 
 undone-stays : (s : State) → undone s .answer ≢ Done → Unchanged s (undone s)
 unfolding undone

@@ -18,8 +18,7 @@ use Rattle.answers.specs.declared.Answer.the-variants.{Done, Refused}
 use Rattle.answers.specs.declared.Refusal.the-variants.{MemoryLength, NoRecord}
 use Rattle.machine.specs.Machine.{MachineFits}
 use Rattle.machine.specs.declared.Machine.{Machine}
-use Rattle.machine.specs.declared.Settings.{Settings}
-use Rattle.calls.specs.declared.InterruptType.{InterruptType}
+use Rattle.calls.specs.Calls.{Call, step, interrupt, reset}
 use Rattle.journal.specs.Record.{recordLength}
 use Rattle.journal.specs.Recorded.{State, Ended, need, stepped, interrupted, wasReset}
 use Rattle.journal.specs.Undos.{undone}
@@ -35,12 +34,7 @@ All P (x ∷ xs) = P x × All P xs
 abbrev pub Window : ℕ → Type 0
 Window i = (0xFF00 ≤ i) × (i < 0xFFE0)
 
--- A forward call, with the settings that it is given, and how it ends: what the statements of the code cite
-pub data Call : Type 0 where
-  step : Settings → Call
-  interrupt : Settings → InterruptType → Call
-  reset : Settings → Call
-
+-- How a forward call ends: what the statements of the code cite
 abbrev pub call : Call → State → Ended
 call (step t) s = stepped t s
 call (interrupt t i) s = interrupted t i s
