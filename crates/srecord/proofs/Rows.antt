@@ -22,7 +22,7 @@ pub sum-fields : (c h l t : ℕ) (d : List ℕ) → t ≡ (total (c ∷ h ∷ l 
 unfolding total
 sum-fields c h l t d e = omega arith
 
--- the parts of a line, each stored behind the one before it
+-- the parts of a line, each stored right after the one before
 module _ (at kind a sum : ℕ) (d out o₁ o₂ o₃ o₄ o₅ : List ℕ)
     (e₁ : o₁ ≡ sets out at (83 ∷ kind ∷ []))
     (e₂ : o₂ ≡ sets o₁ (at + 2) (pairs ((length d + 3) ∷ a / 256 ∷ a % 256 ∷ [])))
@@ -69,7 +69,7 @@ module _ (at kind a sum : ℕ) (d out o₁ o₂ o₃ o₄ o₅ : List ℕ)
       let same : ((((h ++ f) ++ pairs d) ++ pair (255 - sum)) ++ (10 ∷ [])) ≡ textOf kind a d = rw s (ap (λ (l : List ℕ). (h ++ f) ++ l) (append-assoc (pairs d) (pair (255 - total (summed a d) % 256)) (10 ∷ []))) in
       e₅ ∙ last ∙ ap (λ (l : List ℕ). sets out at l) same
 
--- row k, as the part of memory that the code lends
+-- row k as a part of memory: its start and end are 32 k and 32 k + 32
 pub row-part : (mem : List ℕ) (k : ℕ) → take (32 * k + 32 - 32 * k) (drop (32 * k) mem) ≡ rowOf mem k
 row-part mem k = let e : 32 * k + 32 - 32 * k ≡ 32 = omega arith in rw e
 

@@ -4,7 +4,7 @@ use borrow.Author.Needs.{needs}
 use borrow.Author.Tests.{not-true, not-false}
 use Prim.Native.Nat.{_+_, _-_, _≤_}
 use mathlib.Core.Path.{_≡_, refl, sym, _∙_}
-use mathlib.Core.Bool.{true, false, _&&_}
+use mathlib.Core.Bool.{Bool, _&&_}
 use native.Mathlib.Omega.{arith}
 use lib.ListN.{length, getD, drop}
 use denote.Ref.{now}
@@ -19,17 +19,16 @@ Inv-loop text i₀ i = (i ≤ length text) × (isPaired (drop i text) ≡ isPair
 abbrev μ-loop : tie.MeasureT-loop
 μ-loop text i₀ i = length text - i
 
+-- the test of the pair at i
+tested : (c : tie.After-is-digit2 Inv-loop μ-loop) {w : Bool} → (c .before .before .is-digit .result && c .is-digit2 .result) ≡ w
+    → (isDigit (getD (now (c .before .before .before .before .before .before .before .args .text)) (c .before .before .before .before .before .loop .i) 0) && isDigit (getD (now (c .before .before .before .before .before .before .before .args .text)) (c .before .before .before .before .before .loop .i + 1) 0)) ≡ w
+tested c e = rw (← c .before .before .is-digit .ensures, ← c .is-digit2 .ensures) e
+
 returns : tie.Need-returns Inv-loop μ-loop
-returns c =
-    let d : isDigit (getD (now (c .before .before .before .before .before .before .before .before .args .text)) (c .before .before .before .before .before .before .loop .i) 0) && isDigit (getD (now (c .before .before .before .before .before .before .before .before .args .text)) (c .before .before .before .before .before .before .loop .i + 1) 0) ≡ false =
-    rw (← c .before .before .before .is-digit .ensures, ← c .before .is-digit2 .ensures) (not-true _ (c .if1 .taken)) in
-    sym (paired-not (now (c .before .before .before .before .before .before .before .before .args .text)) (c .before .before .before .before .before .before .loop .i) (omega arith) d) ∙ c .before .before .before .before .before .before .loop .inv .1
+returns c = sym (paired-not (now (c .before .before .before .before .before .before .before .before .args .text)) (c .before .before .before .before .before .before .loop .i) (omega arith) (tested (c .before) (not-true _ (c .if1 .taken)))) ∙ c .before .before .before .before .before .before .loop .inv .1
 
 loop-again : tie.Need-loop-again Inv-loop μ-loop
-loop-again c =
-    let d : isDigit (getD (now (c .before .before .before .before .before .before .before .before .args .text)) (c .before .before .before .before .before .before .loop .i) 0) && isDigit (getD (now (c .before .before .before .before .before .before .before .before .args .text)) (c .before .before .before .before .before .before .loop .i + 1) 0) ≡ true =
-    rw (← c .before .before .before .is-digit .ensures, ← c .before .is-digit2 .ensures) (not-false _ (c .if1 .left)) in
-    (omega arith, sym (paired-on (now (c .before .before .before .before .before .before .before .before .args .text)) (c .before .before .before .before .before .before .loop .i) (omega arith) d) ∙ c .before .before .before .before .before .before .loop .inv .1)
+loop-again c = (omega arith, sym (paired-on (now (c .before .before .before .before .before .before .before .before .args .text)) (c .before .before .before .before .before .before .loop .i) (omega arith) (tested (c .before) (not-false _ (c .if1 .left)))) ∙ c .before .before .before .before .before .before .loop .inv .1)
 
 returns-2 : tie.Need-returns-2 Inv-loop μ-loop
 returns-2 c = sym (paired-last (now (c .before .before .before .before .before .args .text)) (c .before .before .before .loop .i) (omega arith)) ∙ c .before .before .before .loop .inv .1

@@ -1,4 +1,4 @@
--- `put_line`: five texts, each stored behind the one before it, are the line.
+-- `put_line`: five texts, each stored right after the one before, are the line.
 -- Assumes nothing.
 use borrow.Author.Needs.{needs}
 use mathlib.Core.Path.{_∙_}
