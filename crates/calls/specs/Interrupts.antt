@@ -13,14 +13,15 @@ use Rattle.registers.specs.ConditionCodes.{flag}
 use Rattle.registers.specs.declared.CCBit.the-variants.{I, F}
 use Rattle.registers.specs.declared.CCBits.{CCBits}
 use Rattle.registers.specs.declared.Set.{Set}
+use Rattle.machine.specs.Effect.{changes}
 use Rattle.machine.specs.declared.Effect.{Effect}
 use Rattle.machine.specs.declared.Machine.{Machine}
 use Rattle.machine.specs.declared.Settings.{Settings}
 use Rattle.machine.specs.declared.Wait.{Wait}
 use Rattle.machine.specs.declared.Wait.the-variants.{Running, Cwai, Sync}
-use Rattle.vectors.specs.Vectors.{served, servedStacked}
-use Rattle.vectors.specs.declared.Vector.{Vector}
-use Rattle.vectors.specs.declared.Vector.the-variants.{Irq as IRQ, Firq as FIRQ, Nmi as NMI}
+use Rattle.vectors.specs.Service.{vectored, served}
+use Rattle.vectors.specs.declared.table.Vector.{Vector}
+use Rattle.vectors.specs.declared.table.Vector.the-variants.{Irq as IRQ, Firq as FIRQ, Nmi as NMI}
 use Rattle.calls.specs.Plans.{refusedWith, accepted, withRegisters, carriedOut, memoryWith}
 use Rattle.calls.specs.declared.InterruptType.{InterruptType}
 use Rattle.calls.specs.declared.InterruptType.the-variants.{Irq, Firq, Nmi}
@@ -42,7 +43,7 @@ isMasked Nmi cc = false
 abbrev pub taken : Wait → List ℕ → Settings → Set → Vector → Effect
 taken Running mem s r v = served mem s r v
 taken Sync mem s r v = served mem s r v
-taken Cwai mem s r v = servedStacked mem s r v
+taken Cwai mem s r v = vectored mem s r (changes r) v
 
 -- a masked one ends SYNC and nothing else
 abbrev pub afterMasked : Wait → Wait

@@ -15,8 +15,8 @@ use Rattle.machine.specs.declared.Machine.{Machine}
 use Rattle.machine.specs.declared.Settings.{Settings}
 use Rattle.machine.specs.declared.Wait.the-variants.{Running}
 use Rattle.operations.specs.Branches.{jumped}
-use Rattle.vectors.specs.Vectors.{addressOf}
-use Rattle.vectors.specs.declared.Vector.the-variants.{Reset}
+use Rattle.vectors.specs.Table.{addressOf}
+use Rattle.vectors.specs.declared.table.Vector.the-variants.{Reset}
 use Rattle.calls.specs.Plans.{refusedWith, accepted, withRegisters, carriedOut, memoryWith}
 use Rattle.calls.specs.declared.Plan.{Plan}
 use Rattle.calls.specs.declared.Report.{Report}

@@ -40,14 +40,14 @@ fn is_masked(which: InterruptType, cc: CCBits) -> bool
     }
 }
 
-// CWAI has stacked the registers already.
+// In CWAI the registers are stacked already: nothing is stacked again.
 fn take(mem: &[u8], settings: Settings, wait: Wait, regs: Set, vector: Vector) -> Effect
     ensures { λ r. ⌜ r ≡ taken wait (now (mem .entry)) settings regs vector ⌝ }
 {
     match wait {
         Wait::Running => vectors::serve(mem, settings, regs, vector),
         Wait::Sync => vectors::serve(mem, settings, regs, vector),
-        Wait::Cwai => vectors::serve_stacked(mem, settings, regs, vector),
+        Wait::Cwai => vectors::take_vector(mem, settings, regs, Effect::changes(regs), vector),
     }
 }
 
