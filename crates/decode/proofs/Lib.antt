@@ -1,0 +1,2 @@
+pub mod PostBytes
+pub mod Refused

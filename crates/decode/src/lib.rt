@@ -1,0 +1,9 @@
+// Decoding: the bytes at PC to an instruction or a refusal. No register and no pointer is read.
+mod postbyte;
+
+pub use postbyte::Form;
+pub use postbyte::PostByte;
+pub use postbyte::five_bits;
+pub use postbyte::form_of;
+pub use postbyte::index_of;
+pub use postbyte::is_indirect;
