@@ -1,2 +1,4 @@
 pub mod PostBytes
 pub mod Refused
+pub mod Reaching
+pub mod Forms

@@ -1,1 +1,2 @@
 pub mod PostByte
+pub mod Operand

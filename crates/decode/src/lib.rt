@@ -1,6 +1,12 @@
 // Decoding: the bytes at PC to an instruction or a refusal. No register and no pointer is read.
+mod operand;
 mod postbyte;
 
+pub use operand::Indexed;
+pub use operand::Operand;
+pub use operand::OperandRead;
+pub use operand::operand_at;
+pub use operand::signed_byte;
 pub use postbyte::Form;
 pub use postbyte::PostByte;
 pub use postbyte::five_bits;
