@@ -1,4 +1,5 @@
 pub mod PostBytes
-pub mod Refused
 pub mod Reaching
 pub mod Forms
+pub mod Refused
+pub mod Unique

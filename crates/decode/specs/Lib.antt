@@ -1,2 +1,3 @@
 pub mod PostByte
 pub mod Operand
+pub mod Decode

@@ -1,7 +1,11 @@
 // Decoding: the bytes at PC to an instruction or a refusal. No register and no pointer is read.
+mod instruction;
 mod operand;
 mod postbyte;
 
+pub use instruction::Decoded;
+pub use instruction::Instruction;
+pub use instruction::decode;
 pub use operand::Indexed;
 pub use operand::Operand;
 pub use operand::OperandRead;
