@@ -1,4 +1,1 @@
-pub mod PostByte
-pub mod Decode
-pub mod Resolve
-pub mod Numbers
+pub mod Address

@@ -1,0 +1,3 @@
+pub mod PostByte
+pub mod Operand
+pub mod Decode
