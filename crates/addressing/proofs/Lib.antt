@@ -1,2 +1,4 @@
 pub mod Sums
+pub mod Refusals
+pub mod Widths
 pub mod Unique
