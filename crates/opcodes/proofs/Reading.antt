@@ -18,7 +18,7 @@ use Rattle.opcodes.specs.declared.Page.{Page}
 use Rattle.opcodes.specs.declared.Page.the-variants.{Plain, Ten, Eleven}
 use Rattle.opcodes.specs.declared.Place.{Place}
 use Rattle.opcodes.specs.declared.Place.the-variants.{Instruction, None}
-use Rattle.opcodes.proofs.Rows.{in-values, alike, NotIn, isIn, not-in, down, last}
+use Rattle.opcodes.proofs.Rows.{in-values, alike, NotIn, isIn, not-in}
 
 -- the two digits of a byte lead to its place
 pub in-row : (page : Page) (code : ℕ) → getD (rowOf page (code / 16)) (code % 16) None ≡ entryOf page code
@@ -40,11 +40,8 @@ pub there : (row : List Place) (k : ℕ) {x : ℕ} → x ≡ k → k < length ro
 there row k q h = within row k blank None h ∙ ap (λ (i : ℕ). getD row i None) (sym q)
 
 -- an arm of the match on the high digit: the row that is called, read at the low one
-pub picked : (f : ℕ → List Place) (low : ℕ) {x k : ℕ} {row : List Place} {r : Place} → r ≡ getD row low None → row ≡ f k → x ≡ k → r ≡ getD (f x) low None
-picked f low p q m = p ∙ ap (λ (l : List Place). getD l low None) (q ∙ ap f (sym m))
-
-pub picked-last : (f : ℕ → List Place) (low : ℕ) {n : ℕ} {row : List Place} {r : Place} → r ≡ getD row low None → row ≡ f 15 → n < 16 → NotIn n (down 15) → r ≡ getD (f n) low None
-picked-last f low {n} p q l h = picked f low p q (last 15 n l h)
+pub picked : (page : Page) (code : ℕ) {k : ℕ} {row : List Place} {r : Place} → r ≡ getD row (code % 16) None → row ≡ rowOf page k → code / 16 ≡ k → r ≡ entryOf page code
+picked page code p q m = p ∙ ap (λ (l : List Place). getD l (code % 16) None) (q ∙ ap (rowOf page) (sym m)) ∙ in-row page code
 
 -- a row with no instruction
 abbrev pub bare : List Place → Bool
@@ -58,10 +55,11 @@ in-bare (None ∷ l) zero t = refl
 in-bare (None ∷ l) (suc i) t = in-bare l i t
 in-bare (Instruction e ∷ l) i t = absurd (true≢false (sym t))
 
--- the last arm of the match on the high digit, where the others are the rows ks: one test of sixteen rows shows that each other row is bare
-pub empty : (page : Page) (ks : List ℕ) (low : ℕ) → values (λ (h : ℕ). cond (isIn h ks) true (bare (rowOf page h))) 0 16 ≡ values (λ (h : ℕ). true) 0 16 → {n : ℕ} → n < 16 → NotIn n ks → None ≡ getD (rowOf page n) low None
-empty page ks low t {n} l h =
-    in-bare (rowOf page n) low (rw (not-in n ks h) at (alike (λ (h : ℕ). cond (isIn h ks) true (bare (rowOf page h))) (λ (h : ℕ). true) 16 t n l))
+-- its last arm, where the others are the rows ks: one test of sixteen rows shows that each other row is bare
+pub empty : (page : Page) (ks : List ℕ) (code : ℕ) → values (λ (h : ℕ). cond (isIn h ks) true (bare (rowOf page h))) 0 16 ≡ values (λ (h : ℕ). true) 0 16 → code / 16 < 16 → NotIn (code / 16) ks → None ≡ entryOf page code
+empty page ks code t l h =
+    in-bare (rowOf page (code / 16)) (code % 16) (rw (not-in (code / 16) ks h) at (alike (λ (h : ℕ). cond (isIn h ks) true (bare (rowOf page h))) (λ (h : ℕ). true) 16 t (code / 16) l))
+    ∙ in-row page code
 
 -- one more value in a list that is filled from its start
 fill : {A : Type 0} (f : ℕ → A) (d : A) (i n k : ℕ) → set (values f i n ++ replicate (suc k) d) n (f (i + n)) ≡ values f i (suc n) ++ replicate k d

@@ -1,9 +1,7 @@
 // Page 11 of the opcode table, the opcodes after a byte 11: the rows of sixteen places that have an instruction.
 ghost use mathlib.Core.Path.{_≡_};
-ghost use Prim.Native.Nat.{_<_};
-ghost use lib.ListN.{getD};
+ghost use Rattle.opcodes.specs.Manual.{entryOf};
 ghost use Rattle.opcodes.specs.Table.{rowOf};
-ghost use Rattle.opcodes.specs.declared.Place.the-variants.{None};
 ghost use Rattle.opcodes.specs.declared.Page.the-variants.{Eleven};
 use super::MemoryOp;
 use super::Mode;
@@ -134,17 +132,16 @@ fn row_b() -> [Place; 16]
     ]
 }
 
-// The place of a high and a low digit on this page.
-pub fn place(high: u8, low: u8) -> Place
-    requires { ⌜ (high < 16) × (low < 16) ⌝ }
-    ensures { λ r. ⌜ r ≡ getD (rowOf Eleven high) low None ⌝ }
+// The place of a byte: in the row of its high digit, at its low one.
+pub fn place(code: u8) -> Place
+    ensures { λ r. ⌜ r ≡ entryOf Eleven code ⌝ }
 {
-    match high {
-        0x3 => at(row_3(), low),
-        0x8 => at(row_8(), low),
-        0x9 => at(row_9(), low),
-        0xA => at(row_a(), low),
-        0xB => at(row_b(), low),
+    match code / 16 {
+        0x3 => at(row_3(), code),
+        0x8 => at(row_8(), code),
+        0x9 => at(row_9(), code),
+        0xA => at(row_a(), code),
+        0xB => at(row_b(), code),
         _ => Place::None,
     }
 }

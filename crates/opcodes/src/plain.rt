@@ -1,9 +1,7 @@
 // The plain page of the opcode table: a row of sixteen places for each high digit.
 ghost use mathlib.Core.Path.{_≡_};
-ghost use Prim.Native.Nat.{_<_};
-ghost use lib.ListN.{getD};
+ghost use Rattle.opcodes.specs.Manual.{entryOf};
 ghost use Rattle.opcodes.specs.Table.{rowOf};
-ghost use Rattle.opcodes.specs.declared.Place.the-variants.{None};
 ghost use Rattle.opcodes.specs.declared.Page.the-variants.{Plain};
 use super::Acc;
 use super::Alu;
@@ -412,27 +410,26 @@ fn row_f() -> [Place; 16]
     ]
 }
 
-// The place of a high and a low digit on this page.
-pub fn place(high: u8, low: u8) -> Place
-    requires { ⌜ (high < 16) × (low < 16) ⌝ }
-    ensures { λ r. ⌜ r ≡ getD (rowOf Plain high) low None ⌝ }
+// The place of a byte: in the row of its high digit, at its low one.
+pub fn place(code: u8) -> Place
+    ensures { λ r. ⌜ r ≡ entryOf Plain code ⌝ }
 {
-    match high {
-        0x0 => at(row_0(), low),
-        0x1 => at(row_1(), low),
-        0x2 => at(row_2(), low),
-        0x3 => at(row_3(), low),
-        0x4 => at(row_4(), low),
-        0x5 => at(row_5(), low),
-        0x6 => at(row_6(), low),
-        0x7 => at(row_7(), low),
-        0x8 => at(row_8(), low),
-        0x9 => at(row_9(), low),
-        0xA => at(row_a(), low),
-        0xB => at(row_b(), low),
-        0xC => at(row_c(), low),
-        0xD => at(row_d(), low),
-        0xE => at(row_e(), low),
-        _ => at(row_f(), low),
+    match code / 16 {
+        0x0 => at(row_0(), code),
+        0x1 => at(row_1(), code),
+        0x2 => at(row_2(), code),
+        0x3 => at(row_3(), code),
+        0x4 => at(row_4(), code),
+        0x5 => at(row_5(), code),
+        0x6 => at(row_6(), code),
+        0x7 => at(row_7(), code),
+        0x8 => at(row_8(), code),
+        0x9 => at(row_9(), code),
+        0xA => at(row_a(), code),
+        0xB => at(row_b(), code),
+        0xC => at(row_c(), code),
+        0xD => at(row_d(), code),
+        0xE => at(row_e(), code),
+        _ => at(row_f(), code),
     }
 }

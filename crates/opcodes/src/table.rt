@@ -1,6 +1,6 @@
 // The opcode table as a whole, and one place of it. Both read the rows of the three pages.
 ghost use mathlib.Core.Path.{_≡_};
-ghost use Prim.Native.Nat.{_<_};
+ghost use Prim.Native.Nat.{_%_};
 ghost use lib.ListN.{getD};
 ghost use Rattle.opcodes.specs.Manual.{entryOf};
 ghost use Rattle.opcodes.specs.Table.{placesOf, tableOf};
@@ -11,13 +11,12 @@ use super::eleven;
 use super::plain;
 use super::ten;
 
-// The place of a low digit in a row. A match and not `row[low]`: with constant indices the compiler keeps the rows as constants and
-// builds none of them.
-pub fn at(row: [Place; 16], low: u8) -> Place
-    requires { ⌜ low < 16 ⌝ }
-    ensures { λ r. ⌜ r ≡ getD row low None ⌝ }
+// The place of a byte's low digit in a row. A match and not an index: with constant indices the compiler keeps the rows as constants,
+// and no row is built at run time.
+pub fn at(row: [Place; 16], code: u8) -> Place
+    ensures { λ r. ⌜ r ≡ getD row (code % 16) None ⌝ }
 {
-    match low {
+    match code % 16 {
         0x0 => row[0],
         0x1 => row[1],
         0x2 => row[2],
@@ -41,12 +40,10 @@ pub fn at(row: [Place; 16], low: u8) -> Place
 pub fn lookup(page: Page, code: u8) -> Place
     ensures { λ r. ⌜ r ≡ entryOf page code ⌝ }
 {
-    let high = code / 16;
-    let low = code % 16;
     match page {
-        Page::Plain => plain::place(high, low),
-        Page::Ten => ten::place(high, low),
-        Page::Eleven => eleven::place(high, low),
+        Page::Plain => plain::place(code),
+        Page::Ten => ten::place(code),
+        Page::Eleven => eleven::place(code),
     }
 }
 

@@ -1,9 +1,7 @@
 // Page 10 of the opcode table, the opcodes after a byte 10: the rows of sixteen places that have an instruction.
 ghost use mathlib.Core.Path.{_≡_};
-ghost use Prim.Native.Nat.{_<_};
-ghost use lib.ListN.{getD};
+ghost use Rattle.opcodes.specs.Manual.{entryOf};
 ghost use Rattle.opcodes.specs.Table.{rowOf};
-ghost use Rattle.opcodes.specs.declared.Place.the-variants.{None};
 ghost use Rattle.opcodes.specs.declared.Page.the-variants.{Ten};
 use super::Cond;
 use super::MemoryOp;
@@ -258,22 +256,21 @@ fn row_f() -> [Place; 16]
     ]
 }
 
-// The place of a high and a low digit on this page.
-pub fn place(high: u8, low: u8) -> Place
-    requires { ⌜ (high < 16) × (low < 16) ⌝ }
-    ensures { λ r. ⌜ r ≡ getD (rowOf Ten high) low None ⌝ }
+// The place of a byte: in the row of its high digit, at its low one.
+pub fn place(code: u8) -> Place
+    ensures { λ r. ⌜ r ≡ entryOf Ten code ⌝ }
 {
-    match high {
-        0x2 => at(row_2(), low),
-        0x3 => at(row_3(), low),
-        0x8 => at(row_8(), low),
-        0x9 => at(row_9(), low),
-        0xA => at(row_a(), low),
-        0xB => at(row_b(), low),
-        0xC => at(row_c(), low),
-        0xD => at(row_d(), low),
-        0xE => at(row_e(), low),
-        0xF => at(row_f(), low),
+    match code / 16 {
+        0x2 => at(row_2(), code),
+        0x3 => at(row_3(), code),
+        0x8 => at(row_8(), code),
+        0x9 => at(row_9(), code),
+        0xA => at(row_a(), code),
+        0xB => at(row_b(), code),
+        0xC => at(row_c(), code),
+        0xD => at(row_d(), code),
+        0xE => at(row_e(), code),
+        0xF => at(row_f(), code),
         _ => Place::None,
     }
 }
