@@ -1,4 +1,4 @@
-// The entries' short forms, so that a place of the map is one line.
+// The entries in one line each: a helper for each kind of operation.
 ghost use mathlib.Core.Path.{_≡_};
 ghost use Rattle.opcodes.specs.Manual.{instruction};
 use super::Acc;
