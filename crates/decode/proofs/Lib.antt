@@ -5,4 +5,5 @@ pub mod Refused
 pub mod Sizes
 pub mod Sound
 pub mod Laws
+pub mod Formless
 pub mod Unique

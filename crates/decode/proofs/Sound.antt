@@ -44,9 +44,10 @@ SoundRead mem at n (Refused x) = OfOperand x
 
 -- ---- post-bytes
 
-abbrev FormSo : PostByte → Type 0
+-- a refused one is refused by 5
+abbrev pub FormSo : PostByte → Type 0
 FormSo (Taken f) = Unit {0}
-FormSo (NoForm x) = OfOperand x
+FormSo (NoForm x) = x ≡ BadPostByte
 
 -- the first whose test holds
 chosen : List (Bool × PostByte) → PostByte
@@ -59,7 +60,7 @@ AllSo (c ∷ l) = FormSo (c .1) × AllSo l
 
 chosen-so : (l : List (Bool × PostByte)) → AllSo l → FormSo (chosen l)
 unfolding chosen AllSo
-chosen-so [] h = tt
+chosen-so [] h = refl
 chosen-so ((true, p) ∷ l) h = h .0
 chosen-so ((false, p) ∷ l) h = chosen-so l (h .1)
 
@@ -67,10 +68,10 @@ unless-so : (post : ℕ) (f : Form) → FormSo (unlessIndirect post f)
 unless-so post f = go (isIndirect post)
   where
     go : (t : Bool) → FormSo (cond t (NoForm BadPostByte) (Taken f))
-    go true = tt
+    go true = refl
     go false = tt
 
-form-so : (post : ℕ) → FormSo (formOf post)
+pub form-so : (post : ℕ) → FormSo (formOf post)
 unfolding formOf chosen AllSo
 form-so post =
     let is : ℕ → Bool = eqb (bitAnd post 0x8F) in
@@ -152,7 +153,7 @@ module _ (mem : List ℕ) where
 
     after-post : (p : PostByte) → FormSo p → SoundRead mem at 0 (afterPostByte p mem post at)
     after-post (Taken f) s = formed f
-    after-post (NoForm x) s = s
+    after-post (NoForm x) s = rw s tt
 
   -- a read after one byte is one from that byte on
   from : (at : ℕ) (r : OperandRead) → at + 1 ≤ 0x10000 → SoundRead mem (at + 1) 0 r → SoundRead mem at 1 r

@@ -1,22 +1,24 @@
--- The laws of decoding: by which numbers it refuses, 3 exactly, how long an instruction is, and what fits its width.
+-- The laws of decoding: by which numbers it refuses, 3 and 5 exactly, how long an instruction is, and what fits its width.
 -- Assumes nothing.
 use Prim.Native.Nat.{ℕ, _+_, _≤_, _<_}
 use mathlib.Core.Path.{_≡_}
-use mathlib.Core.Bool.{_&&_}
+use mathlib.Core.Bool.{true, _&&_}
 use mathlib.Core.List.{List, []}
 use mathlib.Core.Logic.{_↔_}
 use lib.Dec.{T, leb}
 use Rattle.memory.specs.Fits.{Bytes}
+use Rattle.memory.specs.Map.{byteAt}
 use Rattle.answers.specs.Numbers.{numberOf}
 use Rattle.answers.specs.declared.Refusal.{Refusal}
-use Rattle.answers.specs.declared.Refusal.the-variants.{Opcode}
+use Rattle.answers.specs.declared.Refusal.the-variants.{Opcode, PostByte}
 use Rattle.opcodes.specs.Manual.{rows, prefix, entryOf}
 use Rattle.opcodes.specs.Places.{named}
+use Rattle.opcodes.specs.declared.Mode.the-variants.{Indexed}
 use Rattle.opcodes.specs.declared.Page.{Page}
 use Rattle.opcodes.specs.declared.Page.the-variants.{Plain, Ten, Eleven}
 use Rattle.opcodes.specs.declared.Place.{Place}
 use Rattle.opcodes.specs.declared.Place.the-variants.{Instruction as InManual, None}
-use Rattle.decode.specs.PostByte.{offsetBytes}
+use Rattle.decode.specs.PostByte.{formOf, offsetBytes, isRefused}
 use Rattle.decode.specs.Operand.{operandBytes}
 use Rattle.decode.specs.Decode.{located, decodedAt}
 use Rattle.decode.specs.declared.operand.Operand.{Operand}
@@ -45,6 +47,18 @@ Unnamed (NotLocated x) = ⊥
 
 abbrev pub OpcodeRefused : Type 0
 OpcodeRefused = (mem : List ℕ) (pc : ℕ) → Bytes mem → (decodedAt mem pc ≡ Refused Opcode) ↔ Unnamed (located mem pc)
+
+-- 5 exactly where the instruction is indexed and its post-byte is there and has no form
+abbrev pub NoFormAt : Place → List ℕ → ℕ → Type 0
+NoFormAt (InManual e) mem at = (e .mode ≡ Indexed) × (at < 0x10000) × (isRefused (formOf (byteAt mem at)) ≡ true)
+NoFormAt None mem at = ⊥
+
+abbrev pub Formless : Located → List ℕ → Type 0
+Formless (At page code at) mem = NoFormAt (entryOf page code) mem at
+Formless (NotLocated x) mem = ⊥
+
+abbrev pub PostByteRefused : Type 0
+PostByteRefused = (mem : List ℕ) (pc : ℕ) → (decodedAt mem pc ≡ Refused PostByte) ↔ Formless (located mem pc) mem
 
 -- an entry's size counts the prefix, the opcode and the operand bytes of its mode
 abbrev pub prefixBytes : Page → ℕ
