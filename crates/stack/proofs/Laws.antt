@@ -1,17 +1,15 @@
 -- No write is lost, and 8 and 6 are given exactly where they should be.
 -- Assumes nothing.
 use Prim.Native.Nat.{ℕ, _+_, _*_, _/_, _%_, _≤_}
-use mathlib.Core.Bool.{Bool, true, false, not, cond, _&&_, _||_}
+use mathlib.Core.Bool.{Bool, true, false, cond}
 use mathlib.Core.List.{List, [], _∷_, reverse}
-use mathlib.Core.Path.{_≡_, refl, sym, ap, _∙_}
+use mathlib.Core.Path.{_≡_, refl, ap, _∙_}
 use native.Mathlib.Omega.{arith}
 use borrow.Author.Tests.{le-ltb}
 use lib.Dec.{eqb, ltb}
-use Rattle.u8oru16.specs.declared.u8u16.{u8u16}
 use Rattle.answers.specs.Numbers.{numberOfAnswer}
 use Rattle.answers.specs.declared.Answer.{Answer}
 use Rattle.answers.specs.declared.Answer.the-variants.{Done, Refused as NotDone}
-use Rattle.answers.specs.declared.Refusal.{Refusal}
 use Rattle.answers.specs.declared.Refusal.the-variants.{StackTooSmall, WordAtTop}
 use Rattle.registers.specs.ConditionCodes.{put}
 use Rattle.registers.specs.RegisterSet.{sizeOf, stackWord, wordOf, written}
@@ -28,11 +26,10 @@ use Rattle.machine.specs.Effect.{stores, refuses}
 use Rattle.machine.specs.declared.Effect.{Effect}
 use Rattle.operations.specs.Codes.{withCodes}
 use Rattle.stack.specs.Pushing.{order, chosen, named, bytesOf, pushes, pushed, oncePushed, called}
-use Rattle.stack.specs.Frames.{stackedBy, framed}
-use Rattle.stack.specs.Pulling.{pulledInto, pulls, ofPulled, pulled, returned}
+use Rattle.stack.specs.Frames.{framed}
+use Rattle.stack.specs.Pulling.{pulls, ofPulled, pulled, returned}
 use Rattle.stack.specs.Laws.{NoneDropped, topMet, StackRefusesExactly}
-use Rattle.stack.specs.declared.pulling.Pulled.{Pulled}
-use Rattle.stack.specs.declared.pulling.Pulled.the-variants.{To, Refused}
+use Rattle.stack.specs.declared.pulling.Pulled.the-variants.{To}
 use Rattle.stack.proofs.Emptying.{ended}
 use Rattle.stack.proofs.Filling.{pushes-length, named-size}
 

@@ -1,9 +1,9 @@
 -- Pushes and pulls are sound.
 -- Assumes nothing.
-use Prim.Native.Nat.{ℕ, zero, suc, _+_, _-_, _%_, _≤_, _<_}
-use mathlib.Core.Bool.{Bool, true, false, cond}
+use Prim.Native.Nat.{ℕ, zero, suc, _-_, _≤_, _<_}
+use mathlib.Core.Bool.{Bool, true, false}
 use mathlib.Core.List.{List, [], _∷_, _++_, reverse}
-use mathlib.Core.Path.{_≡_, refl, ap, _∙_}
+use mathlib.Core.Path.{_≡_, refl, ap}
 use native.Mathlib.Nat.{mod-lt}
 use native.Mathlib.Omega.{arith}
 use lib.Dec.{eqb, ltb, lit<}
@@ -12,18 +12,17 @@ use Rattle.u8oru16.specs.declared.u8u16.{u8u16}
 use Rattle.u8oru16.specs.declared.u8u16.the-variants.{u8, u16}
 use Rattle.answers.specs.declared.Answer.{Answer}
 use Rattle.answers.specs.declared.Answer.the-variants.{Done, Refused as NotDone}
-use Rattle.answers.specs.declared.Refusal.{Refusal}
 use Rattle.answers.specs.declared.Refusal.the-variants.{StackTooSmall}
 use Rattle.registers.specs.ConditionCodes.{coded, flag, put}
 use Rattle.registers.specs.Fits.{Fits, InWidth}
-use Rattle.registers.specs.RegisterSet.{sizeOf, stackWord, read, wordOf, written, withWord}
+use Rattle.registers.specs.RegisterSet.{sizeOf, stackWord, read, wordOf, withWord}
 use Rattle.registers.specs.declared.CCBit.the-variants.{E}
 use Rattle.registers.specs.declared.Name.{Name}
 use Rattle.registers.specs.declared.Set.{Set}
 use Rattle.registers.specs.declared.Stack.{Stack}
 use Rattle.registers.specs.declared.Stack.the-variants.{S}
 use Rattle.registers.proofs.Fits.{put-fits, read-fits, written-fits}
-use Rattle.memory.specs.Fits.{Bytes, WriteFits, AllFit}
+use Rattle.memory.specs.Fits.{Bytes, AllFit}
 use Rattle.memory.specs.Map.{byteAt, wordAt, valueAt}
 use Rattle.memory.specs.Writes.{twelve, writesOf, valueWrites}
 use Rattle.memory.specs.declared.ValueRead.{ValueRead}
