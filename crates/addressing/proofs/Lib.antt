@@ -1,2 +1,5 @@
 pub mod Sums
+pub mod Refusals
+pub mod Exactly
+pub mod Widths
 pub mod Unique

@@ -79,9 +79,12 @@ throughPointer mem a = pointed (a .regs) (wordAt mem (a .ea))
 abbrev indirected : Bool → List ℕ → Addressed → Resolved
 indirected i mem a = cond i (throughPointer mem a) (At a)
 
+-- before indirection
+abbrev pub indexedBefore : Set → Indexed → ℕ → Addressed
+indexedBefore r ix next = formAddress (ix .form) r (indexWord (indexOf (ix .post))) (ix .offset) next
+
 unfoldable pub indexedAddress : List ℕ → Set → Indexed → ℕ → Resolved
-indexedAddress mem r ix next =
-    indirected (isIndirect (ix .post)) mem (formAddress (ix .form) r (indexWord (indexOf (ix .post))) (ix .offset) next)
+indexedAddress mem r ix next = indirected (isIndirect (ix .post)) mem (indexedBefore r ix next)
 
 abbrev pub effectiveOf : Operand → List ℕ → Set → ℕ → Resolved
 effectiveOf Nothing mem r next = At (atAddress r 0)

@@ -1,8 +1,6 @@
 // The effective address of a decoded operand (process_addressing_mode of runtime.rs, without its decoding).
 ghost use mathlib.Core.Path.{_≡_};
-ghost use Rattle.registers.specs.RegisterSet.{indexWord};
-ghost use Rattle.decode.specs.PostByte.{indexOf};
-ghost use Rattle.addressing.specs.Address.{atAddress, offsetBy, incremented, decremented, programRelative, formAddress, throughPointer, indexedAddress, effectiveOf, advanced, resolvedOf};
+ghost use Rattle.addressing.specs.Address.{atAddress, offsetBy, incremented, decremented, programRelative, indexedBefore, throughPointer, indexedAddress, effectiveOf, advanced, resolvedOf};
 use answers::Refusal;
 use decode::Form;
 use decode::Indexed;
@@ -72,7 +70,7 @@ fn at_address(regs: Set, ea: u16) -> Addressed
 
 // The address that a form names, before indirection, and the index register changed.
 fn form_address(regs: Set, ix: Indexed, next: u32) -> Addressed
-    ensures { λ r. ⌜ r ≡ formAddress (ix .form) regs (indexWord (indexOf (ix .post))) (ix .offset) next ⌝ }
+    ensures { λ r. ⌜ r ≡ indexedBefore regs ix next ⌝ }
 {
     let form = ix.form;
     let offset = ix.offset;

@@ -1,7 +1,7 @@
 -- Laws of every call: a refused one changes nothing, at most twelve bytes are written, machine and writes fit their widths, and wait state
 -- and counters move as they should.
 -- Assumes nothing.
-use Prim.Native.Nat.{ℕ, _+_, _≤_}
+use Prim.Native.Nat.{ℕ, _+_, _≤_, _<_}
 use mathlib.Core.Path.{_≡_, refl, sym, ap, _∙_}
 use mathlib.Core.Bool.{Bool, true, false, cond}
 use mathlib.Core.List.{List, []}
@@ -107,21 +107,21 @@ module _ {P : Type 0} (m : Machine) (h : P → MachineFits m) (e : Entry) (f : E
   finished-whole = as-whole (f .answer) (s .waits)
 
 -- what was reached fits
-abbrev ReachedFits : Reached → Type 0
+abbrev pub ReachedFits : Reached → Type 0
 ReachedFits (At e r ea) = Fits r × (ea < 65536)
 ReachedFits (NotReached x) = Unit {0}
 
 module _ (mem : List ℕ) (m : Machine) where
-  reached-fits : Provided mem m → ReachedFits (reached mem m)
+  pub reached-fits : Bytes mem → Fits (m .regs) → ReachedFits (reached mem m)
   unfolding reached decodedTo
-  reached-fits g = go (eqb (length mem) 65536)
+  reached-fits b f = go (eqb (length mem) 65536)
     where
       of-address : (e : Entry) (a : Resolved) → ResolvedFits a → ReachedFits (addressed e a)
       of-address e (Addressed a) k = (k .registers, k .address)
       of-address e (NoAddress x) k = tt
 
       of-decoded : (d : Decoded) → ReachedFits (ofDecoded mem (m .regs) d)
-      of-decoded (Instruction i) = of-address (i .entry) _ (resolved-fits mem (g .bytes) (m .regs) (g .machine .registers) (i .operand) (i .next))
+      of-decoded (Instruction i) = of-address (i .entry) _ (resolved-fits mem b (m .regs) f (i .operand) (i .next))
       of-decoded (NotDecoded x) = tt
 
       waiting : (w : Wait) → ReachedFits (unlessWaiting w mem (m .regs))
@@ -148,7 +148,7 @@ module _ (mem : List ℕ) (m : Machine) where
 
   step-whole : (s : Settings) → Whole (Provided mem m) (MovedBy (reached mem m) m) m (stepPlan mem m s)
   unfolding stepPlan
-  step-whole s = planned-whole s (reached mem m) reached-fits
+  step-whole s = planned-whole s (reached mem m) (λ g. reached-fits (g .bytes) (g .machine .registers))
 
   -- ---- interrupts and reset
 

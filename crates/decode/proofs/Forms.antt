@@ -1,4 +1,4 @@
--- The forms in one arm of a match: what holds of each form at the arm's places holds of the form that took the arm.
+-- Offset bytes: none, in the arm that eight forms share, one, and two.
 -- Assumes nothing.
 use Prim.Native.Nat.{ℕ, _+_, _*_, _%_}
 use mathlib.Core.Path.{_≡_, refl, sym, ap, subst, _∙_}
@@ -39,6 +39,7 @@ placed Program8 = refl
 placed Program16 = refl
 placed Address = refl
 
+-- what holds of each form at an arm's places holds of the form that took the arm
 abbrev Each : (Form → Type 0) → List ℕ → Type 0
 Each P [] = Unit {0}
 Each P (k ∷ ks) = P (formAt k) × Each P ks
@@ -48,29 +49,20 @@ in-arm P k [] p f e = subst P (ap formAt (sym e) ∙ placed f) (p .0)
 in-arm P k (j ∷ ks) p f e = ⊎-elim (λ d. subst P (ap formAt (sym d) ∙ placed f) (p .0)) (λ d. in-arm P j ks (p .1) f d) e
 
 module _ (mem : List ℕ) (post at : ℕ) (f : Form) where
-  -- one offset byte
-  abbrev one : Form → ℕ → OperandRead
-  one g a = cond (leb (at + 1) 0x10000) (Read (indexedBy g post (signedByte (byteAt mem a))) (at + 1)) (Refused PastEnd)
-
-  pub one-byte : OneOf (8 ∷ 11 ∷ []) (tagOf the-type f) → one f (at % 0x10000) ≡ withForm f mem post at
-  unfolding withForm
-  one-byte k =
-      unwrapped (λ (a : ℕ). Read (indexedBy f post (signedByte (byteAt mem a))) (at + 1)) (Refused PastEnd) 1 at (lit< tt)
-      ∙ in-arm (λ g. one g at ≡ withForm g mem post at) 8 (11 ∷ []) (refl, (refl, tt)) f k
-
-  -- two offset bytes
-  abbrev two : Form → ℕ → ℕ → OperandRead
-  two g a b = cond (leb (at + 2) 0x10000) (Read (indexedBy g post (256 * byteAt mem a + byteAt mem b)) (at + 2)) (Refused PastEnd)
-
-  pub two-bytes : OneOf (9 ∷ 12 ∷ 13 ∷ []) (tagOf the-type f) → two f (at % 0x10000) ((at + 1) % 0x10000) ≡ withForm f mem post at
-  unfolding withForm
-  two-bytes k =
-      both-unwrapped (λ (a b : ℕ). Read (indexedBy f post (256 * byteAt mem a + byteAt mem b)) (at + 2)) (Refused PastEnd) at
-      ∙ in-arm (λ g. two g at (at + 1) ≡ withForm g mem post at) 9 (12 ∷ 13 ∷ []) (refl, (refl, (refl, tt))) f k
-
-  -- none
   pub no-byte : OneOf (1 ∷ 2 ∷ 3 ∷ 4 ∷ 5 ∷ 6 ∷ 7 ∷ 10 ∷ []) (tagOf the-type f) → Read (indexedBy f post 0) at ≡ withForm f mem post at
   unfolding withForm
   no-byte =
       in-arm (λ g. Read (indexedBy g post 0) at ≡ withForm g mem post at) 1 (2 ∷ 3 ∷ 4 ∷ 5 ∷ 6 ∷ 7 ∷ 10 ∷ [])
       (refl, (refl, (refl, (refl, (refl, (refl, (refl, (refl, tt)))))))) f
+
+  abbrev one : ℕ → OperandRead
+  one a = cond (leb (at + 1) 0x10000) (Read (indexedBy f post (signedByte (byteAt mem a))) (at + 1)) (Refused PastEnd)
+
+  pub one-byte : one (at % 0x10000) ≡ one at
+  one-byte = unwrapped (λ (a : ℕ). Read (indexedBy f post (signedByte (byteAt mem a))) (at + 1)) (Refused PastEnd) 1 at (lit< tt)
+
+  abbrev two : ℕ → ℕ → OperandRead
+  two a b = cond (leb (at + 2) 0x10000) (Read (indexedBy f post (256 * byteAt mem a + byteAt mem b)) (at + 2)) (Refused PastEnd)
+
+  pub two-bytes : two (at % 0x10000) ((at + 1) % 0x10000) ≡ two at (at + 1)
+  two-bytes = both-unwrapped (λ (a b : ℕ). Read (indexedBy f post (256 * byteAt mem a + byteAt mem b)) (at + 2)) (Refused PastEnd) at

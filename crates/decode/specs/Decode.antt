@@ -35,7 +35,7 @@ locatedAs mem pc code =
 unfoldable pub located : List ℕ → ℕ → Located
 located mem pc = locatedAs mem pc (byteAt mem pc)
 
-abbrev withOperand : Entry → OperandRead → Decoded
+abbrev pub withOperand : Entry → OperandRead → Decoded
 withOperand e (Read operand next) = Instruction (record { entry = e; operand = operand; next = next })
 withOperand e (NotRead x) = Refused x
 

@@ -60,7 +60,7 @@ indexedBy form post offset = ByIndex (record { offset = offset; post = post; for
 unfoldable pub withForm : Form → List ℕ → ℕ → ℕ → OperandRead
 withForm form mem post at = reading (offsetBytes form) mem at (λ n next. Read (indexedBy form post (offsetOf form post n)) next)
 
-abbrev afterPostByte : PostByte → List ℕ → ℕ → ℕ → OperandRead
+abbrev pub afterPostByte : PostByte → List ℕ → ℕ → ℕ → OperandRead
 afterPostByte (Taken form) mem post at = withForm form mem post at
 afterPostByte (NoForm x) mem post at = Refused x
 

@@ -74,23 +74,21 @@ fn indexed_by(form: Form, post: u8, offset: u16) -> Operand
     Operand::Indexed(Indexed { offset, post, form })
 }
 
-// The offset bytes of a form, from `at` on. Each arm has its own number of them, so that each is compiled for that number.
+// The offset bytes of a form, from `at` on. Each form that has some has an arm of its own: the compiler then still knows the form where
+// its address is found.
 fn with_form(mem: &[u8], form: Form, post: u8, at: u32) -> OperandRead
     ensures { λ r. ⌜ r ≡ withForm form (now (mem .entry)) post at ⌝ }
 {
     match form {
-        Form::Offset5 => {
-            let offset = postbyte::five_bits(post);
-            OperandRead::Operand(indexed_by(form, post, offset), at)
-        }
-        Form::Offset8 | Form::Program8 => {
-            let offset = signed_byte(byte_at(mem, at));
-            reaching(at, 1, indexed_by(form, post, offset))
-        }
-        Form::Offset16 | Form::Program16 | Form::Address => {
-            let offset = word_at(mem, at);
-            reaching(at, 2, indexed_by(form, post, offset))
-        }
+        Form::Offset5 => OperandRead::Operand(
+            indexed_by(form, post, postbyte::five_bits(post)),
+            at,
+        ),
+        Form::Offset8 => reaching(at, 1, indexed_by(form, post, signed_byte(byte_at(mem, at)))),
+        Form::Program8 => reaching(at, 1, indexed_by(form, post, signed_byte(byte_at(mem, at)))),
+        Form::Offset16 => reaching(at, 2, indexed_by(form, post, word_at(mem, at))),
+        Form::Program16 => reaching(at, 2, indexed_by(form, post, word_at(mem, at))),
+        Form::Address => reaching(at, 2, indexed_by(form, post, word_at(mem, at))),
         Form::Increment1
         | Form::Increment2
         | Form::Decrement1

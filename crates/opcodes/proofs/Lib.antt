@@ -1,4 +1,5 @@
 pub mod Rows
 pub mod Laws
 pub mod Places
+pub mod Reading
 pub mod Unique

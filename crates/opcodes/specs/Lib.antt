@@ -1,2 +1,3 @@
 pub mod Manual
 pub mod Places
+pub mod Table

@@ -1,14 +1,15 @@
-// The opcode map: three pages of 256 places (plain, after 10, after 11), the manual's documented instructions only.
+// The opcode table: three pages of 256 places (plain, after 10, after 11), the manual's documented instructions only.
 mod eleven;
+mod entries;
 mod plain;
-mod short;
+mod table;
 mod ten;
 
-ghost use mathlib.Core.Path.{_≡_};
-ghost use Rattle.opcodes.specs.Manual.{entryOf};
 use registers::Index;
 use registers::Stack;
 use registers::Word;
+pub use table::lookup;
+pub use table::pages;
 
 // The manual's addressing modes. The mode says how wide an immediate operand or a branch's offset is.
 pub enum Mode {
@@ -134,7 +135,7 @@ pub struct Entry {
     pub cycles: u8,
 }
 
-// A place of the map: an instruction of the manual, or none.
+// A place of the table: an instruction of the manual, or none.
 pub enum Place {
     Instruction(Entry),
     None,
@@ -144,15 +145,4 @@ pub enum Page {
     Plain,
     Ten,
     Eleven,
-}
-
-// What a byte on a page stands for.
-pub fn lookup(page: Page, code: u8) -> Place
-    ensures { λ r. ⌜ r ≡ entryOf page code ⌝ }
-{
-    match page {
-        Page::Plain => plain::entry_at(code),
-        Page::Ten => ten::entry_at(code),
-        Page::Eleven => eleven::entry_at(code),
-    }
 }

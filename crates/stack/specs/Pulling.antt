@@ -21,7 +21,7 @@ use Rattle.stack.specs.declared.pulling.Pulled.{Pulled}
 use Rattle.stack.specs.declared.pulling.Pulled.the-variants.{To, Refused}
 
 -- a register is pulled: its byte or word is read at the pointer, a word at FFFF is refused (6); then the pointer is raised, and wraps
-abbrev loaded : Name → Set → ℕ → ValueRead → Pulled
+abbrev pub loaded : Name → Set → ℕ → ValueRead → Pulled
 loaded name r pointer (Value v) = To (written r name v) ((pointer + sizeOf name) % 65536)
 loaded name r pointer (NotRead x) = Refused x
 

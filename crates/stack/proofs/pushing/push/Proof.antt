@@ -2,7 +2,6 @@
 -- Assumes nothing.
 use borrow.Author.Needs.{needs}
 use borrow.Author.Tests.{lt-ltb, le-ltb}
-use native.Mathlib.Omega.{arith}
 use Rattle.stack.specs.Pushing.{pushed}
 use Rattle.stack.proofs.pushing.push.Statement.{statement}
 use Rattle.stack.proofs.pushing.push.Tie as tie
