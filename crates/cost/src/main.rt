@@ -24,8 +24,7 @@ fn settings() -> Settings {
 }
 
 fn start() -> Twin {
-    let mut machine = Machine::fresh();
-    machine.regs = Set {
+    let regs = Set {
         x: 0x9000,
         y: 0x9100,
         u: 0x9200,
@@ -36,6 +35,8 @@ fn start() -> Twin {
         dp: 0x90,
         cc: CCBits::reset(),
     };
+    let mut machine = Machine::fresh();
+    machine.regs = regs;
     let mut twin = Twin::fresh();
     twin.machine = machine;
     twin

@@ -33,11 +33,16 @@ fn fits(kind: u8, b: u8) -> bool {
     }
 }
 
+// 0 past the end.
+pub fn byte_of(bytes: &[u8], at: usize) -> u8 {
+    if at < bytes.len() { bytes[at] } else { 0 }
+}
+
 fn has_shape(line: &Line, shape: &[u8]) -> bool {
     let mut good = true;
     let mut i = 0;
     while i < LINE && i < shape.len() {
-        good = good & fits(shape[i], line[i]);
+        good = good & fits(byte_of(shape, i), line[i]);
         i += 1;
     }
     good

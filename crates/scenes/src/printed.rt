@@ -1,6 +1,7 @@
 // The fields of the lines that are printed.
 ghost use Prim.Native.Nat.{_≤_};
 use super::line::Line;
+use super::line::byte_of;
 use answers::Answer;
 use machine::Wait;
 
@@ -36,10 +37,6 @@ pub fn wait_number(wait: Wait) -> u64 {
         Wait::Cwai => 1,
         Wait::Sync => 2,
     }
-}
-
-pub fn byte_of(bytes: &[u8], at: usize) -> u8 {
-    if at < bytes.len() { bytes[at] } else { 0 }
 }
 
 // Four bytes of memory, raw; 00 past its end.

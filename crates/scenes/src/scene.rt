@@ -1,10 +1,10 @@
 // A scene of the journal: recorded calls and undos on the lengths of memory and journal that the line says, and the newest record.
 ghost use Prim.Native.Nat.{_≤_};
 use super::line::Line;
+use super::line::byte_of;
 use super::line::length_at;
 use super::line::long_at;
 use super::line::word_at;
-use super::printed::byte_of;
 use super::printed::put_byte;
 use super::printed::put_decimal;
 use super::printed::put_front;

@@ -35,8 +35,9 @@ fn registers(line: &Line, at: usize, pc: u16) -> Set
 pub fn machine(line: &Line, at: usize, pc: u16) -> Machine
     requires { ⌜ at ≤ 6 ⌝ }
 {
+    let regs = registers(line, at, pc);
     let mut machine = Machine::fresh();
-    machine.regs = registers(line, at, pc);
+    machine.regs = regs;
     machine
 }
 

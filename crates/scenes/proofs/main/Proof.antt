@@ -1,8 +1,8 @@
--- `main` is safe and ends. The measure is the number of turns that are left; nothing has to hold from turn to turn.
+-- The measure is the number of turns that are left; nothing has to hold from turn to turn.
 -- Assumes nothing.
 use borrow.Author.Needs.{needs}
-use Rattle.worked.proofs.main.Statement.{statement}
-use Rattle.worked.proofs.main.Tie as tie
+use Rattle.scenes.proofs.main.Statement.{statement}
+use Rattle.scenes.proofs.main.Tie as tie
 
 abbrev Inv-loop : tie.InvT-loop
 Inv-loop turns₀ turns = Unit {0}
