@@ -32,12 +32,15 @@ use Rattle.machine.specs.declared.Wait.{Wait}
 use Rattle.machine.specs.declared.Wait.the-variants.{Running, Cwai, Sync}
 use Rattle.opcodes.specs.declared.Entry.{Entry}
 use Rattle.decode.specs.Decode.{decodedAt}
+use Rattle.decode.specs.Laws.{DecodedFits}
 use Rattle.decode.specs.declared.instruction.Decoded.{Decoded}
 use Rattle.decode.specs.declared.instruction.Decoded.the-variants.{Instruction, Refused as NotDecoded}
+use Rattle.decode.proofs.Laws.{decode-fits}
 use Rattle.addressing.specs.Address.{resolvedOf}
 use Rattle.addressing.specs.declared.Resolved.{Resolved}
 use Rattle.addressing.specs.declared.Resolved.the-variants.{At as Addressed, Refused as NoAddress}
-use Rattle.addressing.proofs.Widths.{ResolvedFits, resolved-fits}
+use Rattle.addressing.specs.Laws.{ResolvedFits}
+use Rattle.addressing.proofs.Widths.{resolve-fits}
 use Rattle.operations.specs.Branches.{jumped}
 use Rattle.operations.specs.Sound.{Sound, Given}
 use Rattle.operations.proofs.Widths.{jumped-fits}
@@ -120,12 +123,12 @@ module _ (mem : List ℕ) (m : Machine) where
       of-address e (Addressed a) k = (k .registers, k .address)
       of-address e (NoAddress x) k = tt
 
-      of-decoded : (d : Decoded) → ReachedFits (ofDecoded mem (m .regs) d)
-      of-decoded (Instruction i) = of-address (i .entry) _ (resolved-fits mem b (m .regs) f (i .operand) (i .next))
-      of-decoded (NotDecoded x) = tt
+      of-decoded : (d : Decoded) → DecodedFits (m .regs .pc) d → ReachedFits (ofDecoded mem (m .regs) d)
+      of-decoded (Instruction i) k = of-address (i .entry) _ (resolve-fits mem b (m .regs) f (i .operand) (i .next) (k .operand))
+      of-decoded (NotDecoded x) k = tt
 
       waiting : (w : Wait) → ReachedFits (unlessWaiting w mem (m .regs))
-      waiting Running = of-decoded (decodedAt mem (m .regs .pc))
+      waiting Running = of-decoded (decodedAt mem (m .regs .pc)) (decode-fits mem (m .regs .pc) b (f .pc))
       waiting Cwai = tt
       waiting Sync = tt
 
