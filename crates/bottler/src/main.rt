@@ -24,13 +24,13 @@
 // V clear (DEC of 00), so BLT, taken where N and V differ, stops in bucket 45: 45 times 20 is 900. As bought the sixth sets V too,
 // BLT is not taken, and bucket 45 is empty. Buckets 44 to 3 are empty. The seventh sample, of bucket 2, is a DEC of FF: N without
 // V in either setting, so BLT stops there: 2 times 20 is 40. One flag, one sample, and the stall of the line is not seen.
-use machine::Wait;
 use libc::STDOUT_FILENO;
+use machine::Machine;
+use machine::Settings;
+use machine::Wait;
 use registers::CCBits;
 use registers::Flags;
 use registers::Set;
-use machine::Machine;
-use machine::Settings;
 
 const BYTES: usize = 0x10000;
 

@@ -47,7 +47,7 @@ use Rattle.operations.proofs.Widths.{jumped-fits}
 use Rattle.vectors.specs.Table.{addressOf}
 use Rattle.vectors.specs.declared.table.Vector.{Vector}
 use Rattle.vectors.specs.declared.table.Vector.the-variants.{Reset}
-use Rattle.vectors.proofs.Sound.{served-sound, stacked-sound}
+use Rattle.vectors.proofs.Sound.{vectors-sound}
 use Rattle.evaluate.specs.Evaluate.{evaluateOf}
 use Rattle.evaluate.specs.Waits.{waitAfter}
 use Rattle.evaluate.proofs.Sound.{evaluated-sound}
@@ -90,6 +90,10 @@ module _ {P : Type 0} {Moves : Machine → Type 0} (m : Machine) (h : P → Mach
     widths = λ g. none-fit;
     moves = λ e. not-done e;
   }
+
+-- what a sound effect rests on, given by something else
+weaker : {P Q : Type 0} {r : Set} {w : Wait} {e : Effect} → (Q → P) → Sound P r w e → Sound Q r w e
+weaker f t = record { few = t .few; waits = t .waits; refused = t .refused; registers = λ g. t .registers (f g); widths = λ g. t .widths (f g) }
 
 -- ---- a step
 
@@ -137,16 +141,9 @@ module _ (mem : List ℕ) (m : Machine) where
       go false = tt
 
   planned-whole : (s : Settings) (a : Reached) → (Provided mem m → ReachedFits a) → Whole (Provided mem m) (MovedBy a m) m (planned mem m s a)
-  planned-whole s (At e r ea) k = finished-whole m (λ g. g .machine) e _ r given
-    where
-      t : Sound (Given mem r ea) r (waitAfter (e .op)) (evaluateOf (e .op) s mem r ea)
-      t = evaluated-sound (e .op) s mem r ea
-
-      of : Provided mem m → Given mem r ea
-      of g = record { registers = k g .0; bytes = g .bytes; address = k g .1 }
-
-      given : Sound (Provided mem m) r (waitAfter (e .op)) (evaluateOf (e .op) s mem r ea)
-      given = record { few = t .few; waits = t .waits; refused = t .refused; registers = λ g. t .registers (of g); widths = λ g. t .widths (of g) }
+  planned-whole s (At e r ea) k =
+      finished-whole m (λ g. g .machine) e _ r
+      (weaker (λ g. record { registers = k g .0; bytes = g .bytes; address = k g .1 }) (evaluated-sound (e .op) s mem r ea))
   planned-whole s (NotReached x) k = refused-whole m (λ g. g .machine) x
 
   step-whole : (s : Settings) → Whole (Provided mem m) (MovedBy (reached mem m) m) m (stepPlan mem m s)
@@ -175,10 +172,14 @@ module _ (mem : List ℕ) (m : Machine) where
   }
   effect-whole e s (Refused x) = refused-whole m (λ g. g .machine) x
 
+  -- an interrupt has no effective address: any will do
+  given : Provided mem m → Given mem (m .regs) 0
+  given g = record { registers = g .machine .registers; bytes = g .bytes; address = lit< tt }
+
   taken-sound : (s : Settings) (v : Vector) (w : Wait) → Sound (Provided mem m) (m .regs) Running (taken w mem s (m .regs) v)
-  taken-sound s v Running = served-sound mem (λ g. g .bytes) s (m .regs) (λ g. g .machine .registers) v
-  taken-sound s v Sync = served-sound mem (λ g. g .bytes) s (m .regs) (λ g. g .machine .registers) v
-  taken-sound s v Cwai = stacked-sound mem (λ g. g .bytes) s (m .regs) (λ g. g .machine .registers) v
+  taken-sound s v Running = weaker given (vectors-sound mem s (m .regs) 0 .running v)
+  taken-sound s v Sync = weaker given (vectors-sound mem s (m .regs) 0 .running v)
+  taken-sound s v Cwai = weaker given (vectors-sound mem s (m .regs) 0 .inCwai v)
 
   interrupt-whole : (s : Settings) (i : InterruptType) → Whole (Provided mem m) (Still m) m (interruptPlan mem m s i)
   unfolding interruptPlan

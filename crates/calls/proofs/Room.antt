@@ -4,7 +4,7 @@ use Prim.Native.Nat.{ℕ, _<_}
 use mathlib.Core.Bool.{Bool, true, false, cond, _&&_, _||_}
 use mathlib.Core.List.{List}
 use mathlib.Core.Logic.{_≢_}
-use mathlib.Core.Path.{_≡_, refl, sym, _∙_}
+use mathlib.Core.Path.{_≡_, refl, ap, _∙_}
 use native.Mathlib.Omega.{arith}
 use borrow.Author.Tests.{eq-eqb, ne-eqb, eqb-true, lt-ltb}
 use lib.Dec.{T, eqb, leb, ltb, leb→le}
@@ -36,7 +36,7 @@ use Rattle.stack.specs.Frames.{stackedBy}
 use Rattle.stack.specs.Pushing.{bytesOf}
 use Rattle.vectors.specs.Table.{isEntire}
 use Rattle.vectors.specs.declared.table.Vector.{Vector}
-use Rattle.vectors.proofs.Room.{served-small, stacked-small}
+use Rattle.vectors.proofs.Laws.{vectors-refuse-exactly}
 use Rattle.calls.specs.Plans.{refusedWith, accepted, withRegisters}
 use Rattle.calls.specs.Steps.{addressed, ofDecoded, decodedTo, unlessWaiting, reached, finishedAs, finished, planned, stepPlan}
 use Rattle.calls.specs.Interrupts.{vectorOf, isMasked, taken, afterMasked, ofEffect, interruptPlan}
@@ -120,11 +120,28 @@ answered : (m : Machine) (e : Effect) (a : Answer) → isEight (ofEffect m e a .
 answered m e Done = refl
 answered m e (Refused x) = refl
 
+-- 8 for the frame, 9 or nothing after it
+no-eight : (zero : Bool) → eqb (cond zero 9 0) 8 ≡ false
+no-eight true = refl
+no-eight false = refl
+
+frame-eight : (entire zero : Bool) (s : ℕ) → eqb (cond (ltb s (cond entire 12 3)) 8 (cond zero 9 0)) 8 ≡ ltb s (bytesOf (stackedBy entire))
+frame-eight true zero s = go (ltb s 12)
+  where
+    go : (b : Bool) → eqb (cond b 8 (cond zero 9 0)) 8 ≡ b
+    go true = refl
+    go false = no-eight zero
+frame-eight false zero s = go (ltb s 3)
+  where
+    go : (b : Bool) → eqb (cond b 8 (cond zero 9 0)) 8 ≡ b
+    go true = refl
+    go false = no-eight zero
+
 module _ (mem : List ℕ) (m : Machine) (s : Settings) (v : Vector) where
   framed : (w : Wait) → isEight (taken w mem s (m .regs) v .answer) ≡ smallFrame w (m .regs .s) v
-  framed Running = served-small mem s (m .regs) v
-  framed Sync = served-small mem s (m .regs) v
-  framed Cwai = stacked-small mem s (m .regs) v
+  framed Running = ap (λ (n : ℕ). eqb n 8) (vectors-refuse-exactly .running mem s (m .regs) v) ∙ frame-eight (isEntire v) _ (m .regs .s)
+  framed Sync = ap (λ (n : ℕ). eqb n 8) (vectors-refuse-exactly .running mem s (m .regs) v) ∙ frame-eight (isEntire v) _ (m .regs .s)
+  framed Cwai = ap (λ (n : ℕ). eqb n 8) (vectors-refuse-exactly .inCwai mem s (m .regs) v) ∙ no-eight _
 
 pub interrupt-small-exactly : InterruptSmallExactly
 unfolding interruptPlan

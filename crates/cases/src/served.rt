@@ -16,9 +16,11 @@ use super::operands::register;
 use super::operands::seeded;
 use super::operands::truth;
 use answers::Answer;
-use machine::Effect;
-use machine::Wait;
 use calls::InterruptType;
+use machine::Effect;
+use machine::Machine;
+use machine::Settings;
+use machine::Wait;
 use memory::Writes;
 use opcodes::Op;
 use opcodes::Software;
@@ -26,8 +28,6 @@ use registers::CCBit;
 use registers::Flags;
 use registers::Name;
 use registers::Set;
-use machine::Machine;
-use machine::Settings;
 use u8oru16::u8u16;
 
 // Types are counted as in the Rust: reset 0, NMI 1, FIRQ 2, IRQ 3, SWI 4, SWI2 5, SWI3 6.

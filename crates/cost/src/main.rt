@@ -3,16 +3,16 @@
 // bytes of cycles and of the count of records.
 mod program;
 
-use machine::Wait;
 use journal::Twin;
 use libc::STDIN_FILENO;
 use libc::STDOUT_FILENO;
+use machine::Machine;
+use machine::Settings;
+use machine::Wait;
 use program::Memory;
 use registers::CCBits;
 use registers::Flags;
 use registers::Set;
-use machine::Machine;
-use machine::Settings;
 
 // As the run program's.
 const ROOM: usize = 65280;

@@ -9,7 +9,8 @@ use Rattle.opcodes.specs.declared.Page.{Page}
 use Rattle.opcodes.specs.declared.Page.the-variants.{Plain, Ten, Eleven}
 use Rattle.opcodes.specs.declared.Place.{Place}
 use Rattle.opcodes.specs.declared.Place.the-variants.{Instruction as InManual, None}
-use Rattle.opcodes.proofs.Rows.{values, alike}
+use Rattle.opcodes.specs.Table.{values}
+use Rattle.opcodes.proofs.Rows.{alike}
 use Rattle.decode.specs.Operand.{operandBytes}
 use Rattle.decode.specs.Laws.{prefixBytes, SizedAt, EntrySizes}
 

@@ -9,15 +9,15 @@
 ghost use Rattle.journal.specs.Recorded.{inHand, stepped};
 ghost use Rattle.journal.specs.Undos.{undone};
 ghost use Rattle.lent.specs.Lending.{Returns};
-use machine::Wait;
 use journal::Twin;
 use lent::Returned;
 use libc::STDOUT_FILENO;
+use machine::Machine;
+use machine::Settings;
+use machine::Wait;
 use registers::CCBits;
 use registers::Flags;
 use registers::Set;
-use machine::Machine;
-use machine::Settings;
 
 type Memory = [u8; 0x10000];
 

@@ -12,10 +12,12 @@ ghost use Rattle.player.specs.Line.{glyph, hex2, hex4, decimal, line, al
 ghost use Rattle.player.specs.Boot.{setTo, stepLines, runLines, bootLines, bootPrinted};
 use answers::Answer;
 use answers::Answer as Read;
-use machine::Wait;
 use calls::InterruptType;
 use journal::Outcome;
 use journal::Twin;
+use machine::Machine;
+use machine::Settings;
+use machine::Wait;
 use registers::CCBits;
 use registers::Flags;
 use registers::Set;
@@ -23,8 +25,6 @@ use runfile::Loaded;
 use runfile::Next;
 use runfile::Operation;
 use runfile::Start;
-use machine::Machine;
-use machine::Settings;
 
 const MEMORY: usize = 0x10000;
 

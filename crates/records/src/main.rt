@@ -2,12 +2,12 @@
 mod scene;
 mod text;
 
-use machine::Wait;
 use libc::STDIN_FILENO;
 use libc::STDOUT_FILENO;
+use machine::Machine;
+use machine::Wait;
 use memory::Writes;
 use scene::Ended;
-use machine::Machine;
 use text::LINE;
 use text::Line;
 use text::OUT;

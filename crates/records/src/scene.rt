@@ -5,16 +5,16 @@ use super::text::byte_at;
 use super::text::long_at;
 use super::text::word_at;
 use answers::Answer;
-use machine::Wait;
 use calls::InterruptType;
 use journal::Outcome;
 use journal::Twin;
+use machine::Machine;
+use machine::Settings;
+use machine::Wait;
 use memory::Writes;
 use registers::CCBits;
 use registers::Flags;
 use registers::Set;
-use machine::Machine;
-use machine::Settings;
 
 // Where the code stands.
 const START: u16 = 0x1000;

@@ -4,14 +4,14 @@ use super::text::Line;
 use super::text::byte_at;
 use super::text::word_at;
 use answers::Answer;
-use machine::Wait;
 use calls::InterruptType;
+use calls::Report;
+use machine::Machine;
+use machine::Settings;
+use machine::Wait;
 use registers::CCBits;
 use registers::Flags;
 use registers::Set;
-use machine::Machine;
-use machine::Settings;
-use calls::Report;
 
 pub const BYTES: usize = 0x10000;
 

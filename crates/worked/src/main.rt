@@ -2,12 +2,12 @@
 mod example;
 mod text;
 
-use machine::Wait;
 use example::BYTES;
 use example::Ended;
 use example::Memory;
 use libc::STDIN_FILENO;
 use libc::STDOUT_FILENO;
+use machine::Wait;
 use registers::Set;
 use text::LINE;
 use text::Line;

@@ -1,4 +1,4 @@
--- `target` reads the two bytes of a word that is not at FFFF.
+-- Reads the two bytes of a word that is not at FFFF.
 -- Assumes nothing.
 use borrow.Author.Needs.{needs}
 use Rattle.vectors.proofs.service.word_at.Statement.{statement}
