@@ -53,7 +53,7 @@ use Rattle.evaluate.specs.Waits.{waitAfter}
 use Rattle.evaluate.proofs.Sound.{evaluated-sound}
 use Rattle.evaluate.proofs.Waits.{cwai-alone, sync-alone}
 use Rattle.calls.specs.Plans.{refusedWith, accepted, withRegisters, carriedOut, memoryWith, PlanFits, Unchanged}
-use Rattle.calls.specs.Steps.{addressed, ofDecoded, decodedTo, unlessWaiting, reached, finishedAs, finished, operated, planned, stepPlan}
+use Rattle.calls.specs.Steps.{addressed, ofDecoded, decodedTo, unlessWaiting, reached, finishedAs, finished, planned, stepPlan}
 use Rattle.calls.specs.Interrupts.{vectorOf, isMasked, taken, afterMasked, ofEffect, interruptPlan}
 use Rattle.calls.specs.Resets.{resetTo, resetPlan}
 use Rattle.calls.specs.Calls.{Call, step, interrupt, reset, settingsIn, planOf, RefusedCall, FewWrites, CallFits}
@@ -128,7 +128,7 @@ module _ (mem : List ℕ) (m : Machine) where
       of-address e (NoAddress x) k = tt
 
       of-decoded : (d : Decoded) → DecodedFits (m .regs .pc) d → ReachedFits (ofDecoded mem (m .regs) d)
-      of-decoded (Instruction i) k = of-address (i .entry) _ (resolve-fits mem b (m .regs) f (i .operand) (i .next) (k .operand))
+      of-decoded (Instruction i) k = of-address (i .entry) (resolvedOf mem (m .regs) (i .operand) (i .next)) (resolve-fits mem b (m .regs) f (i .operand) (i .next) (k .operand))
       of-decoded (NotDecoded x) k = tt
 
       waiting : (w : Wait) → ReachedFits (unlessWaiting w mem (m .regs))

@@ -14,6 +14,8 @@ use Rattle.answers.specs.declared.Answer.{Answer}
 use Rattle.answers.specs.declared.Answer.the-variants.{Done, Refused}
 use Rattle.answers.specs.declared.Refusal.{Refusal}
 use Rattle.answers.specs.declared.Refusal.the-variants.{MemoryLength}
+use Rattle.memory.specs.Map.{byteAt}
+use Rattle.memory.specs.Writes.{listed, stored}
 use Rattle.machine.specs.declared.Effect.{Effect}
 use Rattle.machine.specs.declared.Machine.{Machine}
 use Rattle.machine.specs.declared.Settings.{Settings}
@@ -32,9 +34,10 @@ use Rattle.addressing.specs.declared.Resolved.the-variants.{At as Addressed, Re
 use Rattle.addressing.proofs.Refusals.{resolve-refuses}
 use Rattle.evaluate.specs.Evaluate.{evaluateOf}
 use Rattle.evaluate.proofs.Room.{small-exactly}
-use Rattle.stack.specs.Frames.{stackedBy}
+use Rattle.stack.specs.Frames.{stackedBy, framed as stacked}
 use Rattle.stack.specs.Pushing.{bytesOf}
-use Rattle.vectors.specs.Table.{isEntire}
+use Rattle.vectors.specs.Service.{wordIn, served}
+use Rattle.vectors.specs.Table.{addressOf, isEntire}
 use Rattle.vectors.specs.declared.table.Vector.{Vector}
 use Rattle.vectors.proofs.Laws.{vectors-refuse-exactly}
 use Rattle.calls.specs.Plans.{refusedWith, accepted, withRegisters}
@@ -84,7 +87,7 @@ reached-other mem m = go (eqb (length mem) 65536)
     of-address e (NoAddress x) k = of-resolving x k
 
     of-decoded : (d : Decoded) → RefusedSo d → OtherReached (ofDecoded mem (m .regs) d)
-    of-decoded (Instruction i) k = of-address (i .entry) _ (resolve-refuses mem (m .regs) (i .operand) (i .next))
+    of-decoded (Instruction i) k = of-address (i .entry) (resolvedOf mem (m .regs) (i .operand) (i .next)) (resolve-refuses mem (m .regs) (i .operand) (i .next))
     of-decoded (NotDecoded x) k = of-decoding x k
 
     waiting : (w : Wait) → OtherReached (unlessWaiting w mem (m .regs))
@@ -138,10 +141,21 @@ frame-eight false zero s = go (ltb s 3)
     go false = no-eight zero
 
 module _ (mem : List ℕ) (m : Machine) (s : Settings) (v : Vector) where
+  -- whether the vector leads to a zero byte
+  leads : List ℕ → Bool
+  leads at = eqb (byteAt at (wordIn at (addressOf v))) 0
+
+  running : isEight (served mem s (m .regs) v .answer) ≡ ltb (m .regs .s) (bytesOf (stackedBy (isEntire v)))
+  unfolding leads
+  running =
+      ap (λ (n : ℕ). eqb n 8) (vectors-refuse-exactly .running mem s (m .regs) v)
+      ∙ frame-eight (isEntire v) (leads (stored (s .«ram_top») (listed (stacked (m .regs) (isEntire v) .writes)) mem)) (m .regs .s)
+
   framed : (w : Wait) → isEight (taken w mem s (m .regs) v .answer) ≡ smallFrame w (m .regs .s) v
-  framed Running = ap (λ (n : ℕ). eqb n 8) (vectors-refuse-exactly .running mem s (m .regs) v) ∙ frame-eight (isEntire v) _ (m .regs .s)
-  framed Sync = ap (λ (n : ℕ). eqb n 8) (vectors-refuse-exactly .running mem s (m .regs) v) ∙ frame-eight (isEntire v) _ (m .regs .s)
-  framed Cwai = ap (λ (n : ℕ). eqb n 8) (vectors-refuse-exactly .inCwai mem s (m .regs) v) ∙ no-eight _
+  unfolding leads
+  framed Running = running
+  framed Sync = running
+  framed Cwai = ap (λ (n : ℕ). eqb n 8) (vectors-refuse-exactly .inCwai mem s (m .regs) v) ∙ no-eight (leads mem)
 
 pub interrupt-small-exactly : InterruptSmallExactly
 unfolding interruptPlan

@@ -16,4 +16,4 @@ returns-3 : tie.Need-returns-3
 returns-3 c = rw (c .finish .ensures, c .before .evaluate-memory .ensures, c .before .before .before .op2 .given .1)
 
 pub operate-spec : {M : Type 1} → statement M
-operate-spec = tie.close (tie.spec (search needs) (search needs) (search needs) (search needs) (search needs) (search needs) (search needs) (search needs) (search needs) (search needs) returns returns-2 returns-3)
+operate-spec = tie.close (tie.spec (search needs) (search needs) (search needs) (search needs) (search needs) (search needs) (search needs) (search needs) (search needs) returns returns-2 returns-3)

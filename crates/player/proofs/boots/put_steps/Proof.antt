@@ -1,13 +1,14 @@
--- `put_steps` meets its contract.
+-- The loop's invariant: the lines of the steps left, laid after the text so far, make the whole text (`ToGo`).
 -- Assumes nothing.
 use borrow.Author.Needs.{needs}
 use mathlib.Core.Path.{_≡_, refl, _∙_}
 use native.Mathlib.Omega.{arith}
 use lib.ListN.{length}
-use Rattle.player.specs.Boot.{stepLines}
+use Rattle.player.specs.Boots.{stepLines}
+use Rattle.player.proofs.Playing.{line-bound}
 use Rattle.player.proofs.Booting.{ToGo, at-first, turn, finished}
-use Rattle.player.proofs.put_steps.Statement.{statement}
-use Rattle.player.proofs.put_steps.Tie as tie
+use Rattle.player.proofs.boots.put_steps.Statement.{statement}
+use Rattle.player.proofs.boots.put_steps.Tie as tie
 
 abbrev Inv-loop : tie.InvT-loop
 Inv-loop out₀ at mem₀ settings count current₀ used₀ left₀ out mem current used left =
@@ -23,8 +24,10 @@ loop-holds c =
     let a = c .before .before .args in
     (at-first (a .settings) (a .out .now) (a .at) (a .count) (a .mem .now) (a .machine) (omega arith), (refl, refl))
 
-put-call-requires : tie.Need-put-call-requires Inv-loop μ-loop
-put-call-requires c κs = omega (arith, c .before .before .before .before .before .before .before .loop .inv .0 .room)
+add-used : tie.Need-add-used Inv-loop μ-loop
+add-used c =
+    let r = c .before .before .before .before .before .before .before .step .result in
+    omega (arith, c .before .before .before .before .before .before .before .before .before .before .loop .inv .0 .room, c .before .before .before .before .before .before .before .before .before .loop-test .taken, c .before .before .put-call .ensures .0, line-bound (r .answer) (r .machine))
 
 loop-again : tie.Need-loop-again Inv-loop μ-loop
 loop-again c =
@@ -51,4 +54,4 @@ returns c =
 pub put-steps-spec : {M : Type 1} → statement M
 put-steps-spec =
     tie.close
-    (tie.spec Inv-loop μ-loop loop-holds (search needs) put-call-requires (search needs) (search needs) loop-again same-length same-length-2 returns)
+    (tie.spec Inv-loop μ-loop loop-holds (search needs) (search needs) add-used (search needs) (search needs) loop-again same-length same-length-2 returns)

@@ -1,8 +1,8 @@
--- `act` meets its contract.
+-- Each operation is the recorded call of its name.
 -- Assumes nothing.
 use borrow.Author.Needs.{needs}
-use Rattle.player.proofs.act.Statement.{statement}
-use Rattle.player.proofs.act.Tie as tie
+use Rattle.player.proofs.plays.act.Statement.{statement}
+use Rattle.player.proofs.plays.act.Tie as tie
 
 returns : tie.Need-returns
 returns c = rw (c .before .before .before .before .before .before .before .enum-told .given .1) (c .before .before .before .before .step .ensures)

@@ -1,13 +1,14 @@
--- `play` meets its contract.
+-- A refused file prints its number; a sound one is played in the memory that `load` left.
 -- Assumes nothing.
 use borrow.Author.Needs.{needs}
 use mathlib.Core.Path.{sym, _∙_}
 use lib.ListN.{length}
-use Rattle.runfile.specs.Format.{parsed}
-use Rattle.player.specs.Play.{printed}
-use Rattle.player.proofs.Playing.{no-file}
-use Rattle.player.proofs.play.Statement.{statement}
-use Rattle.player.proofs.play.Tie as tie
+use Rattle.journal.specs.Recorded.{freshTwin, inHand}
+use Rattle.runfile.specs.Format.{parsed, placed}
+use Rattle.player.specs.Plays.{zeros, journalLength, printed}
+use Rattle.player.proofs.Playing.{refused-file}
+use Rattle.player.proofs.plays.play.Statement.{statement}
+use Rattle.player.proofs.plays.play.Tie as tie
 
 play-all-requires : tie.Need-play-all-requires
 play-all-requires c κs = sym (c .before .before .before .before .before .from .given .1) ∙ c .before .before .before .before .before .before .before .before .load .ensures .0
@@ -15,8 +16,8 @@ play-all-requires c κs = sym (c .before .before .before .before .before .from .
 returns : tie.Need-returns
 unfolding printed
 returns c =
-    let f = c .before .before .before .before .before .before .before .before .before .before .before .before .args .file .now in
-    rw (no-file (length f) (parsed f) (sym (c .before .before .before .before .before .before .before .load .ensures .0) ∙ c .before .before .before .before .enum-told .given .1)) (c .before .before .put-sixteen .ensures)
+    let f = c .before .before .before .before .before .before .before .before .before .before .before .before .before .args .file .now in
+    rw (refused-file (length f) (parsed f) (inHand (placed (parsed f) (zeros 65536)) (zeros journalLength) freshTwin) (sym (c .before .before .before .before .before .before .before .before .load .ensures .0) ∙ c .before .before .before .before .before .refusal .given .1)) (c .before .before .put-refusal .ensures)
 
 returns-2 : tie.Need-returns-2
 unfolding printed
