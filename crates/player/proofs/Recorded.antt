@@ -18,7 +18,8 @@ use Rattle.calls.specs.Calls.{Call, step, reset, planOf, settingsIn}
 use Rattle.calls.specs.Plans.{memoryWith}
 use Rattle.calls.specs.Steps.{stepPlan}
 use Rattle.calls.specs.declared.Plan.{Plan}
-use Rattle.calls.proofs.Laws.{refused-call, few-writes, waits-refused}
+use Rattle.calls.proofs.Accepted.{waits-refused}
+use Rattle.calls.proofs.Laws.{refused-call, few-writes}
 use Rattle.journal.specs.Record.{encode, recordLength}
 use Rattle.journal.specs.Recorded.{State, Ended, freshTwin, inHand, unless, admitted, callAnswer, savedFor, recorded, concluded, called, whileWaiting, stepped, wasReset}
 use Rattle.journal.proofs.Laying.{saved-few}
@@ -104,8 +105,8 @@ module _ (t : Settings) where
     where
       go : (w : Wait) → m .wait ≡ w → unless (whileWaiting w) (stepPlan mem m t .answer) ≡ stepPlan mem m t .answer
       go Running e = refl
-      go Cwai e = sym (waits-refused mem m t size (λ r. let z : _≡_ {A = ℕ} 0 1 = cc in omega arith))
-      go Sync e = sym (waits-refused mem m t size (λ r. let z : _≡_ {A = ℕ} 0 1 = cc in omega arith))
+      go Cwai e = sym (ap (λ (p : Plan). p .answer) (waits-refused mem m t size (λ r. let z : _≡_ {A = ℕ} 0 1 = cc in omega arith)))
+      go Sync e = sym (ap (λ (p : Plan). p .answer) (waits-refused mem m t size (λ r. let z : _≡_ {A = ℕ} 0 1 = cc in omega arith)))
 
   steps-recorded : (k : ℕ) (s : State) → length (s .memory) ≡ 65536 → (s .twin .used + k) * recordLength ≤ length (s .journal)
       → stepLines t k (s .memory) (s .twin .machine) ≡ lines t (replicate k Step) s
