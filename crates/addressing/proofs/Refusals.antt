@@ -1,6 +1,6 @@
 -- An effective address is refused by 6, and a resolved one by 4 or 6.
 -- Assumes nothing.
-use Prim.Native.Nat.{ℕ, _+_}
+use Prim.Native.Nat.{ℕ}
 use mathlib.Core.Bool.{Bool, true, false, cond, _||_}
 use mathlib.Core.List.{List}
 use mathlib.Core.Path.{_≡_, refl}
@@ -15,7 +15,6 @@ use Rattle.answers.specs.declared.Refusal.{Refusal}
 use Rattle.answers.specs.declared.Refusal.the-variants.{PastEnd, WordAtTop}
 use Rattle.decode.specs.PostByte.{isIndirect, indexOf}
 use Rattle.decode.specs.declared.operand.Indexed.{Indexed}
-use Rattle.decode.specs.declared.operand.Operand.{Operand}
 use Rattle.decode.specs.declared.operand.Operand.the-variants.{Inherent as Nothing, Immediate as ByValue, Direct as InPage, Indexed as ByIndex, Extended as AtAddress, Relative as Branch}
 use Rattle.addressing.specs.Address.{formAddress, throughPointer, indexedAddress, effectiveOf, advanced, resolvedOf}
 use Rattle.addressing.specs.Laws.{OfPointer, OfResolving, RefusedBy, EffectiveRefuses, ResolveRefuses}

@@ -1,6 +1,6 @@
 -- Effective addresses, and the registers after addressing, fit their widths.
 -- Assumes nothing.
-use Prim.Native.Nat.{ℕ, _+_, _-_, _*_, _%_, _<_}
+use Prim.Native.Nat.{ℕ, _+_, _-_, _%_, _<_}
 use mathlib.Core.Path.{_≡_, refl}
 use mathlib.Core.Bool.{Bool, true, false, cond}
 use mathlib.Core.List.{List}
@@ -22,11 +22,9 @@ use Rattle.memory.specs.declared.WordRead.{WordRead}
 use Rattle.memory.specs.declared.WordRead.the-variants.{Word as Pointer, Refused as NoPointer}
 use Rattle.memory.proofs.Fits.{WordIn, word-fits}
 use Rattle.decode.specs.PostByte.{isIndirect, indexOf}
-use Rattle.decode.specs.Laws.{OperandFits}
 use Rattle.decode.specs.declared.postbyte.Form.{Form}
 use Rattle.decode.specs.declared.postbyte.Form.the-variants.{Offset5, Increment1, Increment2, Decrement1, Decrement2, NoOffset, OffsetB, OffsetA, Offset8, Offset16, OffsetD, Program8, Program16, Address}
 use Rattle.decode.specs.declared.operand.Indexed.{Indexed}
-use Rattle.decode.specs.declared.operand.Operand.{Operand}
 use Rattle.decode.specs.declared.operand.Operand.the-variants.{Inherent as Nothing, Immediate as ByValue, Direct as InPage, Indexed as ByIndex, Extended as AtAddress, Relative as Branch}
 use Rattle.addressing.specs.Address.{formAddress, throughPointer, indexedAddress, effectiveOf, advanced, resolvedOf}
 use Rattle.addressing.specs.Laws.{AddressedFits, ResolvedFits, EffectiveFits, ResolveFits}

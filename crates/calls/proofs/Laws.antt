@@ -32,25 +32,28 @@ use Rattle.machine.specs.declared.Wait.{Wait}
 use Rattle.machine.specs.declared.Wait.the-variants.{Running, Cwai, Sync}
 use Rattle.opcodes.specs.declared.Entry.{Entry}
 use Rattle.decode.specs.Decode.{decodedAt}
+use Rattle.decode.specs.Laws.{DecodedFits}
 use Rattle.decode.specs.declared.instruction.Decoded.{Decoded}
 use Rattle.decode.specs.declared.instruction.Decoded.the-variants.{Instruction, Refused as NotDecoded}
+use Rattle.decode.proofs.Laws.{decode-fits}
 use Rattle.addressing.specs.Address.{resolvedOf}
 use Rattle.addressing.specs.declared.Resolved.{Resolved}
 use Rattle.addressing.specs.declared.Resolved.the-variants.{At as Addressed, Refused as NoAddress}
-use Rattle.addressing.proofs.Widths.{ResolvedFits, resolved-fits}
+use Rattle.addressing.specs.Laws.{ResolvedFits}
+use Rattle.addressing.proofs.Widths.{resolve-fits}
 use Rattle.operations.specs.Branches.{jumped}
 use Rattle.operations.specs.Sound.{Sound, Given}
 use Rattle.operations.proofs.Widths.{jumped-fits}
 use Rattle.vectors.specs.Table.{addressOf}
 use Rattle.vectors.specs.declared.table.Vector.{Vector}
 use Rattle.vectors.specs.declared.table.Vector.the-variants.{Reset}
-use Rattle.vectors.proofs.Sound.{served-sound, stacked-sound}
+use Rattle.vectors.proofs.Sound.{vectors-sound}
 use Rattle.evaluate.specs.Evaluate.{evaluateOf}
 use Rattle.evaluate.specs.Waits.{waitAfter}
 use Rattle.evaluate.proofs.Sound.{evaluated-sound}
 use Rattle.evaluate.proofs.Waits.{cwai-alone, sync-alone}
 use Rattle.calls.specs.Plans.{refusedWith, accepted, withRegisters, carriedOut, memoryWith, PlanFits, Unchanged}
-use Rattle.calls.specs.Steps.{addressed, ofDecoded, decodedTo, unlessWaiting, reached, finishedAs, finished, operated, planned, stepPlan}
+use Rattle.calls.specs.Steps.{addressed, ofDecoded, decodedTo, unlessWaiting, reached, finishedAs, finished, planned, stepPlan}
 use Rattle.calls.specs.Interrupts.{vectorOf, isMasked, taken, afterMasked, ofEffect, interruptPlan}
 use Rattle.calls.specs.Resets.{resetTo, resetPlan}
 use Rattle.calls.specs.Calls.{Call, step, interrupt, reset, settingsIn, planOf, RefusedCall, FewWrites, CallFits}
@@ -88,6 +91,10 @@ module _ {P : Type 0} {Moves : Machine → Type 0} (m : Machine) (h : P → Mach
     moves = λ e. not-done e;
   }
 
+-- what a sound effect rests on, given by something else
+weaker : {P Q : Type 0} {r : Set} {w : Wait} {e : Effect} → (Q → P) → Sound P r w e → Sound Q r w e
+weaker f t = record { few = t .few; waits = t .waits; refused = t .refused; registers = λ g. t .registers (f g); widths = λ g. t .widths (f g) }
+
 -- ---- a step
 
 -- an operation that is carried out, by the entry e
@@ -120,12 +127,12 @@ module _ (mem : List ℕ) (m : Machine) where
       of-address e (Addressed a) k = (k .registers, k .address)
       of-address e (NoAddress x) k = tt
 
-      of-decoded : (d : Decoded) → ReachedFits (ofDecoded mem (m .regs) d)
-      of-decoded (Instruction i) = of-address (i .entry) _ (resolved-fits mem b (m .regs) f (i .operand) (i .next))
-      of-decoded (NotDecoded x) = tt
+      of-decoded : (d : Decoded) → DecodedFits (m .regs .pc) d → ReachedFits (ofDecoded mem (m .regs) d)
+      of-decoded (Instruction i) k = of-address (i .entry) (resolvedOf mem (m .regs) (i .operand) (i .next)) (resolve-fits mem b (m .regs) f (i .operand) (i .next) (k .operand))
+      of-decoded (NotDecoded x) k = tt
 
       waiting : (w : Wait) → ReachedFits (unlessWaiting w mem (m .regs))
-      waiting Running = of-decoded (decodedAt mem (m .regs .pc))
+      waiting Running = of-decoded (decodedAt mem (m .regs .pc)) (decode-fits mem (m .regs .pc) b (f .pc))
       waiting Cwai = tt
       waiting Sync = tt
 
@@ -134,16 +141,9 @@ module _ (mem : List ℕ) (m : Machine) where
       go false = tt
 
   planned-whole : (s : Settings) (a : Reached) → (Provided mem m → ReachedFits a) → Whole (Provided mem m) (MovedBy a m) m (planned mem m s a)
-  planned-whole s (At e r ea) k = finished-whole m (λ g. g .machine) e _ r given
-    where
-      t : Sound (Given mem r ea) r (waitAfter (e .op)) (evaluateOf (e .op) s mem r ea)
-      t = evaluated-sound (e .op) s mem r ea
-
-      of : Provided mem m → Given mem r ea
-      of g = record { registers = k g .0; bytes = g .bytes; address = k g .1 }
-
-      given : Sound (Provided mem m) r (waitAfter (e .op)) (evaluateOf (e .op) s mem r ea)
-      given = record { few = t .few; waits = t .waits; refused = t .refused; registers = λ g. t .registers (of g); widths = λ g. t .widths (of g) }
+  planned-whole s (At e r ea) k =
+      finished-whole m (λ g. g .machine) e _ r
+      (weaker (λ g. record { registers = k g .0; bytes = g .bytes; address = k g .1 }) (evaluated-sound (e .op) s mem r ea))
   planned-whole s (NotReached x) k = refused-whole m (λ g. g .machine) x
 
   step-whole : (s : Settings) → Whole (Provided mem m) (MovedBy (reached mem m) m) m (stepPlan mem m s)
@@ -172,10 +172,14 @@ module _ (mem : List ℕ) (m : Machine) where
   }
   effect-whole e s (Refused x) = refused-whole m (λ g. g .machine) x
 
+  -- an interrupt has no effective address: any will do
+  given : Provided mem m → Given mem (m .regs) 0
+  given g = record { registers = g .machine .registers; bytes = g .bytes; address = lit< tt }
+
   taken-sound : (s : Settings) (v : Vector) (w : Wait) → Sound (Provided mem m) (m .regs) Running (taken w mem s (m .regs) v)
-  taken-sound s v Running = served-sound mem (λ g. g .bytes) s (m .regs) (λ g. g .machine .registers) v
-  taken-sound s v Sync = served-sound mem (λ g. g .bytes) s (m .regs) (λ g. g .machine .registers) v
-  taken-sound s v Cwai = stacked-sound mem (λ g. g .bytes) s (m .regs) (λ g. g .machine .registers) v
+  taken-sound s v Running = weaker given (vectors-sound mem s (m .regs) 0 .running v)
+  taken-sound s v Sync = weaker given (vectors-sound mem s (m .regs) 0 .running v)
+  taken-sound s v Cwai = weaker given (vectors-sound mem s (m .regs) 0 .inCwai v)
 
   interrupt-whole : (s : Settings) (i : InterruptType) → Whole (Provided mem m) (Still m) m (interruptPlan mem m s i)
   unfolding interruptPlan

@@ -96,8 +96,9 @@ fn operate(
     ensures { λ r. ⌜ r ≡ operated (now (mem .entry)) machine settings entry regs ea ⌝ }
 {
     let op = entry.op;
+    let flags = settings.flags;
     match op {
-        Op::Registers(on) => match operations::change(on, settings.flags, mem, regs, ea) {
+        Op::Registers(on) => match operations::change(on, flags, mem, regs, ea) {
             Changed::After(after) => change(machine, entry.cycles, after),
             Changed::Refused(refusal) => refused(machine, refusal),
         },

@@ -1,6 +1,6 @@
 -- 5 is given exactly where an indexed instruction's post-byte has no form.
 -- Assumes nothing.
-use Prim.Native.Nat.{ℕ, zero, suc, _+_, _≤_, _<_}
+use Prim.Native.Nat.{ℕ, zero, suc, _+_, _<_}
 use mathlib.Core.Path.{_≡_, refl, sym, _∙_}
 use mathlib.Core.Bool.{Bool, true, false, cond, true≢false}
 use mathlib.Core.List.{List}
@@ -20,7 +20,6 @@ use Rattle.decode.specs.PostByte.{formOf, offsetBytes, isRefused}
 use Rattle.decode.specs.Operand.{signedByte, numberAt, reading, offsetOf, indexedBy, withForm, afterPostByte, operandAt}
 use Rattle.decode.specs.Decode.{located, withOperand, decodedAs, fromLocated, decodedAt}
 use Rattle.decode.specs.Laws.{NoFormAt, Formless, PostByteRefused}
-use Rattle.decode.specs.declared.postbyte.Form.{Form}
 use Rattle.decode.specs.declared.postbyte.PostByte.{PostByte}
 use Rattle.decode.specs.declared.postbyte.PostByte.the-variants.{Form as Taken, Refused as NoForm}
 use Rattle.decode.specs.declared.operand.Operand.{Operand}
@@ -29,7 +28,7 @@ use Rattle.decode.specs.declared.operand.OperandRead.{OperandRead}
 use Rattle.decode.specs.declared.operand.OperandRead.the-variants.{Operand as Read, Refused as NotRead}
 use Rattle.decode.specs.declared.instruction.Located.{Located}
 use Rattle.decode.specs.declared.instruction.Located.the-variants.{At, Refused as NotLocated}
-use Rattle.decode.specs.declared.instruction.Decoded.the-variants.{Instruction as Decodes, Refused}
+use Rattle.decode.specs.declared.instruction.Decoded.the-variants.{Refused}
 use Rattle.decode.proofs.Laws.{LocatedSo, located-so}
 use Rattle.decode.proofs.Sound.{FormSo, form-so}
 

@@ -1,7 +1,7 @@
 -- The laws of decoding: 3, 4 or 5 alone, 3 exactly, and what fits.
 -- Assumes nothing.
 use Prim.Native.Nat.{ℕ, _+_, _≤_, _<_}
-use mathlib.Core.Path.{_≡_, refl, sym, _∙_}
+use mathlib.Core.Path.{_≡_, refl}
 use mathlib.Core.Bool.{Bool, true, false, cond, _&&_}
 use mathlib.Core.List.{List, [], _∷_}
 use mathlib.Core.Logic.{_↔_}
@@ -29,8 +29,7 @@ use Rattle.decode.specs.declared.operand.OperandRead.{OperandRead}
 use Rattle.decode.specs.declared.operand.OperandRead.the-variants.{Operand as Read, Refused as NotRead}
 use Rattle.decode.specs.declared.instruction.Located.{Located}
 use Rattle.decode.specs.declared.instruction.Located.the-variants.{At, Refused as NotLocated}
-use Rattle.decode.specs.declared.instruction.Decoded.{Decoded}
-use Rattle.decode.specs.declared.instruction.Decoded.the-variants.{Instruction as Taken, Refused}
+use Rattle.decode.specs.declared.instruction.Decoded.the-variants.{Refused}
 use Rattle.decode.proofs.Sizes.{entry-sizes}
 use Rattle.decode.proofs.Sound.{OfOperand, SoundRead, operand-sound}
 

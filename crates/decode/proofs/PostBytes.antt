@@ -1,9 +1,9 @@
 -- The masks of the post-byte: laws over all 256 bytes, each shown by one test that antt computes.
 -- Assumes nothing.
-use Prim.Native.Nat.{ℕ, _+_, _/_, _%_, _≤_, _<_}
+use Prim.Native.Nat.{ℕ, _/_, _%_, _≤_, _<_}
 use mathlib.Core.Path.{_≡_, refl}
-use mathlib.Core.Bool.{Bool, true, false, cond, _||_}
-use mathlib.Core.List.{List, [], _∷_}
+use mathlib.Core.Bool.{true, cond, _||_}
+use mathlib.Core.List.{[], _∷_}
 use borrow.Author.Tests.{leb-true, le-ltb, ne-eqb, lt-leb}
 use lib.Bits.{bitAnd, bitOr}
 use lib.Dec.{eqb, leb, ltb}

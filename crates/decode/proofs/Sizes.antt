@@ -1,15 +1,16 @@
 -- Each entry of the opcode map has the size of its prefix, its opcode and its operand bytes: one test that antt computes.
 -- Assumes nothing.
-use Prim.Native.Nat.{ℕ, _+_, _<_}
-use mathlib.Core.Path.{_≡_, refl, sym, _∙_}
+use Prim.Native.Nat.{ℕ, _+_}
+use mathlib.Core.Path.{_≡_, refl}
 use mathlib.Core.Bool.{Bool, true}
-use lib.Dec.{T, eqb, eqb→eq}
+use lib.Dec.{eqb, eqb→eq}
 use Rattle.opcodes.specs.Manual.{entryOf}
 use Rattle.opcodes.specs.declared.Page.{Page}
 use Rattle.opcodes.specs.declared.Page.the-variants.{Plain, Ten, Eleven}
 use Rattle.opcodes.specs.declared.Place.{Place}
 use Rattle.opcodes.specs.declared.Place.the-variants.{Instruction as InManual, None}
-use Rattle.opcodes.proofs.Rows.{values, alike}
+use Rattle.opcodes.specs.Table.{values}
+use Rattle.opcodes.proofs.Rows.{alike}
 use Rattle.decode.specs.Operand.{operandBytes}
 use Rattle.decode.specs.Laws.{prefixBytes, SizedAt, EntrySizes}
 

@@ -2,7 +2,6 @@
 -- Assumes nothing.
 use Prim.Native.Nat.{ℕ}
 use mathlib.Core.Path.{refl}
-use mathlib.Core.Logic.{_↔_}
 use Rattle.registers.specs.declared.Set.{Set}
 use Rattle.memory.specs.Map.{byteAt}
 use Rattle.machine.specs.declared.Effect.{Effect}
@@ -12,7 +11,8 @@ use Rattle.opcodes.specs.declared.RegisterOp.{RegisterOp}
 use Rattle.opcodes.specs.declared.Unary.{Unary}
 use Rattle.operations.specs.Parting.{PartInV, ChangedPart, both-after, both-refused, EffectsPart, UnaryParts, OpParts}
 use Rattle.operations.specs.declared.Changed.{Changed}
-use Rattle.operations.proofs.Parting.{same-registers, same-effects, changes-part, on-memory-parts}
+use Rattle.operations.proofs.Parting.{same-effects, changes-part, on-memory-parts}
+use Rattle.vectors.specs.Service.{vectored}
 use Rattle.evaluate.specs.Evaluate.{effectOf}
 use Rattle.evaluate.specs.Parting.{InstructionParts, on-registers, on-memory, InstructionsPart}
 
@@ -46,6 +46,7 @@ module _ (r : Set) (m : ℕ) where
   of-memory op (on-memory k) = k
 
 pub instructions-part : InstructionsPart
+unfolding vectored
 instructions-part (Registers op) top mem r ea la lb l = of-change r _ _ (changes-part op mem r ea la lb l) on-registers (of-registers r (byteAt mem ea) op)
 instructions-part (Memory (OnMemory op)) top mem r ea la lb l = of-effect _ _ (on-memory-parts op mem r ea l) on-memory (of-memory r (byteAt mem ea) op)
 instructions-part (Memory (Store8 acc)) top mem r ea la lb l = same-effects refl (elim [ ])

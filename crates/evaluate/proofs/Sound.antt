@@ -1,5 +1,6 @@
 -- Every operation is sound, since those of its subject are.
 -- Assumes nothing.
+use mathlib.Core.Bool.{false}
 use Rattle.registers.specs.declared.Set.{Set}
 use Rattle.registers.specs.declared.Stack.the-variants.{S}
 use Rattle.registers.specs.Fits.{Fits}

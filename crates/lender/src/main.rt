@@ -9,15 +9,12 @@
 ghost use Rattle.journal.specs.Recorded.{inHand, stepped};
 ghost use Rattle.journal.specs.Undos.{undone};
 ghost use Rattle.lent.specs.Lending.{Returns};
-use machine::Wait;
+use answers::Answer;
 use journal::Twin;
 use lent::Returned;
 use libc::STDOUT_FILENO;
-use registers::CCBits;
-use registers::Flags;
-use registers::Set;
-use machine::Machine;
 use machine::Settings;
+use registers::Flags;
 
 type Memory = [u8; 0x10000];
 
@@ -55,7 +52,8 @@ fn letter(n: u8) -> u8 {
     if d < 10 { b'0' + d } else { b'A' - 10 + d }
 }
 
-fn show(number: u8, twin: Twin, byte: u8) -> bool {
+fn show(answer: Answer, twin: Twin, byte: u8) -> bool {
+    let number = answer.number();
     let machine = twin.machine;
     let regs = machine.regs;
     let high = (regs.pc / 256) as u8;
@@ -82,15 +80,12 @@ fn shown(returned: Returned, byte: u8) -> Twin {
     let reported = returned.reported;
     let answer = reported.answer;
     let twin = returned.twin;
-    show(answer.number(), twin, byte);
+    show(answer, twin, byte);
     twin
 }
 
 fn forward(twin: Twin, mem: &mut Memory, journal: &mut Journal) -> Twin {
-    let settings = Settings {
-        ram_top: 0x7FFF,
-        flags: Flags::Manual,
-    };
+    let settings = Settings::new(0x7FFF, Flags::Manual);
     let returned = step_owned(twin, mem, journal, settings);
     shown(returned, mem[CELL])
 }
@@ -100,26 +95,16 @@ fn back(twin: Twin, mem: &mut Memory, journal: &Journal) -> Twin {
     shown(returned, mem[CELL])
 }
 
+// A fresh machine at the program, with the byte to store.
 fn start() -> Twin {
-    Twin {
-        machine: Machine {
-            cycles: 0,
-            instructions: 0,
-            regs: Set {
-                x: 0,
-                y: 0,
-                u: 0,
-                s: 0,
-                pc: 0x0100,
-                a: 0x2A,
-                b: 0,
-                dp: 0,
-                cc: CCBits { reg: 0 },
-            },
-            wait: Wait::Running,
-        },
-        used: 0,
-    }
+    let mut twin = Twin::fresh();
+    let mut machine = twin.machine;
+    let mut regs = machine.regs;
+    regs.pc = 0x0100;
+    regs.a = 0x2A;
+    machine.regs = regs;
+    twin.machine = machine;
+    twin
 }
 
 fn main() {

@@ -1,4 +1,4 @@
--- How a recorded call ends (crates/journal, specs/Calls.antt) where the twin is lent: the twin is left in its place, and the rest is returned.
+-- How a recorded call ends (crates/journal, specs/Recorded.antt) where the twin is lent: the twin is left in its place, and the rest is returned.
 -- Assumes nothing.
 use Prim.Native.Nat.{ℕ}
 use mathlib.Core.List.{List}

@@ -5,8 +5,8 @@ ghost use Rattle.journal.specs.Undos.{undone};
 ghost use Rattle.lent.specs.Lending.{Returns, Leaves};
 use answers::Answer;
 use journal::Twin;
-use memory::Writes;
 use machine::Settings;
+use memory::Writes;
 
 // What a call returns once the twin is written back: the device writes that it reports, and its answer.
 pub struct Reported {

@@ -1,4 +1,4 @@
-// Page 11 of the opcode table, the opcodes after a byte 11: the rows of sixteen places that have an instruction.
+// Page 11 of the opcode table, the opcodes after a byte 11: the rows of sixteen places that have an instruction, each set at its low digit.
 ghost use mathlib.Core.Path.{_≡_};
 ghost use Rattle.opcodes.specs.Manual.{entryOf};
 ghost use Rattle.opcodes.specs.Table.{rowOf};
@@ -16,120 +16,49 @@ use registers::Word;
 fn row_3() -> [Place; 16]
     ensures { λ r. ⌜ r ≡ rowOf Eleven 0x3 ⌝ }
 {
-    [
-        Place::None,
-        Place::None,
-        Place::None,
-        Place::None,
-        Place::None,
-        Place::None,
-        Place::None,
-        Place::None,
-        Place::None,
-        Place::None,
-        Place::None,
-        Place::None,
-        Place::None,
-        Place::None,
-        Place::None,
-        memory(MemoryOp::Swi(Software::Swi3), Mode::Inherent, 2, 20),
-    ]
+    let mut row = [Place::None; 16];
+    row[0xF] = memory(MemoryOp::Swi(Software::Swi3), Mode::Inherent, 2, 20);
+    row
 }
 
 // U and S, immediate.
 fn row_8() -> [Place; 16]
     ensures { λ r. ⌜ r ≡ rowOf Eleven 0x8 ⌝ }
 {
-    [
-        Place::None,
-        Place::None,
-        Place::None,
-        compare16(Word::U, Mode::Immediate16, 4, 5),
-        Place::None,
-        Place::None,
-        Place::None,
-        Place::None,
-        Place::None,
-        Place::None,
-        Place::None,
-        Place::None,
-        compare16(Word::S, Mode::Immediate16, 4, 5),
-        Place::None,
-        Place::None,
-        Place::None,
-    ]
+    let mut row = [Place::None; 16];
+    row[0x3] = compare16(Word::U, Mode::Immediate16, 4, 5);
+    row[0xC] = compare16(Word::S, Mode::Immediate16, 4, 5);
+    row
 }
 
 // U and S, direct.
 fn row_9() -> [Place; 16]
     ensures { λ r. ⌜ r ≡ rowOf Eleven 0x9 ⌝ }
 {
-    [
-        Place::None,
-        Place::None,
-        Place::None,
-        compare16(Word::U, Mode::Direct, 3, 7),
-        Place::None,
-        Place::None,
-        Place::None,
-        Place::None,
-        Place::None,
-        Place::None,
-        Place::None,
-        Place::None,
-        compare16(Word::S, Mode::Direct, 3, 7),
-        Place::None,
-        Place::None,
-        Place::None,
-    ]
+    let mut row = [Place::None; 16];
+    row[0x3] = compare16(Word::U, Mode::Direct, 3, 7);
+    row[0xC] = compare16(Word::S, Mode::Direct, 3, 7);
+    row
 }
 
 // U and S, indexed.
 fn row_a() -> [Place; 16]
     ensures { λ r. ⌜ r ≡ rowOf Eleven 0xA ⌝ }
 {
-    [
-        Place::None,
-        Place::None,
-        Place::None,
-        compare16(Word::U, Mode::Indexed, 3, 7),
-        Place::None,
-        Place::None,
-        Place::None,
-        Place::None,
-        Place::None,
-        Place::None,
-        Place::None,
-        Place::None,
-        compare16(Word::S, Mode::Indexed, 3, 7),
-        Place::None,
-        Place::None,
-        Place::None,
-    ]
+    let mut row = [Place::None; 16];
+    row[0x3] = compare16(Word::U, Mode::Indexed, 3, 7);
+    row[0xC] = compare16(Word::S, Mode::Indexed, 3, 7);
+    row
 }
 
 // U and S, extended.
 fn row_b() -> [Place; 16]
     ensures { λ r. ⌜ r ≡ rowOf Eleven 0xB ⌝ }
 {
-    [
-        Place::None,
-        Place::None,
-        Place::None,
-        compare16(Word::U, Mode::Extended, 4, 8),
-        Place::None,
-        Place::None,
-        Place::None,
-        Place::None,
-        Place::None,
-        Place::None,
-        Place::None,
-        Place::None,
-        compare16(Word::S, Mode::Extended, 4, 8),
-        Place::None,
-        Place::None,
-        Place::None,
-    ]
+    let mut row = [Place::None; 16];
+    row[0x3] = compare16(Word::U, Mode::Extended, 4, 8);
+    row[0xC] = compare16(Word::S, Mode::Extended, 4, 8);
+    row
 }
 
 // The place of a byte: in the row of its high digit, at its low one.

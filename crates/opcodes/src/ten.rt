@@ -1,4 +1,4 @@
-// Page 10 of the opcode table, the opcodes after a byte 10: the rows of sixteen places that have an instruction.
+// Page 10 of the opcode table, the opcodes after a byte 10: the rows of sixteen places that have an instruction, each set at its low digit.
 ghost use mathlib.Core.Path.{_≡_};
 ghost use Rattle.opcodes.specs.Manual.{entryOf};
 ghost use Rattle.opcodes.specs.Table.{rowOf};
@@ -44,216 +44,95 @@ fn row_2() -> [Place; 16]
 fn row_3() -> [Place; 16]
     ensures { λ r. ⌜ r ≡ rowOf Ten 0x3 ⌝ }
 {
-    [
-        Place::None,
-        Place::None,
-        Place::None,
-        Place::None,
-        Place::None,
-        Place::None,
-        Place::None,
-        Place::None,
-        Place::None,
-        Place::None,
-        Place::None,
-        Place::None,
-        Place::None,
-        Place::None,
-        Place::None,
-        memory(MemoryOp::Swi(Software::Swi2), Mode::Inherent, 2, 20),
-    ]
+    let mut row = [Place::None; 16];
+    row[0xF] = memory(MemoryOp::Swi(Software::Swi2), Mode::Inherent, 2, 20);
+    row
 }
 
 // D and Y, immediate.
 fn row_8() -> [Place; 16]
     ensures { λ r. ⌜ r ≡ rowOf Ten 0x8 ⌝ }
 {
-    [
-        Place::None,
-        Place::None,
-        Place::None,
-        compare16(Word::D, Mode::Immediate16, 4, 5),
-        Place::None,
-        Place::None,
-        Place::None,
-        Place::None,
-        Place::None,
-        Place::None,
-        Place::None,
-        Place::None,
-        compare16(Word::Y, Mode::Immediate16, 4, 5),
-        Place::None,
-        load16(Word::Y, Mode::Immediate16, 4, 4),
-        Place::None,
-    ]
+    let mut row = [Place::None; 16];
+    row[0x3] = compare16(Word::D, Mode::Immediate16, 4, 5);
+    row[0xC] = compare16(Word::Y, Mode::Immediate16, 4, 5);
+    row[0xE] = load16(Word::Y, Mode::Immediate16, 4, 4);
+    row
 }
 
 // D and Y, direct.
 fn row_9() -> [Place; 16]
     ensures { λ r. ⌜ r ≡ rowOf Ten 0x9 ⌝ }
 {
-    [
-        Place::None,
-        Place::None,
-        Place::None,
-        compare16(Word::D, Mode::Direct, 3, 7),
-        Place::None,
-        Place::None,
-        Place::None,
-        Place::None,
-        Place::None,
-        Place::None,
-        Place::None,
-        Place::None,
-        compare16(Word::Y, Mode::Direct, 3, 7),
-        Place::None,
-        load16(Word::Y, Mode::Direct, 3, 6),
-        store16(Word::Y, Mode::Direct, 3, 6),
-    ]
+    let mut row = [Place::None; 16];
+    row[0x3] = compare16(Word::D, Mode::Direct, 3, 7);
+    row[0xC] = compare16(Word::Y, Mode::Direct, 3, 7);
+    row[0xE] = load16(Word::Y, Mode::Direct, 3, 6);
+    row[0xF] = store16(Word::Y, Mode::Direct, 3, 6);
+    row
 }
 
 // D and Y, indexed.
 fn row_a() -> [Place; 16]
     ensures { λ r. ⌜ r ≡ rowOf Ten 0xA ⌝ }
 {
-    [
-        Place::None,
-        Place::None,
-        Place::None,
-        compare16(Word::D, Mode::Indexed, 3, 7),
-        Place::None,
-        Place::None,
-        Place::None,
-        Place::None,
-        Place::None,
-        Place::None,
-        Place::None,
-        Place::None,
-        compare16(Word::Y, Mode::Indexed, 3, 7),
-        Place::None,
-        load16(Word::Y, Mode::Indexed, 3, 6),
-        store16(Word::Y, Mode::Indexed, 3, 6),
-    ]
+    let mut row = [Place::None; 16];
+    row[0x3] = compare16(Word::D, Mode::Indexed, 3, 7);
+    row[0xC] = compare16(Word::Y, Mode::Indexed, 3, 7);
+    row[0xE] = load16(Word::Y, Mode::Indexed, 3, 6);
+    row[0xF] = store16(Word::Y, Mode::Indexed, 3, 6);
+    row
 }
 
 // D and Y, extended.
 fn row_b() -> [Place; 16]
     ensures { λ r. ⌜ r ≡ rowOf Ten 0xB ⌝ }
 {
-    [
-        Place::None,
-        Place::None,
-        Place::None,
-        compare16(Word::D, Mode::Extended, 4, 8),
-        Place::None,
-        Place::None,
-        Place::None,
-        Place::None,
-        Place::None,
-        Place::None,
-        Place::None,
-        Place::None,
-        compare16(Word::Y, Mode::Extended, 4, 8),
-        Place::None,
-        load16(Word::Y, Mode::Extended, 4, 7),
-        store16(Word::Y, Mode::Extended, 4, 7),
-    ]
+    let mut row = [Place::None; 16];
+    row[0x3] = compare16(Word::D, Mode::Extended, 4, 8);
+    row[0xC] = compare16(Word::Y, Mode::Extended, 4, 8);
+    row[0xE] = load16(Word::Y, Mode::Extended, 4, 7);
+    row[0xF] = store16(Word::Y, Mode::Extended, 4, 7);
+    row
 }
 
 // S, immediate.
 fn row_c() -> [Place; 16]
     ensures { λ r. ⌜ r ≡ rowOf Ten 0xC ⌝ }
 {
-    [
-        Place::None,
-        Place::None,
-        Place::None,
-        Place::None,
-        Place::None,
-        Place::None,
-        Place::None,
-        Place::None,
-        Place::None,
-        Place::None,
-        Place::None,
-        Place::None,
-        Place::None,
-        Place::None,
-        load16(Word::S, Mode::Immediate16, 4, 4),
-        Place::None,
-    ]
+    let mut row = [Place::None; 16];
+    row[0xE] = load16(Word::S, Mode::Immediate16, 4, 4);
+    row
 }
 
 // S, direct.
 fn row_d() -> [Place; 16]
     ensures { λ r. ⌜ r ≡ rowOf Ten 0xD ⌝ }
 {
-    [
-        Place::None,
-        Place::None,
-        Place::None,
-        Place::None,
-        Place::None,
-        Place::None,
-        Place::None,
-        Place::None,
-        Place::None,
-        Place::None,
-        Place::None,
-        Place::None,
-        Place::None,
-        Place::None,
-        load16(Word::S, Mode::Direct, 3, 6),
-        store16(Word::S, Mode::Direct, 3, 6),
-    ]
+    let mut row = [Place::None; 16];
+    row[0xE] = load16(Word::S, Mode::Direct, 3, 6);
+    row[0xF] = store16(Word::S, Mode::Direct, 3, 6);
+    row
 }
 
 // S, indexed.
 fn row_e() -> [Place; 16]
     ensures { λ r. ⌜ r ≡ rowOf Ten 0xE ⌝ }
 {
-    [
-        Place::None,
-        Place::None,
-        Place::None,
-        Place::None,
-        Place::None,
-        Place::None,
-        Place::None,
-        Place::None,
-        Place::None,
-        Place::None,
-        Place::None,
-        Place::None,
-        Place::None,
-        Place::None,
-        load16(Word::S, Mode::Indexed, 3, 6),
-        store16(Word::S, Mode::Indexed, 3, 6),
-    ]
+    let mut row = [Place::None; 16];
+    row[0xE] = load16(Word::S, Mode::Indexed, 3, 6);
+    row[0xF] = store16(Word::S, Mode::Indexed, 3, 6);
+    row
 }
 
 // S, extended.
 fn row_f() -> [Place; 16]
     ensures { λ r. ⌜ r ≡ rowOf Ten 0xF ⌝ }
 {
-    [
-        Place::None,
-        Place::None,
-        Place::None,
-        Place::None,
-        Place::None,
-        Place::None,
-        Place::None,
-        Place::None,
-        Place::None,
-        Place::None,
-        Place::None,
-        Place::None,
-        Place::None,
-        Place::None,
-        load16(Word::S, Mode::Extended, 4, 7),
-        store16(Word::S, Mode::Extended, 4, 7),
-    ]
+    let mut row = [Place::None; 16];
+    row[0xE] = load16(Word::S, Mode::Extended, 4, 7);
+    row[0xF] = store16(Word::S, Mode::Extended, 4, 7);
+    row
 }
 
 // The place of a byte: in the row of its high digit, at its low one.

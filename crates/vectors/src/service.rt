@@ -12,7 +12,7 @@ use memory::Writes;
 use registers::Set;
 
 // The word at the vector, as it is once the writes are made.
-fn target(mem: &[u8], ram_top: u16, writes: Writes, vector: Vector) -> u16
+fn word_at(mem: &[u8], ram_top: u16, writes: Writes, vector: Vector) -> u16
     ensures { λ r. ⌜ r ≡ wordIn (stored «ram_top» (listed writes) (now (mem .entry))) (addressOf vector) ⌝ }
 {
     let at = vector.address();
@@ -38,7 +38,7 @@ pub fn take_vector(
     match answer {
         Answer::Refused(refusal) => Effect::refuses(before, refusal),
         Answer::Done => {
-            let pc = target(mem, ram_top, writes, vector);
+            let pc = word_at(mem, ram_top, writes, vector);
             if memory::read_u8_after(mem, ram_top, writes, pc) == 0 {
                 Effect::refuses(before, Refusal::ZeroAtVector)
             } else {

@@ -1,4 +1,4 @@
--- `lender::step_owned` meets its contract: a walk of its MIR, by hand. It is the caller's side of `machine::step`: the twin lies in a local, which is lent to `step` for a lifetime that is made for the call, and comes back with the twin that `step` left there; the slices are given up for good, each at its own lifetime, share and name.
+-- `lender::step_owned` meets its contract: a walk of its MIR, by hand. It is the caller's side of `lent::step`: the twin lies in a local, which is lent to `step` for a lifetime that is made for the call, and comes back with the twin that `step` left there; the slices are given up for good, each at its own lifetime, share and name.
 -- All that the proof knows of `step` is that it meets its contract.
 -- Assumes nothing.
 use mathlib.Core.Path.{_≡_, refl, ap}
@@ -193,4 +193,4 @@ step-owned-spec 𝓤 H 𝓜 𝓖 𝓡 =
     entered 𝓤 H (tripleOf 𝓤 H (𝓖 .A) this.signature (this.spec 𝓤 H (𝓖 .A) (𝓜 .mem) (𝓡 .run)))
     (tables 𝓤 H 𝓜 𝓡 code.env .C) (tables 𝓤 H 𝓜 𝓡 code.env .Λ) #this code.function (code.unfolded 𝓤 H 𝓜 𝓡)
     (this-meets 𝓤 H (𝓖 .A) (givenOf 𝓤 H 𝓜 𝓖) (𝓜 .mem) (𝓡 .run) (tablesOf 𝓤 H 𝓜 (tables 𝓤 H 𝓜 𝓡 code.env))
-    (cited 𝓤 H (Lent 𝓤 H (𝓖 .A) (𝓜 .mem) (𝓡 .run)) 𝓜 𝓡 code.env #lent lent-def.routine code.calls-machine·step (lent-thm.met 𝓤 H 𝓜 𝓖 𝓡)))
+    (cited 𝓤 H (Lent 𝓤 H (𝓖 .A) (𝓜 .mem) (𝓡 .run)) 𝓜 𝓡 code.env #lent lent-def.routine code.calls-lent·step (lent-thm.met 𝓤 H 𝓜 𝓖 𝓡)))

@@ -1,4 +1,4 @@
--- `lender::undo_owned` meets its contract: a walk of its MIR, by hand. It is the caller's side of `machine::undo`: the twin lies in a local, which is lent to `undo` for a lifetime that is made for the call, and comes back with the twin that `undo` left there; memory is given up for good, at its own lifetime, share and name, and the journal is only read.
+-- `lender::undo_owned` meets its contract: a walk of its MIR, by hand. It is the caller's side of `lent::undo`: the twin lies in a local, which is lent to `undo` for a lifetime that is made for the call, and comes back with the twin that `undo` left there; memory is given up for good, at its own lifetime, share and name, and the journal is only read.
 -- All that the proof knows of `undo` is that it meets its contract.
 -- Assumes nothing.
 use mathlib.Core.Path.{_≡_, refl, ap}
@@ -186,4 +186,4 @@ undo-owned-spec 𝓤 H 𝓜 𝓖 𝓡 =
     entered 𝓤 H (tripleOf 𝓤 H (𝓖 .A) this.signature (this.spec 𝓤 H (𝓖 .A) (𝓜 .mem) (𝓡 .run)))
     (tables 𝓤 H 𝓜 𝓡 code.env .C) (tables 𝓤 H 𝓜 𝓡 code.env .Λ) #this code.function (code.unfolded 𝓤 H 𝓜 𝓡)
     (this-meets 𝓤 H (𝓖 .A) (givenOf 𝓤 H 𝓜 𝓖) (𝓜 .mem) (𝓡 .run) (tablesOf 𝓤 H 𝓜 (tables 𝓤 H 𝓜 𝓡 code.env))
-    (cited 𝓤 H (Lent 𝓤 H (𝓖 .A) (𝓜 .mem) (𝓡 .run)) 𝓜 𝓡 code.env #lent lent-def.routine code.calls-machine·undo (lent-thm.met 𝓤 H 𝓜 𝓖 𝓡)))
+    (cited 𝓤 H (Lent 𝓤 H (𝓖 .A) (𝓜 .mem) (𝓡 .run)) 𝓜 𝓡 code.env #lent lent-def.routine code.calls-lent·undo (lent-thm.met 𝓤 H 𝓜 𝓖 𝓡)))

@@ -1,4 +1,4 @@
--- `machine::step_value` meets its contract: what `journal::step` returned, put together anew.
+-- `lent::step_value` meets its contract: what `journal::step` returned, put together anew.
 -- Assumes nothing.
 use borrow.Author.Needs.{needs}
 use Rattle.lent.proofs.Parts.{parted}

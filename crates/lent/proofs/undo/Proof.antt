@@ -1,4 +1,4 @@
--- `machine::undo` meets its contract: a walk of its MIR, by hand. The borrow of the twin is opened, which gives the twin's cell; the cell is copied into a local and handed to `undo_value` by value, with memory, given up for good at its own lifetime, share and name, and the journal, which is only read; the twin that `undo_value` returned is stored in the cell, and the borrow is closed at it.
+-- `lent::undo` meets its contract: a walk of its MIR, by hand. The borrow of the twin is opened, which gives the twin's cell; the cell is copied into a local and handed to `undo_value` by value, with memory, given up for good at its own lifetime, share and name, and the journal, which is only read; the twin that `undo_value` returned is stored in the cell, and the borrow is closed at it.
 -- Twin and report are never taken apart. All that the proof knows of `undo_value` is that it meets its contract.
 -- Assumes nothing.
 use mathlib.Core.Path.{_≡_, refl, ap}
@@ -181,4 +181,4 @@ undo-spec 𝓤 H 𝓜 𝓖 𝓡 =
     entered 𝓤 H (tripleOf 𝓤 H (𝓖 .A) this.signature (this.spec 𝓤 H (𝓖 .A) (𝓜 .mem) (𝓡 .run)))
     (tables 𝓤 H 𝓜 𝓡 code.env .C) (tables 𝓤 H 𝓜 𝓡 code.env .Λ) #this code.function (code.unfolded 𝓤 H 𝓜 𝓡)
     (this-meets 𝓤 H (𝓖 .A) (givenOf 𝓤 H 𝓜 𝓖) (𝓜 .mem) (𝓡 .run) (tablesOf 𝓤 H 𝓜 (tables 𝓤 H 𝓜 𝓡 code.env))
-    (cited 𝓤 H (Value 𝓤 H (𝓖 .A) (𝓜 .mem) (𝓡 .run)) 𝓜 𝓡 code.env #value value-def.routine code.calls-machine·undo-value (value-thm.met 𝓤 H 𝓜 𝓖 𝓡)))
+    (cited 𝓤 H (Value 𝓤 H (𝓖 .A) (𝓜 .mem) (𝓡 .run)) 𝓜 𝓡 code.env #value value-def.routine code.calls-lent·undo-value (value-thm.met 𝓤 H 𝓜 𝓖 𝓡)))

@@ -1,4 +1,4 @@
--- `machine::undo_value` meets its contract: what `journal::undo` returned, put together anew.
+-- `lent::undo_value` meets its contract: what `journal::undo` returned, put together anew.
 -- Assumes nothing.
 use borrow.Author.Needs.{needs}
 use Rattle.lent.proofs.Parts.{parted}

@@ -12,5 +12,5 @@ pub row-3-spec : {M : Type 1} → statement M
 unfolding entryOf rowOf
 row-3-spec =
     tie.close
-    (tie.spec (search needs)
+    (tie.spec (search needs) (search needs)
     (λ c. refl ∷≡ refl ∷≡ refl ∷≡ refl ∷≡ refl ∷≡ refl ∷≡ refl ∷≡ refl ∷≡ refl ∷≡ refl ∷≡ refl ∷≡ refl ∷≡ refl ∷≡ refl ∷≡ refl ∷≡ c .memory .ensures ∷≡ refl))

@@ -12,5 +12,5 @@ pub row-8-spec : {M : Type 1} → statement M
 unfolding entryOf rowOf
 row-8-spec =
     tie.close
-    (tie.spec (search needs) (search needs) (search needs)
+    (tie.spec (search needs) (search needs) (search needs) (search needs) (search needs) (search needs)
     (λ c. refl ∷≡ refl ∷≡ refl ∷≡ c .before .before .compare16 .ensures ∷≡ refl ∷≡ refl ∷≡ refl ∷≡ refl ∷≡ refl ∷≡ refl ∷≡ refl ∷≡ refl ∷≡ c .before .compare162 .ensures ∷≡ refl ∷≡ c .load16 .ensures ∷≡ refl ∷≡ refl))

@@ -12,5 +12,5 @@ pub row-c-spec : {M : Type 1} → statement M
 unfolding entryOf rowOf
 row-c-spec =
     tie.close
-    (tie.spec (search needs)
+    (tie.spec (search needs) (search needs)
     (λ c. refl ∷≡ refl ∷≡ refl ∷≡ refl ∷≡ refl ∷≡ refl ∷≡ refl ∷≡ refl ∷≡ refl ∷≡ refl ∷≡ refl ∷≡ refl ∷≡ refl ∷≡ refl ∷≡ c .load16 .ensures ∷≡ refl ∷≡ refl))

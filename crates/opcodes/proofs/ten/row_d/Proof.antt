@@ -12,5 +12,5 @@ pub row-d-spec : {M : Type 1} → statement M
 unfolding entryOf rowOf
 row-d-spec =
     tie.close
-    (tie.spec (search needs) (search needs)
+    (tie.spec (search needs) (search needs) (search needs) (search needs)
     (λ c. refl ∷≡ refl ∷≡ refl ∷≡ refl ∷≡ refl ∷≡ refl ∷≡ refl ∷≡ refl ∷≡ refl ∷≡ refl ∷≡ refl ∷≡ refl ∷≡ refl ∷≡ refl ∷≡ c .before .load16 .ensures ∷≡ c .store16 .ensures ∷≡ refl))

@@ -16,7 +16,7 @@ returns-2 c =
     rw (
       c .refuses2 .ensures,
       c .before .before .before .before .enum-told .given .1,
-      ← (c .before .before .before .target .ensures),
+      ← (c .before .before .before .word-at .ensures),
       ← (c .before .before .read-u8-after .ensures),
       eq-eqb _ 0 (c .before .if1 .taken),
     )
@@ -30,7 +30,7 @@ returns-3 c =
       c .before .before .or-codes .ensures,
       c .before .before .before .masks .ensures,
       c .before .before .before .before .before .before .before .enum-told .given .1,
-      ← (c .before .before .before .before .before .before .target .ensures),
+      ← (c .before .before .before .before .before .before .word-at .ensures),
       ← (c .before .before .before .before .before .read-u8-after .ensures),
       ne-eqb _ 0 (c .before .before .before .before .if1 .left),
     )
