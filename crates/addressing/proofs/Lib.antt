@@ -1,6 +1,5 @@
-pub mod PostBytes
 pub mod Sums
-pub mod Refused
-pub mod Unique
+pub mod Refusals
+pub mod Exactly
 pub mod Widths
-pub mod Numbers
+pub mod Unique

@@ -1,4 +1,2 @@
-pub mod PostByte
-pub mod Decode
-pub mod Resolve
-pub mod Numbers
+pub mod Address
+pub mod Laws

@@ -1,7 +1,7 @@
 // The boot program: reads a head and an S-record file from standard input, loads the file, resets the machine, makes so many steps, and
 // prints a line for the reset and for each step. What it prints is `bootPrinted` of what it read (`player::boot`).
 ghost use mathlib.Core.Path.{_≡_};
-ghost use Prim.Native.Nat.{_≤_};
+ghost use Prim.Native.Nat.{_*_, _≤_};
 ghost use lib.ListN.{length};
 use libc::STDIN_FILENO;
 use libc::STDOUT_FILENO;
@@ -9,8 +9,8 @@ use libc::STDOUT_FILENO;
 // One byte more than the longest input, a head of five bytes and 1 MiB of text, so that a longer one is seen.
 const INPUT: usize = 0x10_0006;
 
-// 32 bytes for each of at most 65,536 lines: no text is longer (`boot-fits`).
-const OUT: usize = 0x20_0000;
+// 33 bytes for each of at most 65,536 lines: no text is longer (`boot-fits`).
+const OUT: usize = 33 * 65536;
 
 // Of both, the length is all that lending asks for.
 fn in_buffer() -> [u8; INPUT]
@@ -20,14 +20,14 @@ fn in_buffer() -> [u8; INPUT]
 }
 
 fn out_buffer() -> [u8; OUT]
-    ensures { λ r. ⌜ 0x200000 ≡ length r ⌝ }
+    ensures { λ r. ⌜ 33 * 65536 ≡ length r ⌝ }
 {
     [0; OUT]
 }
 
 // The text, which fits: of bytes, as these are, `boot-fits` says so.
 fn boot_into(input: &[u8], out: &mut [u8]) -> usize
-    ensures { λ r. ⌜ r ≤ 0x200000 ⌝ }
+    ensures { λ r. ⌜ r ≤ 33 * 65536 ⌝ }
 {
     player::boot(input, out)
 }

@@ -9,13 +9,12 @@ use super::machine_memory::put;
 use super::machine_memory::put_back;
 use super::operands::byte;
 use super::operands::is_long;
-use super::operands::is_wide;
 use super::operands::mode;
 use super::operands::seeded;
 use addressing::Addressed;
-use addressing::Decoded;
-use addressing::Operand;
 use addressing::Resolved;
+use decode::Operand;
+use decode::OperandRead;
 use registers::Set;
 
 // The operand's bytes stand after the opcode for as long as the case takes. Its three are laid out in every mode: those that a mode
@@ -42,12 +41,12 @@ fn after_opcode(pc: u16, long: bool) -> u32
 
 fn located(case: Case, mem: &Memory, at: u32) -> Reply {
     let first = case.w1;
-    match addressing::decode(mem, mode(first / 0x1000), at, is_wide(first)) {
-        Decoded::Taken(operand, next) => outcome(
+    match decode::operand_at(mem, mode(first), at) {
+        OperandRead::Operand(operand, next) => outcome(
             resolved(mem, seeded(case.w4), operand, next),
             size(case.w2, next),
         ),
-        Decoded::Refused(refusal) => refused(refusal.number()),
+        OperandRead::Refused(refusal) => refused(refusal.number()),
     }
 }
 

@@ -11,38 +11,54 @@ use super::machine_memory::raw_at_place;
 use super::operands::register;
 use super::operands::seeded;
 use super::operands::truth;
-use evaluate::Effect;
-use evaluate::Wait;
-use memory::AccessType;
-use memory::Answer;
-use memory::Refusal;
-use opcodes::Op;
-use registers::Flags;
+use answers::Answer;
+use machine::Effect;
+use machine::Wait;
 use registers::Name;
 use registers::Set;
-use registers::reg_size;
+use registers::Stack;
+use registers::Word;
 use u8oru16::u8u16;
-
-// A place where the memory's pattern has FF, which CWAI ANDs into CC without effect.
-const ONES: u16 = 0x00BE;
 
 // The registers of a seed, with another S.
 pub fn stacking(seed: u16, s: u16) -> Set {
-    seeded(seed).set_register(Name::S, u8u16::u16(s))
+    seeded(seed).with_word(Word::S, s)
 }
 
-// The Rust's system_psh is a System write below S. Nothing here but frames makes such a push: S is tested by this program.
+// The bits of a push's post-byte that name a register. A push on S has none for S: `push` puts its value into U.
+fn mask(name: Name) -> u8 {
+    match name {
+        Name::A => 0x02,
+        Name::B => 0x04,
+        Name::D => 0x06,
+        Name::X => 0x10,
+        Name::Y => 0x20,
+        Name::U => 0x40,
+        Name::S => 0x40,
+        Name::PC => 0x80,
+        Name::DP => 0x08,
+        Name::CC => 0x01,
+    }
+}
+
+fn with_s_in_u(regs: Set, name: Name) -> Set {
+    match name {
+        Name::S => regs.with_word(Word::U, regs.s),
+        _ => regs,
+    }
+}
+
+// The Rust's system_psh: a push of one register by System writes.
 pub fn push(case: Case, mem: &mut Memory) -> Reply {
     let name = register(case.w1);
     let s = case.w2;
-    if s < reg_size(name) {
-        return refused(Refusal::StackTooSmall.number());
-    }
-    let at = std::num::wrapping_sub_u16(s, reg_size(name));
-    let value = stacking(case.w3, s).get_register(name);
-    let wrote = memory::write_u8u16(mem, case.w3, AccessType::System, at, value);
-    let answer = wrote.answer;
-    let reply = pushed(mem, at, answer);
+    let regs = with_s_in_u(stacking(case.w3, s), name);
+    let effect = stack::push(regs, Stack::S, mask(name), true);
+    let writes = effect.writes;
+    let after = effect.regs;
+    let answer = effect.answer;
+    memory::store_all(mem, case.w3, writes);
+    let reply = pushed(mem, after.s, answer);
     unstack(mem, s);
     reply
 }
@@ -57,39 +73,10 @@ fn pushed(mem: &Memory, at: u16, answer: Answer) -> Reply {
 // A frame and no more.
 pub fn frame(case: Case, mem: &mut Memory) -> Reply {
     let s = case.w2;
-    let regs = stacking(case.w3, s);
-    let effect = if truth(case.w1 / 16) {
-        whole_frame(mem, case.w3, regs)
-    } else {
-        fast_frame(mem, case.w3, regs)
-    };
+    let effect = stack::frame(stacking(case.w3, s), truth(case.w1 / 16));
     let reply = carried_out(mem, case.w3, case.w1 % 16, effect);
     unstack(mem, s);
     reply
-}
-
-// CWAI stacks a whole frame, and waits. The wait is not part of the frame.
-fn whole_frame(mem: &Memory, ram_top: u16, regs: Set) -> Effect {
-    let effect = evaluate::evaluate(Op::Cwai, Flags::Bought, ram_top, mem, regs, ONES);
-    let writes = effect.writes;
-    let after = effect.regs;
-    let answer = effect.answer;
-    Effect {
-        writes,
-        regs: after,
-        wait: Wait::Running,
-        answer,
-    }
-}
-
-// PC and CC are stacked by FIRQ alone, so a vector is taken here too; the PC that it gives is not part of the frame. The pattern's
-// words at 0000 and 8000 lead to 0DB4 and 8D34, to bytes that are not zero, and the frame is never near both.
-fn fast_frame(mem: &Memory, ram_top: u16, regs: Set) -> Effect {
-    let vector = if regs.s < 0x8000 { 0x8000 } else { 0x0000 };
-    let mut effect = evaluate::serve(mem, ram_top, regs, false, 0, vector);
-    let after = effect.regs;
-    effect.regs = after.set_register(Name::PC, u8u16::u16(regs.pc));
-    effect
 }
 
 // What an effect writes is stored, and then shown.

@@ -8,7 +8,7 @@ use super::case::refused;
 use super::case::single;
 use super::operands::access;
 use super::operands::value;
-use memory::Answer;
+use answers::Answer;
 use memory::WordRead;
 
 pub const BYTES: usize = 0x10000;

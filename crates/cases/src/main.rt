@@ -4,12 +4,12 @@ mod arithmetic;
 mod case;
 mod codes;
 mod frames;
+mod lines;
 mod machine_memory;
 mod operands;
 mod register_set;
 mod served;
 mod table;
-mod text;
 mod values;
 
 ghost use Prim.Native.Nat.{_+_, _≤_, _<_};
@@ -19,13 +19,13 @@ use case::Case;
 use case::Reply;
 use libc::STDIN_FILENO;
 use libc::STDOUT_FILENO;
+use lines::BLOCK;
+use lines::LINE;
+use lines::Lines;
+use lines::ROOM;
+use lines::Reading;
 use machine_memory::BYTES;
 use machine_memory::Memory;
-use text::BLOCK;
-use text::LINE;
-use text::Lines;
-use text::ROOM;
-use text::Reading;
 
 // `table` has refused every number that is no function's, so the last arm here and in each group is the last that is left.
 fn answer(case: Case, mem: &mut Memory) -> Reply {
@@ -50,7 +50,7 @@ fn answer(case: Case, mem: &mut Memory) -> Reply {
 fn reply(lines: &Lines, at: usize, mem: &mut Memory) -> Reply
     requires { ⌜ at + 23 ≤ 23552 ⌝ }
 {
-    match text::case_at(lines, at) {
+    match lines::case_at(lines, at) {
         Reading::Case(case) => answer(case, mem),
         Reading::Malformed => Reply::BadCase,
     }
@@ -62,8 +62,8 @@ fn answer_line(lines: &Lines, i: usize, mem: &mut Memory, out: &mut [u8], end: u
     ensures { λ r. ⌜ r ≤ end + 20 ⌝ }
 {
     match reply(lines, i * LINE, mem) {
-        Reply::Done(words) => text::put_words(out, end, words),
-        Reply::BadCase => text::put_bad_case(out, end),
+        Reply::Done(words) => lines::put_words(out, end, words),
+        Reply::BadCase => lines::put_bad_case(out, end),
     }
 }
 
@@ -80,7 +80,7 @@ fn answer_block(lines: &Lines, n: usize, mem: &mut Memory, out: &mut [u8]) -> us
         i += 1;
     }
     if n % LINE != 0 {
-        end = text::put_bad_case(out, end);
+        end = lines::put_bad_case(out, end);
     }
     end
 }

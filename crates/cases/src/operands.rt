@@ -1,7 +1,7 @@
 // What a word of a case stands for. Each function here takes every word; `table` has refused those that are out of range.
 ghost use Prim.Native.Nat.{_≤_};
-use addressing::Mode;
 use memory::AccessType;
+use opcodes::Mode;
 use registers::CCBit;
 use registers::CCBits;
 use registers::Name;
@@ -115,20 +115,24 @@ pub fn access(w: u16) -> AccessType {
     }
 }
 
+// Of the first word of 43: the mode from bit 12 up, then the two below, then two bits that are not used.
+fn is_wide(w: u16) -> bool {
+    w & 0x0800 != 0
+}
+
 pub fn mode(w: u16) -> Mode {
-    match w {
+    match w / 0x1000 {
         0 => Mode::Inherent,
-        1 => Mode::Immediate,
+        1 => sized_mode(w, Mode::Immediate8, Mode::Immediate16),
         2 => Mode::Direct,
         3 => Mode::Indexed,
         4 => Mode::Extended,
-        _ => Mode::Relative,
+        _ => sized_mode(w, Mode::Relative8, Mode::Relative16),
     }
 }
 
-// Of the first word of 43: the mode from bit 12 up, then the two below, then two bits that are not used.
-pub fn is_wide(w: u16) -> bool {
-    w & 0x0800 != 0
+fn sized_mode(w: u16, narrow: Mode, wide: Mode) -> Mode {
+    if is_wide(w) { wide } else { narrow }
 }
 
 pub fn is_long(w: u16) -> bool {

@@ -15,65 +15,63 @@ use super::operands::byte;
 use super::operands::register;
 use super::operands::seeded;
 use super::operands::truth;
-use evaluate::Effect;
-use evaluate::Wait;
-use interrupts::InterruptType;
-use memory::Answer;
-use memory::Writes;
+use answers::Answer;
+use calls::InterruptType;
+use machine::Effect;
+use machine::Machine;
+use machine::Settings;
+use machine::Wait;
+use opcodes::MemoryOp;
 use opcodes::Op;
 use opcodes::Software;
 use registers::CCBit;
 use registers::Flags;
 use registers::Name;
 use registers::Set;
-use step::Machine;
-use step::Settings;
 use u8oru16::u8u16;
+use vectors::Vector;
 
 // Types are counted as in the Rust: reset 0, NMI 1, FIRQ 2, IRQ 3, SWI 4, SWI2 5, SWI3 6.
-fn vector_of(kind: u16) -> u16 {
+fn vector(kind: u16) -> Vector {
     match kind {
-        0 => 0xFFFE,
-        1 => 0xFFFC,
-        2 => 0xFFF6,
-        3 => 0xFFF8,
-        4 => 0xFFFA,
-        5 => 0xFFF4,
-        _ => 0xFFF2,
+        0 => Vector::Reset,
+        1 => Vector::Nmi,
+        2 => Vector::Firq,
+        3 => Vector::Irq,
+        4 => Vector::Swi,
+        5 => Vector::Swi2,
+        _ => Vector::Swi3,
     }
 }
 
 // A word at a vector, for as long as the case takes.
-fn point(mem: &mut Memory, vector: u16, to: u16) {
-    put(mem, vector as u32, (to / 0x100) as u8);
-    put(mem, vector as u32 + 1, byte(to));
+fn point(mem: &mut Memory, at: u16, to: u16) {
+    put(mem, at as u32, (to / 0x100) as u8);
+    put(mem, at as u32 + 1, byte(to));
 }
 
-fn point_back(mem: &mut Memory, vector: u16) {
-    put_back(mem, vector as u32);
-    put_back(mem, vector as u32 + 1);
+fn point_back(mem: &mut Memory, at: u16) {
+    put_back(mem, at as u32);
+    put_back(mem, at as u32 + 1);
 }
 
 pub fn interrupt(case: Case, mem: &mut Memory) -> Reply {
     let kind = case.w1 / 16 % 16;
-    let s = case.w2;
-    point(mem, vector_of(kind), case.w4);
+    let at = vector(kind).address();
+    point(mem, at, case.w4);
     let reply = match kind {
         1 => hardware(case, mem, InterruptType::Nmi),
         2 => hardware(case, mem, InterruptType::Firq),
         3 => hardware(case, mem, InterruptType::Irq),
         _ => software(case, mem, kind),
     };
-    unstack(mem, s);
-    point_back(mem, vector_of(kind));
+    unstack(mem, case.w2);
+    point_back(mem, at);
     reply
 }
 
 fn settings(ram_top: u16) -> Settings {
-    Settings {
-        ram_top,
-        flags: Flags::Bought,
-    }
+    Settings::new(ram_top, Flags::Bought)
 }
 
 fn machine(regs: Set, in_cwai: bool) -> Machine {
@@ -105,7 +103,7 @@ fn unmasked(regs: Set, which: InterruptType) -> Set {
 fn hardware(case: Case, mem: &mut Memory, which: InterruptType) -> Reply {
     let regs = unmasked(stacking(case.w3, case.w2), which);
     let before = machine(regs, truth(case.w1 / 256));
-    let stepped = interrupts::interrupt(mem, before, settings(case.w3), which);
+    let stepped = calls::interrupt(mem, before, settings(case.w3), which);
     let after = stepped.machine;
     let answer = stepped.answer;
     let left = after.regs;
@@ -116,43 +114,44 @@ fn hardware(case: Case, mem: &mut Memory, which: InterruptType) -> Reply {
 fn software(case: Case, mem: &mut Memory, kind: u16) -> Reply {
     let regs = stacking(case.w3, case.w2);
     let effect = if truth(case.w1 / 256) {
-        from_wait(mem, case.w3, regs, kind)
+        from_wait(mem, settings(case.w3), regs, kind)
     } else {
-        from_run(mem, case.w3, regs, kind)
+        from_run(mem, settings(case.w3), regs, kind)
     };
     carried_out(mem, case.w3, case.w1 % 16, effect)
 }
 
-// Reset's type has no call of ours that stacks: the frame, masks and vector that the Rust gives it go to the one for all frames.
-fn from_run(mem: &Memory, ram_top: u16, regs: Set, kind: u16) -> Effect {
+// Reset's type has no call of ours that stacks: it takes its vector after the frame that the Rust gives it.
+fn from_run(mem: &Memory, settings: Settings, regs: Set, kind: u16) -> Effect {
     match kind {
-        4 => executed(mem, ram_top, regs, Software::Swi),
-        5 => executed(mem, ram_top, regs, Software::Swi2),
-        6 => executed(mem, ram_top, regs, Software::Swi3),
-        _ => evaluate::serve(mem, ram_top, regs, true, 0x50, vector_of(kind)),
+        4 => executed(mem, settings, regs, Software::Swi),
+        5 => executed(mem, settings, regs, Software::Swi2),
+        6 => executed(mem, settings, regs, Software::Swi3),
+        _ => {
+            let frame = stack::frame(regs, true);
+            vectors::take_vector(mem, settings, regs, frame, Vector::Reset)
+        }
     }
 }
 
-fn executed(mem: &Memory, ram_top: u16, regs: Set, which: Software) -> Effect {
-    evaluate::evaluate(Op::Swi(which), Flags::Bought, ram_top, mem, regs, 0)
+fn executed(mem: &Memory, settings: Settings, regs: Set, which: Software) -> Effect {
+    evaluate::evaluate(Op::Memory(MemoryOp::Swi(which)), settings, mem, regs, 0)
 }
 
 // In CWAI no instruction is stepped. What the Rust does there with these types is the vector alone.
-fn from_wait(mem: &Memory, ram_top: u16, regs: Set, kind: u16) -> Effect {
-    let masks = if kind < 5 { 0x50 } else { 0 };
-    let mut masked = regs;
-    masked.cc = regs.cc.or_with_byte(masks);
-    evaluate::take_vector(mem, ram_top, regs, masked, Writes::none(), vector_of(kind))
+fn from_wait(mem: &Memory, settings: Settings, regs: Set, kind: u16) -> Effect {
+    vectors::take_vector(mem, settings, regs, Effect::changes(regs), vector(kind))
 }
 
 pub fn reset(case: Case, mem: &mut Memory) -> Reply {
-    point(mem, vector_of(0), case.w2);
+    let at = Vector::Reset.address();
+    point(mem, at, case.w2);
     let before = machine(seeded(case.w3), false);
-    let stepped = interrupts::reset(mem, before, settings(case.w3));
+    let stepped = calls::reset(mem, before, settings(case.w3));
     let after = stepped.machine;
     let answer = stepped.answer;
     let reply = read_back(mem, after.regs, register(case.w1), answer);
-    point_back(mem, vector_of(0));
+    point_back(mem, at);
     reply
 }
 

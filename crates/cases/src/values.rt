@@ -12,9 +12,9 @@ use super::operands::byte;
 use super::operands::length;
 use super::operands::truth;
 use super::operands::value;
-use u8oru16::Answer;
 use u8oru16::Negated;
 use u8oru16::OptionU8;
+use u8oru16::Valued;
 use u8oru16::Written;
 use u8oru16::u8u16;
 
@@ -46,7 +46,7 @@ fn of_one(function: u16, v: u8u16) -> Reply {
     }
 }
 
-fn of_two(function: u16, left: u8u16, right: u8u16) -> Answer {
+fn of_two(function: u16, left: u8u16, right: u8u16) -> Valued {
     match function {
         0x0E => left.signed_offset(right),
         0x0F => left.div(right),
@@ -74,10 +74,10 @@ fn negated(n: Negated) -> Reply {
     flagged(v, n.overflow)
 }
 
-fn answered(a: Answer) -> Reply {
-    match a {
-        Answer::Value(v) => sized(v),
-        _ => refused(a.number()),
+fn answered(valued: Valued) -> Reply {
+    match valued {
+        Valued::Value(v) => sized(v),
+        Valued::Refused(refusal) => refused(refusal.number()),
     }
 }
 
@@ -100,13 +100,12 @@ fn as_bytes(v: u8u16, length: usize, fill: u8) -> Reply
         filled(2, length, fill),
         filled(3, length, fill),
     ];
-    let written = v.get_as_bytes(&mut bytes[..length]);
-    match written {
+    match v.get_as_bytes(&mut bytes[..length]) {
         Written::Bytes(n) => done(
             (n % 0x10000) as u16,
             pair(bytes[0], bytes[1]),
             pair(bytes[2], bytes[3]),
         ),
-        Written::NoRoom => refused(written.number()),
+        Written::Refused(refusal) => refused(refusal.number()),
     }
 }

@@ -2,38 +2,38 @@
 -- Assumes nothing.
 use Prim.Native.Nat.{ℕ, _+_, _-_, _/_, _%_, _≤_, _<_}
 use mathlib.Core.Path.{_≡_, refl, sym, ap, _∙_}
-use mathlib.Core.Bool.{Bool, true, false, _&&_, true≢false}
+use mathlib.Core.Bool.{Bool, true, false, _&&_}
 use mathlib.Core.List.{List}
 use mathlib.Core.Logic.{_⊎_, inl, inr}
 use native.Mathlib.Nat.{mod-eq-of-lt}
 use native.Mathlib.Omega.{arith}
 use borrow.Author.Tests.{le-leb, lt-ltb}
 use lib.Bits.{bitAnd, and-le-l}
-use lib.Dec.{ltb}
+use lib.Dec.{T, ltb}
 use Rattle.registers.specs.ConditionCodes.{bitAt}
-use Rattle.registers.specs.declared.Name.the-variants.{X}
+use Rattle.registers.specs.declared.Index.the-variants.{X}
 use Rattle.registers.specs.declared.Set.{Set}
 use Rattle.memory.specs.Map.{placeOf, byteAt, landingOf}
 use Rattle.memory.specs.declared.Landing.the-variants.{Stored, Ignored}
 use Rattle.memory.proofs.Ranges.{above, kept}
-use Rattle.addressing.specs.PostByte.{isIndirect, formOf, isRefused, indexOf, fiveBits}
-use Rattle.addressing.specs.Decode.{programByte, indexedAs, indexedAt, decodeOf}
-use Rattle.addressing.specs.Resolve.{atAddress, effectiveOf, indexedAddress}
-use Rattle.addressing.specs.declared.Form.{Form}
-use Rattle.addressing.specs.declared.Form.the-variants.{Offset5, Increment1, Increment2, Decrement1, Decrement2, NoOffset, OffsetB, OffsetA, Offset8, Offset16, OffsetD, Program8, Program16, Address, Refused as NoForm}
-use Rattle.addressing.specs.declared.Mode.the-variants.{Indexed}
+use Rattle.answers.specs.Numbers.{numberOf}
+use Rattle.opcodes.specs.declared.Mode.the-variants.{Indexed}
+use Rattle.decode.specs.PostByte.{isIndirect, formOf, isRefused, indexOf, fiveBits}
+use Rattle.decode.specs.Operand.{withForm, operandOf, operandAt}
+use Rattle.decode.specs.declared.postbyte.Form.the-variants.{Offset5}
+use Rattle.decode.specs.declared.postbyte.PostByte.{PostByte}
+use Rattle.decode.specs.declared.postbyte.PostByte.the-variants.{Form as Taken, Refused}
+use Rattle.addressing.specs.Address.{atAddress, effectiveOf, indexedAddress}
 use Rattle.addressing.specs.declared.Resolved.the-variants.{At}
-use Rattle.checked.specs.Rows.{reached, numberOfResolved}
+use Rattle.checked.specs.Rows.{addressed, numberOfResolved}
 
 -- decoding reads the post-byte, which lies within memory's addresses
-decoded : (mem : List ℕ) (at post : ℕ) → at < 65536 → byteAt mem at ≡ post → decodeOf Indexed mem at false ≡ indexedAs (formOf post) mem post (at + 1)
-unfolding indexedAt
-decoded mem at post l e =
-    let b : programByte mem at ≡ post = ap (λ (a : ℕ). byteAt mem a) (mod-eq-of-lt l) ∙ e in
-    rw (le-leb (at + 1) 0x10000 (omega arith), b)
+decoded : (mem : List ℕ) (at post : ℕ) → at < 65536 → byteAt mem at ≡ post → operandAt Indexed mem at ≡ operandOf Indexed mem at post (at + 1)
+unfolding operandAt
+decoded mem at post l e = rw (le-leb (at + 1) 0x10000 (omega arith), e)
 
 -- bit 7 clear: a five-bit offset, and no indirection
-five : (post : ℕ) → post < 0x80 → formOf post ≡ Offset5
+five : (post : ℕ) → post < 0x80 → formOf post ≡ Taken Offset5
 unfolding formOf
 five post l = rw (lt-ltb (bitAnd post 0x8F) 0x80 (omega (arith, and-le-l post 0x8F)))
 
@@ -46,28 +46,19 @@ unfolding indexOf
 names-x post e = rw e
 
 pub offset-row : (p x a : ℕ) → p < 0x80 → p / 32 % 4 ≡ 0 → (x + fiveBits p) % 65536 ≡ a
-    → (mem : List ℕ) (at : ℕ) (r : Set) → at < 65536 → byteAt mem at ≡ p → r .x ≡ x → reached mem r (decodeOf Indexed mem at false) ≡ At (atAddress r a)
-unfolding indexedAddress
+    → (mem : List ℕ) (at : ℕ) (r : Set) → at < 65536 → byteAt mem at ≡ p → r .x ≡ x → addressed mem r (operandAt Indexed mem at) ≡ At (atAddress r a)
+unfolding indexedAddress withForm
 offset-row p x a l f e mem at r h b g = rw (decoded mem at p h b, five p l, direct p l, names-x p f, g, e)
 
 -- a refused form
-pub refused-row : (form : Form) → isRefused form ≡ true → (p : ℕ) → formOf p ≡ form
-    → (mem : List ℕ) (at : ℕ) (r : Set) → at < 65536 → byteAt mem at ≡ p → numberOfResolved (reached mem r (decodeOf Indexed mem at false)) ≡ 5
-refused-row NoForm t p f mem at r h b = rw (decoded mem at p h b, f)
-refused-row Offset5 t p f mem at r h b = absurd (true≢false (sym t))
-refused-row Increment1 t p f mem at r h b = absurd (true≢false (sym t))
-refused-row Increment2 t p f mem at r h b = absurd (true≢false (sym t))
-refused-row Decrement1 t p f mem at r h b = absurd (true≢false (sym t))
-refused-row Decrement2 t p f mem at r h b = absurd (true≢false (sym t))
-refused-row NoOffset t p f mem at r h b = absurd (true≢false (sym t))
-refused-row OffsetB t p f mem at r h b = absurd (true≢false (sym t))
-refused-row OffsetA t p f mem at r h b = absurd (true≢false (sym t))
-refused-row Offset8 t p f mem at r h b = absurd (true≢false (sym t))
-refused-row Offset16 t p f mem at r h b = absurd (true≢false (sym t))
-refused-row OffsetD t p f mem at r h b = absurd (true≢false (sym t))
-refused-row Program8 t p f mem at r h b = absurd (true≢false (sym t))
-refused-row Program16 t p f mem at r h b = absurd (true≢false (sym t))
-refused-row Address t p f mem at r h b = absurd (true≢false (sym t))
+abbrev pub numberOfForm : PostByte → ℕ
+numberOfForm (Taken form) = 0
+numberOfForm (Refused x) = numberOf x
+
+pub refused-row : (p : ℕ) (q : PostByte) → formOf p ≡ q → T (isRefused q)
+    → (mem : List ℕ) (at : ℕ) (r : Set) → at < 65536 → byteAt mem at ≡ p → numberOfResolved (addressed mem r (operandAt Indexed mem at)) ≡ numberOfForm q
+refused-row p (Taken form) e t mem at r h b = absurd t
+refused-row p (Refused x) e t mem at r h b = rw (decoded mem at p h b, e)
 
 -- a System write is stored whatever ram_top is, and a program's above it is not
 pub system-row : (at p : ℕ) → (at < 0xFF00) ⊎ (0xFFE0 ≤ at) → placeOf at ≡ p → (top : ℕ) → landingOf at top true ≡ Stored p

@@ -19,15 +19,35 @@ use Rattle.registers.specs.declared.Flags.the-variants.{Bought, Manual}
 use Rattle.registers.proofs.Laws.{carry-alone}
 use Rattle.registers.proofs.Reading.{flag-same, flag-far, place-inj}
 use Rattle.memory.specs.Map.{placeOf}
-use Rattle.addressing.proofs.PostBytes.{both, both-T, agree, agree→eq}
-use Rattle.addressing.specs.PostByte.{isIndirect, formOf, isRefused, fiveBits}
-use Rattle.memory.specs.Answers.{numberOfAnswer}
-use Rattle.evaluate.specs.Stack.{bytesOf}
-use Rattle.step.specs.declared.Found.{Found}
-use Rattle.interrupts.specs.Interrupts.{isEntire}
-use Rattle.interrupts.proofs.Laws.{small-stack}
-use Rattle.checked.proofs.Addresses.{offset-row, refused-row, system-row, ignored-row}
+use Rattle.decode.specs.PostByte.{isIndirect, formOf, isRefused, fiveBits}
+use Rattle.answers.specs.Numbers.{numberOfAnswer}
+use Rattle.stack.specs.Frames.{stackedBy}
+use Rattle.stack.specs.Pushing.{bytesOf}
+use Rattle.vectors.specs.Table.{isEntire}
+use Rattle.calls.specs.Interrupts.{vectorOf}
+use Rattle.calls.proofs.Room.{small-interrupt}
+use Rattle.checked.proofs.Addresses.{offset-row, numberOfForm, refused-row, system-row, ignored-row}
 use Rattle.checked.specs.Rows.{Row, of, carrying, postByte, badPostByte, systemWrite, ignoredWrite, refusedInterrupt, Shown, Gives, Holds, Every, rows}
+
+-- two tests as one
+abbrev both : Bool → Bool → Bool
+both true b = b
+both false b = false
+
+both-T : (a b : Bool) → T (both a b) → T a × T b
+both-T true b t = (tt, t)
+both-T false b t = absurd t
+
+agree : Bool → Bool → Bool
+agree true b = b
+agree false b = not b
+
+agree→eq : (a b : Bool) → T (agree a b) → a ≡ b
+unfolding agree
+agree→eq true true t = refl
+agree→eq true false t = absurd t
+agree→eq false true t = absurd t
+agree→eq false false t = refl
 
 -- the first line of a flag says v
 says : CCBit → Bool → List Line → Bool
@@ -89,10 +109,6 @@ holds-at o a b r bought manual v t cc e =
     let (x, y) = both-T (page (by Bought o (with-carry v) a b) r bought) _ t in
     (gives Bought o cc a b r bought v e x, gives Manual o cc a b r manual v e y)
 
-sure : (t : Bool) → T t → t ≡ true
-sure true h = refl
-sure false h = absurd h
-
 either : (at : ℕ) (t : Bool) → ltb at 0xFF00 ≡ t → T (t || leb 0xFFE0 at) → (at < 0xFF00) ⊎ (0xFFE0 ≤ at)
 either at true e h = inl (ltb-true at 0xFF00 e)
 either at false e h = inr (leb→le 0xFFE0 at h)
@@ -102,10 +118,10 @@ unfolding settings
 right (of o a b r bought manual) = both (settings o a b r bought manual true) (settings o a b r bought manual false)
 right (carrying o a b r bought manual) = settings o a b r bought manual true
 right (postByte p x a) = both (ltb p 0x80) (both (eqb (p / 32 % 4) 0) (eqb ((x + fiveBits p) % 65536) a))
-right (badPostByte p n) = both (isRefused (formOf p)) (eqb 5 n)
+right (badPostByte p n) = both (isRefused (formOf p)) (eqb (numberOfForm (formOf p)) n)
 right (systemWrite at p) = both (ltb at 0xFF00 || leb 0xFFE0 at) (eqb (placeOf at) p)
 right (ignoredWrite at top) = both (ltb at 0xFF00) (ltb top at)
-right (refusedInterrupt i sp n) = both (ltb sp (bytesOf (cond (isEntire i) 0xFF 0x81))) (eqb 8 n)
+right (refusedInterrupt i sp n) = both (ltb sp (bytesOf (stackedBy (isEntire (vectorOf i))))) (eqb 8 n)
 
 holds : (x : Row) → T (right x) → Holds x
 unfolding right
@@ -124,14 +140,14 @@ holds (postByte p x a) t =
     offset-row p x a (ltb→lt p 0x80 l) (eqb→eq _ 0 f) (eqb→eq _ a e)
 holds (badPostByte p n) t =
     let (f, e) = both-T (isRefused (formOf p)) _ t in
-    λ mem at r h b. refused-row (formOf p) (sure (isRefused (formOf p)) f) p refl mem at r h b ∙ eqb→eq 5 n e
+    λ mem at r h b. refused-row p (formOf p) refl f mem at r h b ∙ eqb→eq (numberOfForm (formOf p)) n e
 holds (systemWrite at p) t =
     let (w, e) = both-T (ltb at 0xFF00 || leb 0xFFE0 at) _ t in
     system-row at p (either at (ltb at 0xFF00) refl w) (eqb→eq _ p e)
 holds (ignoredWrite at top) t = let (l, h) = both-T (ltb at 0xFF00) _ t in ignored-row at top (ltb→lt at 0xFF00 l) (ltb→lt top at h)
 holds (refusedInterrupt i sp n) t =
-    let (l, e) = both-T (ltb sp (bytesOf (cond (isEntire i) 0xFF 0x81))) _ t in
-    λ mem m s size k w q. ap (λ (f : Found). numberOfAnswer (f .answer)) (small-stack mem m size s i k w (rw q (ltb→lt sp (bytesOf (cond (isEntire i) 0xFF 0x81)) l))) ∙ eqb→eq 8 n e
+    let (l, e) = both-T (ltb sp (bytesOf (stackedBy (isEntire (vectorOf i))))) _ t in
+    λ mem m s size k w q. small-interrupt mem m s i size k w (rw q (ltb→lt sp (bytesOf (stackedBy (isEntire (vectorOf i)))) l)) ∙ eqb→eq 8 n e
 
 all-right : List Row → Bool
 unfolding right

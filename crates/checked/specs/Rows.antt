@@ -14,23 +14,23 @@ use Rattle.registers.specs.declared.CCBits.{CCBits}
 use Rattle.registers.specs.declared.Flags.{Flags}
 use Rattle.registers.specs.declared.Flags.the-variants.{Bought, Manual}
 use Rattle.registers.specs.declared.Set.{Set}
-use Rattle.memory.specs.Answers.{numberOf, numberOfAnswer}
+use Rattle.answers.specs.Numbers.{numberOf, numberOfAnswer}
 use Rattle.memory.specs.Map.{isSystem, byteAt, landingOf}
 use Rattle.memory.specs.declared.AccessType.the-variants.{Program, System}
 use Rattle.memory.specs.declared.Landing.the-variants.{Stored, Ignored}
-use Rattle.addressing.specs.Decode.{decodeOf}
-use Rattle.addressing.specs.Resolve.{atAddress, effectiveOf}
-use Rattle.addressing.specs.declared.Decoded.{Decoded}
-use Rattle.addressing.specs.declared.Decoded.the-variants.{Taken, Refused as NotTaken}
-use Rattle.addressing.specs.declared.Mode.the-variants.{Indexed}
+use Rattle.opcodes.specs.declared.Mode.the-variants.{Indexed}
+use Rattle.decode.specs.Operand.{operandAt}
+use Rattle.decode.specs.declared.operand.OperandRead.{OperandRead}
+use Rattle.decode.specs.declared.operand.OperandRead.the-variants.{Operand as Read, Refused as NotRead}
+use Rattle.addressing.specs.Address.{atAddress, effectiveOf}
 use Rattle.addressing.specs.declared.Resolved.{Resolved}
 use Rattle.addressing.specs.declared.Resolved.the-variants.{At, Refused}
-use Rattle.evaluate.specs.declared.Wait.the-variants.{Cwai}
-use Rattle.step.specs.declared.Machine.{Machine}
-use Rattle.step.specs.declared.Settings.{Settings}
-use Rattle.interrupts.specs.Interrupts.{isMasked, interruptOf}
-use Rattle.interrupts.specs.declared.InterruptType.{InterruptType}
-use Rattle.interrupts.specs.declared.InterruptType.the-variants.{Irq}
+use Rattle.machine.specs.declared.Wait.the-variants.{Cwai}
+use Rattle.machine.specs.declared.Machine.{Machine}
+use Rattle.machine.specs.declared.Settings.{Settings}
+use Rattle.calls.specs.Interrupts.{isMasked, interruptOf}
+use Rattle.calls.specs.declared.InterruptType.{InterruptType}
+use Rattle.calls.specs.declared.InterruptType.the-variants.{Irq}
 
 pub data Row : Type 0 where
   -- an operation on a and b: the result, flags as bought, flags by the manual; whatever the condition codes were
@@ -57,9 +57,9 @@ abbrev pub Gives : Flags → Operation → CCBits → ℕ → ℕ → ℕ → Li
 Gives s o cc a b r lines = let p = by s o cc a b in (p .value ≡ r) × Shown (codes cc (p .flags)) lines
 
 -- the effective address of an indexed operand whose post-byte stands at `at`
-abbrev pub reached : List ℕ → Set → Decoded → Resolved
-reached mem r (Taken operand next) = effectiveOf operand mem r next
-reached mem r (NotTaken x) = Refused x
+abbrev pub addressed : List ℕ → Set → OperandRead → Resolved
+addressed mem r (Read operand next) = effectiveOf operand mem r next
+addressed mem r (NotRead x) = Refused x
 
 abbrev pub numberOfResolved : Resolved → ℕ
 numberOfResolved (At a) = 0
@@ -70,15 +70,16 @@ Holds (of o a b r bought manual) = (cc : CCBits) → Gives Bought o cc a b r bou
 Holds (carrying o a b r bought manual) =
     (cc : CCBits) → flag C cc ≡ true → Gives Bought o cc a b r bought × Gives Manual o cc a b r manual
 Holds (postByte p x a) =
-    (mem : List ℕ) (at : ℕ) (r : Set) → at < 65536 → byteAt mem at ≡ p → r .x ≡ x → reached mem r (decodeOf Indexed mem at false) ≡ At (atAddress r a)
+    (mem : List ℕ) (at : ℕ) (r : Set) → at < 65536 → byteAt mem at ≡ p → r .x ≡ x → addressed mem r (operandAt Indexed mem at) ≡ At (atAddress r a)
 Holds (badPostByte p n) =
-    (mem : List ℕ) (at : ℕ) (r : Set) → at < 65536 → byteAt mem at ≡ p → numberOfResolved (reached mem r (decodeOf Indexed mem at false)) ≡ n
+    (mem : List ℕ) (at : ℕ) (r : Set) → at < 65536 → byteAt mem at ≡ p → numberOfResolved (addressed mem r (operandAt Indexed mem at)) ≡ n
 Holds (systemWrite at p) = (top : ℕ) → landingOf at top (isSystem System) ≡ Stored p
 Holds (ignoredWrite at top) = landingOf at top (isSystem Program) ≡ Ignored
 Holds (refusedInterrupt i sp n) =
     (mem : List ℕ) (m : Machine) (s : Settings) → length mem ≡ 65536 → isMasked i (m .regs .cc) ≡ false → m .wait ≢ Cwai → m .regs .s ≡ sp
     → numberOfAnswer (interruptOf mem m s i .answer) ≡ n
 
+-- every row holds
 abbrev pub Every : List Row → Type 0
 Every [] = Unit
 Every (x ∷ xs) = Holds x × Every xs

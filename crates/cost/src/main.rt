@@ -3,49 +3,43 @@
 // bytes of cycles and of the count of records.
 mod program;
 
-use evaluate::Wait;
+use journal::RECORD;
 use journal::Twin;
 use libc::STDIN_FILENO;
 use libc::STDOUT_FILENO;
+use machine::Machine;
+use machine::Settings;
 use program::Memory;
 use registers::CCBits;
 use registers::Flags;
 use registers::Set;
-use step::Machine;
-use step::Settings;
 
 // As the run program's.
-const ROOM: usize = 65280;
+const ROOM: usize = 960 * RECORD;
 
 type Journal = [u8; ROOM];
 
 fn settings() -> Settings {
-    Settings {
-        ram_top: 0xFFFF,
-        flags: Flags::Manual,
-    }
+    Settings::new(0xFFFF, Flags::Manual)
 }
 
 fn start() -> Twin {
-    Twin {
-        machine: Machine {
-            cycles: 0,
-            instructions: 0,
-            regs: Set {
-                x: 0x9000,
-                y: 0x9100,
-                u: 0x9200,
-                s: 0xF000,
-                pc: program::START,
-                a: 1,
-                b: 2,
-                dp: 0x90,
-                cc: CCBits { reg: 0x50 },
-            },
-            wait: Wait::Running,
-        },
-        used: 0,
-    }
+    let regs = Set {
+        x: 0x9000,
+        y: 0x9100,
+        u: 0x9200,
+        s: 0xF000,
+        pc: program::START,
+        a: 1,
+        b: 2,
+        dp: 0x90,
+        cc: CCBits::reset(),
+    };
+    let mut machine = Machine::fresh();
+    machine.regs = regs;
+    let mut twin = Twin::fresh();
+    twin.machine = machine;
+    twin
 }
 
 // Recorded steps, each taken back at once if `back`.

@@ -1,8 +1,5 @@
 pub mod Waits
 pub mod Sound
+pub mod Room
 pub mod Parting
-pub mod Transfers
-pub mod Pushes
-pub mod Stacks
-pub mod QuietLaws
 pub mod Unique

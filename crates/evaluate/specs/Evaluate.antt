@@ -1,55 +1,48 @@
--- What each operation does, a clause for each: flags s, ram_top, memory, the registers r with PC at the next instruction, the address ea.
+-- What each operation does: settings s, memory, the registers r with PC at the next instruction, the effective address ea.
 -- Assumes nothing.
 use Prim.Native.Nat.{ℕ}
 use mathlib.Core.Bool.{false}
 use mathlib.Core.List.{List}
-use Rattle.registers.specs.declared.Flags.{Flags}
-use Rattle.registers.specs.declared.Name.the-variants.{U, S}
 use Rattle.registers.specs.declared.Set.{Set}
+use Rattle.registers.specs.declared.Stack.the-variants.{S}
 use Rattle.memory.specs.Map.{byteAt}
-use Rattle.memory.specs.declared.Refusal.the-variants.{Opcode}
+use Rattle.machine.specs.Effect.{changes, refuses}
+use Rattle.machine.specs.declared.Effect.{Effect}
+use Rattle.machine.specs.declared.Settings.{Settings}
+use Rattle.opcodes.specs.declared.MemoryOp.{MemoryOp}
+use Rattle.opcodes.specs.declared.MemoryOp.the-variants.{OnMemory, Store8, Store16, Bsr, Jsr, Rts, Rti, Swi, Cwai, Sync, Push, Pull}
 use Rattle.opcodes.specs.declared.Op.{Op}
-use Rattle.opcodes.specs.declared.Op.the-variants.{Illegal, Alu, Store8, OnAcc, OnMemory, Addd, Subd, Load16, Store16, Cmp16, Lea, Branch, Bsr, Jsr, Jmp, Rts, Rti, Swi, Cwai, Sync, Nop, Daa, Sex, Mul, Abx, Andcc, Orcc, Exg, Tfr, Pshs, Puls, Pshu, Pulu}
-use Rattle.evaluate.specs.Effects.{changes, refuses}
-use Rattle.evaluate.specs.Bytes.{withOperand, onAccumulator, onMemory, store8}
-use Rattle.evaluate.specs.Words.{load16, store16, compare16, addD, subtractD, loadAddress}
-use Rattle.evaluate.specs.Branches.{branchIf, jumped}
-use Rattle.evaluate.specs.Stack.{pushing, pulling, returning}
-use Rattle.evaluate.specs.Interrupts.{called, andCodes, orCodes, software, waiting}
-use Rattle.evaluate.specs.Rest.{daaOf, sexOf, mulOf, abxOf, transfer, exchange, synchronized}
-use Rattle.evaluate.specs.declared.Effect.{Effect}
+use Rattle.opcodes.specs.declared.Op.the-variants.{Registers, Memory}
+use Rattle.operations.specs.Bytes.{onMemory, store8}
+use Rattle.operations.specs.Change.{changedOf}
+use Rattle.operations.specs.Words.{store16}
+use Rattle.operations.specs.declared.Changed.{Changed}
+use Rattle.operations.specs.declared.Changed.the-variants.{After, Refused}
+use Rattle.stack.specs.Pulling.{pulled, returned}
+use Rattle.stack.specs.Pushing.{pushed, called}
+use Rattle.vectors.specs.Service.{software}
+use Rattle.vectors.specs.Waits.{waiting, synchronized}
 
-abbrev pub evaluateOf : Op → Flags → ℕ → List ℕ → Set → ℕ → Effect
-evaluateOf Illegal s top mem r ea = refuses r Opcode
-evaluateOf (Alu op acc) s top mem r ea = changes (withOperand op acc s r (byteAt mem ea))
-evaluateOf (Store8 acc) s top mem r ea = store8 r acc ea
-evaluateOf (OnAcc op acc) s top mem r ea = changes (onAccumulator op acc s r)
-evaluateOf (OnMemory op) s top mem r ea = onMemory op s mem r ea
-evaluateOf Addd s top mem r ea = addD mem r ea
-evaluateOf Subd s top mem r ea = subtractD mem r ea
-evaluateOf (Load16 name) s top mem r ea = load16 mem r name ea
-evaluateOf (Store16 name) s top mem r ea = store16 r name ea
-evaluateOf (Cmp16 name) s top mem r ea = compare16 mem r name ea
-evaluateOf (Lea name) s top mem r ea = changes (loadAddress name r ea)
-evaluateOf (Branch c) s top mem r ea = changes (branchIf c r ea)
-evaluateOf Bsr s top mem r ea = called r ea
-evaluateOf Jsr s top mem r ea = called r ea
-evaluateOf Jmp s top mem r ea = changes (jumped r ea)
-evaluateOf Rts s top mem r ea = pulling mem r S U 0x80
-evaluateOf Rti s top mem r ea = returning mem r
-evaluateOf (Swi which) s top mem r ea = software mem top r which
-evaluateOf Cwai s top mem r ea = waiting r (byteAt mem ea)
-evaluateOf Sync s top mem r ea = synchronized r
-evaluateOf Nop s top mem r ea = changes r
-evaluateOf Daa s top mem r ea = changes (daaOf r)
-evaluateOf Sex s top mem r ea = changes (sexOf r)
-evaluateOf Mul s top mem r ea = changes (mulOf r)
-evaluateOf Abx s top mem r ea = changes (abxOf r)
-evaluateOf Andcc s top mem r ea = changes (andCodes r (byteAt mem ea))
-evaluateOf Orcc s top mem r ea = changes (orCodes r (byteAt mem ea))
-evaluateOf Exg s top mem r ea = exchange r (byteAt mem ea)
-evaluateOf Tfr s top mem r ea = transfer r (byteAt mem ea)
-evaluateOf Pshs s top mem r ea = pushing r S U (byteAt mem ea) false
-evaluateOf Puls s top mem r ea = pulling mem r S U (byteAt mem ea)
-evaluateOf Pshu s top mem r ea = pushing r U S (byteAt mem ea) false
-evaluateOf Pulu s top mem r ea = pulling mem r U S (byteAt mem ea)
+-- the operations that may write memory, use a stack or wait; PSH and PUL have their post-byte at ea, CWAI its mask
+abbrev pub memoryOf : MemoryOp → Settings → List ℕ → Set → ℕ → Effect
+memoryOf (OnMemory op) s mem r ea = onMemory op (s .flags) mem r ea
+memoryOf (Store8 acc) s mem r ea = store8 r acc ea
+memoryOf (Store16 word) s mem r ea = store16 r word ea
+memoryOf Bsr s mem r ea = called r ea
+memoryOf Jsr s mem r ea = called r ea
+memoryOf Rts s mem r ea = pulled mem r S 0x80
+memoryOf Rti s mem r ea = returned mem r
+memoryOf (Swi which) s mem r ea = software mem s r which
+memoryOf Cwai s mem r ea = waiting r (byteAt mem ea)
+memoryOf Sync s mem r ea = synchronized r
+memoryOf (Push own) s mem r ea = pushed r own (byteAt mem ea) false
+memoryOf (Pull own) s mem r ea = pulled mem r own (byteAt mem ea)
+
+-- a change of registers as an effect: a refusal hands back the registers that came
+abbrev pub effectOf : Set → Changed → Effect
+effectOf r (After q) = changes q
+effectOf r (Refused x) = refuses r x
+
+abbrev pub evaluateOf : Op → Settings → List ℕ → Set → ℕ → Effect
+evaluateOf (Registers op) s mem r ea = effectOf r (changedOf op (s .flags) mem r ea)
+evaluateOf (Memory op) s mem r ea = memoryOf op s mem r ea

@@ -1,11 +1,5 @@
-pub mod Effects
-pub mod Bytes
-pub mod Words
-pub mod Branches
-pub mod Stack
-pub mod Interrupts
-pub mod Rest
 pub mod Evaluate
-pub mod Quiet
-pub mod Small
+pub mod Waits
+pub mod Sound
+pub mod Room
 pub mod Parting

@@ -10,16 +10,19 @@ use lib.ListN.{length, take, drop, length-append, length-drop}
 use lib.Seq.{sets-eq, take-all, drop-drop, drop-length}
 use borrow.Author.Tests.{eq-eqb, ne-eqb, le-leb, lt-leb, lt-ltb, le-ltb, eqb-true, leb-true}
 use Rattle.memory.specs.Writes.{writesOf, listed, stored, reported}
-use Rattle.memory.specs.declared.Answer.{Answer}
-use Rattle.memory.specs.declared.Answer.the-variants.{Done, Refused}
-use Rattle.memory.specs.declared.Refusal.{Refusal}
-use Rattle.memory.specs.declared.Refusal.the-variants.{MemoryLength, JournalFull, NoRecord, JournalLength}
+use Rattle.answers.specs.declared.Answer.{Answer}
+use Rattle.answers.specs.declared.Answer.the-variants.{Done, Refused}
+use Rattle.answers.specs.declared.Refusal.{Refusal}
+use Rattle.answers.specs.declared.Refusal.the-variants.{MemoryLength, JournalFull, NoRecord, JournalLength}
 use Rattle.memory.specs.declared.Write.{Write}
 use Rattle.memory.specs.declared.Writes.{Writes}
-use Rattle.step.specs.declared.Found.{Found}
-use Rattle.step.specs.declared.Machine.{Machine}
-use Rattle.journal.specs.Record.{encode, machineOf, waitAt, countOf, entriesOf, read}
-use Rattle.journal.specs.Calls.{State, ending, Leaves, need, unless, admitted, callAnswer, savedFor, recorded, concluded, called, recordAt, withRecord, newestOf, newestIn, undoAnswer, putBack, restored, undone}
+use Rattle.machine.specs.declared.Settings.{Settings}
+use Rattle.calls.specs.declared.Plan.{Plan}
+use Rattle.machine.specs.declared.Machine.{Machine}
+use Rattle.machine.specs.Record.{machineOf}
+use Rattle.journal.specs.Record.{encode, waitAt, countOf, entriesOf, read}
+use Rattle.journal.specs.Recorded.{State, ending, Leaves, need, unless, admitted, callAnswer, savedFor, recorded, concluded, called, recordAt, withRecord}
+use Rattle.journal.specs.Undos.{newestOf, newestIn, undoAnswer, putBack, restored, undone}
 use Rattle.journal.specs.declared.Outcome.{Outcome}
 
 -- ---- before a recorded call
@@ -78,21 +81,21 @@ pub refused-leaves : (a : Answer) (s new : State) (ds : List Write) (x : Refusal
 refused-leaves a s new ds x r e p = rw e (record { result = p; memory-is = refl; journal-is = refl })
 
 -- the record, the writes and the count
-pub recorded-leaves : (top : ℕ) (f : Found) (s : State) (d : Writes) (mem j : List ℕ) → f .answer ≡ Done → d ≡ writesOf (reported top (listed (f .writes)))
-    → mem ≡ stored top (listed (f .writes)) (s .memory)
-    → j ≡ withRecord (s .twin .used) (encode (s .twin .machine) (savedFor top (listed (f .writes)) (s .memory))) (s .journal)
-    → Leaves (record { devices = d; twin = record { machine = f .machine; used = s .twin .used + 1 }; answer = f .answer }) mem j (concluded (f .answer) top f s)
+pub recorded-leaves : (t : Settings) (f : Plan) (s : State) (d : Writes) (mem j : List ℕ) → f .answer ≡ Done → d ≡ writesOf (reported (t .«ram_top») (listed (f .writes)))
+    → mem ≡ stored (t .«ram_top») (listed (f .writes)) (s .memory)
+    → j ≡ withRecord (s .twin .used) (encode (s .twin .machine) (savedFor (t .«ram_top») (listed (f .writes)) (s .memory))) (s .journal)
+    → Leaves (record { devices = d; twin = record { machine = f .machine; used = s .twin .used + 1 }; answer = f .answer }) mem j (concluded (f .answer) t f s)
 unfolding recorded
-recorded-leaves top f s d mem j e p q t = rw e (record { result = rw p; memory-is = q; journal-is = t })
+recorded-leaves t f s d mem j e p q w = rw e (record { result = rw p; memory-is = q; journal-is = w })
 
-module _ (early : Answer) (top : ℕ) (f : Found) (s : State) where
+module _ (early : Answer) (t : Settings) (f : Plan) (s : State) where
   pub called-refused : (x : Refusal) (r : Outcome) → admitted (length (s .memory)) (length (s .journal)) (s .twin .used) early ≡ Refused x
-      → r ≡ record { devices = writesOf []; twin = s .twin; answer = Refused x } → Leaves r (s .memory) (s .journal) (called early top f s)
+      → r ≡ record { devices = writesOf []; twin = s .twin; answer = Refused x } → Leaves r (s .memory) (s .journal) (called early t f s)
   unfolding called
-  called-refused x r e p = refused-leaves (callAnswer early f s) s (recorded top f s) (reported top (listed (f .writes))) x r (rw e) p
+  called-refused x r e p = refused-leaves (callAnswer early f s) s (recorded t f s) (reported (t .«ram_top») (listed (f .writes))) x r (rw e) p
 
   pub called-done : (r : Outcome) (mem j : List ℕ) → admitted (length (s .memory)) (length (s .journal)) (s .twin .used) early ≡ Done
-      → Leaves r mem j (concluded (f .answer) top f s) → Leaves r mem j (called early top f s)
+      → Leaves r mem j (concluded (f .answer) t f s) → Leaves r mem j (called early t f s)
   unfolding called
   called-done r mem j e h = rw e h
 

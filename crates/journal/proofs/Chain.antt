@@ -7,9 +7,10 @@ use native.Mathlib.Omega.{arith}
 use lib.ListN.{length, take, drop, length-append, length-drop, take-append-drop}
 use lib.Seq.{sets-eq, take-append-le, drop-append-le, take-at, drop-at, length-take-le}
 use Rattle.memory.specs.Fits.{Bytes}
-use Rattle.step.specs.Laws.{MachineFits}
+use Rattle.machine.specs.Machine.{MachineFits}
 use Rattle.journal.specs.Record.{Saved, encode}
-use Rattle.journal.specs.Calls.{State, putBack, recordAt, withRecord}
+use Rattle.journal.specs.Recorded.{State, recordAt, withRecord}
+use Rattle.journal.specs.Undos.{putBack}
 use Rattle.journal.specs.Sequence.{Same, Snap, All}
 use Rattle.journal.proofs.Reading.{SavedFits}
 use Rattle.journal.proofs.Stores.{same-trans, same-putBack}

@@ -1,4 +1,4 @@
--- The record as it is written: parts sets another one after, entries, count and zeros.
+-- The record as it is written: one part after the other, then the entries over the zeros, then the count.
 -- Assumes nothing.
 use mathlib.Core.Path.{_≡_, refl, sym, ap, _∙_}
 use mathlib.Core.List.{List, [], _∷_, _++_, append-assoc, append-nil}
@@ -12,9 +12,11 @@ use Rattle.memory.specs.Map.{landingOf}
 use Rattle.memory.specs.declared.Landing.{Landing}
 use Rattle.memory.specs.declared.Landing.the-variants.{Stored, Device, Ignored}
 use Rattle.memory.specs.declared.Write.{Write}
-use Rattle.step.specs.declared.Machine.{Machine}
-use Rattle.journal.specs.Record.{Saved, bytes, front, header, entries, encode}
-use Rattle.journal.specs.Calls.{savedAt, savedFor}
+use Rattle.machine.specs.declared.Machine.{Machine}
+use Rattle.machine.specs.Record.{bytes, header, headerLength}
+use Rattle.machine.proofs.Header.{length-header}
+use Rattle.journal.specs.Record.{Saved, recordLength, entries, encode}
+use Rattle.journal.specs.Recorded.{savedAt, savedFor}
 
 -- ---- parts
 
@@ -23,52 +25,17 @@ sets-more : (d p q : List ℕ) (k n : ℕ) → k + length p ≡ n → sets (sets
 sets-more d [] q k n e = let f : n ≡ k = omega arith in rw f
 sets-more d (v ∷ p) q k n e = sets-more (set d k v) p q (suc k) n (omega arith)
 
--- ---- numbers
-
--- the bytes of a word and of a counter, written out
-pub two : (x : ℕ) → x < 65536 → bytes 2 x ≡ x / 256 ∷ x % 256 ∷ []
-unfolding bytes
-two x h =
-    let a : x / 256 % 256 ≡ x / 256 = omega arith in
-    let b : x / 1 % 256 ≡ x % 256 = omega arith in
-    λ i. a i ∷ b i ∷ []
-
-pub eight : (x : ℕ)
-    → bytes 8 x ≡ x / 0x100_0000_0000_0000 % 256 ∷ x / 0x1_0000_0000_0000 % 256 ∷ x / 0x100_0000_0000 % 256 ∷ x / 0x1_0000_0000 % 256 ∷ x / 0x100_0000 % 256 ∷ x / 0x1_0000 % 256 ∷ x / 0x100 % 256 ∷ x % 256 ∷ []
-unfolding bytes
-eight x =
-    let b : x / 1 % 256 ≡ x % 256 = omega arith in
-    λ i. x / 0x100_0000_0000_0000 % 256 ∷ x / 0x1_0000_0000_0000 % 256 ∷ x / 0x100_0000_0000 % 256 ∷ x / 0x1_0000_0000 % 256 ∷ x / 0x100_0000 % 256 ∷ x / 0x1_0000 % 256 ∷ x / 0x100 % 256 ∷ b i ∷ []
-
 -- ---- the header, and zeros after it
 
--- four parts from the front on
-four : (d a b c z : List ℕ) → length a ≡ 15 → length b ≡ 8 → length c ≡ 8 → length z ≡ 37 → 68 ≤ length d
-    → sets (sets (sets (sets d 0 a) 15 b) 23 c) 31 z ≡ (a ++ (b ++ c)) ++ (z ++ drop 68 d)
-four d a b c z la lb lc lz h =
-    let lab = length-append a b in
-    let labc = length-append (a ++ b) c in
-    let labcz = length-append ((a ++ b) ++ c) z in
-    let w : length (((a ++ b) ++ c) ++ z) ≡ 68 = omega arith in
-    ap (λ (l : List ℕ). sets (sets l 23 c) 31 z) (sets-more d a b 0 15 (omega arith))
-    ∙ ap (λ (l : List ℕ). sets l 31 z) (sets-more d (a ++ b) c 0 23 (omega arith))
-    ∙ sets-more d ((a ++ b) ++ c) z 0 31 (omega arith)
-    ∙ sets-eq (((a ++ b) ++ c) ++ z) d 0 (omega arith)
-    ∙ rw w (append-assoc ((a ++ b) ++ c) z (drop 68 d) ∙ ap (λ (l : List ℕ). l ++ (z ++ drop 68 d)) (append-assoc a b c))
-
-length-front : (m : Machine) → length (front m) ≡ 15
-unfolding front bytes
-length-front m = refl
-
-length-eight : (x : ℕ) → length (bytes 8 x) ≡ 8
-unfolding bytes
-length-eight x = refl
-
-pub header-laid : (m : Machine) (d : List ℕ) → 68 ≤ length d
-    → sets (sets (sets (sets d 0 (front m)) 15 (bytes 8 (m .cycles))) 23 (bytes 8 (m .instructions))) 31 (replicate 37 0) ≡ header m ++ (replicate 37 0 ++ drop 68 d)
-unfolding header
+pub header-laid : (m : Machine) (d : List ℕ) → recordLength ≤ length d
+    → sets (sets d 0 (header m)) headerLength (replicate (recordLength - headerLength) 0) ≡ header m ++ (replicate (recordLength - headerLength) 0 ++ drop recordLength d)
 header-laid m d h =
-    four d (front m) (bytes 8 (m .cycles)) (bytes 8 (m .instructions)) (replicate 37 0) (length-front m) (length-eight (m .cycles)) (length-eight (m .instructions)) refl h
+    let l = length-header m in
+    let z : List ℕ = replicate (recordLength - headerLength) 0 in
+    let w : length (header m ++ z) ≡ recordLength = simp length-append (omega (arith, l)) in
+    sets-more d (header m) z 0 headerLength (omega (arith, l))
+    ∙ sets-eq (header m ++ z) d 0 (omega arith)
+    ∙ rw w (append-assoc (header m) z (drop recordLength d))
 
 -- ---- the entries
 
@@ -130,7 +97,7 @@ zeros-left (suc k) (suc m) d h =
 
 pub record-laid : (m : Machine) (es : List Saved) (d : List ℕ) (n : ℕ) → n ≡ length es → n ≤ 12
     → set (sets (header m ++ (replicate 37 0 ++ d)) 32 (entries es)) 31 n ≡ encode m es ++ d
-unfolding encode header front bytes
+unfolding encode header bytes
 record-laid m es d n e h =
     let k : length (entries es) ≡ 3 * length es = length-entries es in
     let x : drop (32 + length (entries es)) (header m ++ (replicate 37 0 ++ d)) ≡ replicate (36 - 3 * length es) 0 ++ d =

@@ -17,7 +17,8 @@ use Rattle.memory.proofs.Places.{stored-below}
 use Rattle.memory.specs.Fits.{Bytes, AllFit}
 use Rattle.memory.proofs.Fits.{bytes-set}
 use Rattle.journal.specs.Record.{Saved}
-use Rattle.journal.specs.Calls.{savedAt, savedFor, putBack}
+use Rattle.journal.specs.Recorded.{savedAt, savedFor}
+use Rattle.journal.specs.Undos.{putBack}
 use Rattle.journal.specs.Sequence.{Window, Same, All}
 use Rattle.journal.proofs.Reading.{SavedFits}
 

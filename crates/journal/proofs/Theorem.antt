@@ -11,23 +11,25 @@ use lib.ListN.{length, set, length-set}
 use borrow.Author.Tests.{eq-eqb, le-leb, lt-ltb, le-ltb}
 use Rattle.memory.specs.Fits.{Bytes}
 use Rattle.memory.specs.Writes.{listed, stored, reported}
-use Rattle.memory.specs.declared.Answer.{Answer}
-use Rattle.memory.specs.declared.Answer.the-variants.{Done, Refused}
-use Rattle.memory.specs.declared.Refusal.{Refusal}
-use Rattle.memory.specs.declared.Refusal.the-variants.{MemoryLength, NoRecord}
+use Rattle.answers.specs.declared.Answer.{Answer}
+use Rattle.answers.specs.declared.Answer.the-variants.{Done, Refused}
+use Rattle.answers.specs.declared.Refusal.{Refusal}
+use Rattle.answers.specs.declared.Refusal.the-variants.{MemoryLength, NoRecord}
 use Rattle.memory.specs.declared.Write.{Write}
 use Rattle.memory.proofs.Fits.{bytes-set, bytes-stored}
 use Rattle.memory.proofs.Folds.{length-stored}
-use Rattle.step.specs.Laws.{MachineFits, FoundFits}
-use Rattle.step.specs.Step.{foundOf}
-use Rattle.step.specs.declared.Found.{Found}
-use Rattle.step.specs.declared.Machine.{Machine}
-use Rattle.step.proofs.Laws.{twelve-writes, step-fits}
-use Rattle.interrupts.specs.Interrupts.{interruptFound, resetFound}
-use Rattle.interrupts.proofs.Laws.{interrupt-twelve, reset-twelve, interrupt-fits, reset-fits}
-use Rattle.journal.specs.Record.{encode, machineOf, waitAt, countOf, entriesOf}
-use Rattle.journal.specs.Calls.{State, ending, need, recordAt, withRecord, savedFor, admitted, callAnswer, recorded, concluded, called, whileWaiting, newestIn, undoAnswer, putBack, restored, undone}
-use Rattle.journal.specs.Sequence.{Call, step, interrupt, reset, All, Window, Event, forward, back, host, Legal, Snap, World, push, pop, hostWrites, call, next, run, start, BringsBack, Undoes, Unchanged, Demand3}
+use Rattle.machine.specs.Machine.{MachineFits}
+use Rattle.calls.specs.Plans.{PlanFits}
+use Rattle.machine.specs.declared.Settings.{Settings}
+use Rattle.calls.specs.declared.Plan.{Plan}
+use Rattle.machine.specs.declared.Machine.{Machine}
+use Rattle.calls.specs.Calls.{Call, step, interrupt, reset, settingsIn, planOf}
+use Rattle.calls.proofs.Laws.{few-writes, call-fits}
+use Rattle.machine.specs.Record.{machineOf}
+use Rattle.journal.specs.Record.{encode, waitAt, countOf, entriesOf}
+use Rattle.journal.specs.Recorded.{State, ending, need, recordAt, withRecord, savedFor, admitted, callAnswer, recorded, concluded, called, whileWaiting}
+use Rattle.journal.specs.Undos.{newestIn, undoAnswer, putBack, restored, undone}
+use Rattle.journal.specs.Sequence.{All, Window, Event, forward, back, host, Legal, Snap, World, push, pop, hostWrites, call, next, run, start, BringsBack, Undoes, Unchanged, Demand3}
 use Rattle.journal.proofs.Answers.{unless-done, admitted-done}
 use Rattle.journal.proofs.Laying.{saved-few}
 use Rattle.journal.proofs.Reading.{machine-back, wait-at, count-back, entries-back, length-encode}
@@ -159,29 +161,29 @@ undoes s (t ∷ ts) v = record {
 -- ---- a forward call
 
 -- what an accepted call has shown
-record Taken (s : State) (f : Found) : Type 0 where
+record Taken (s : State) (f : Plan) : Type 0 where
   size : length (s .memory) ≡ 65536
   space : s .twin .used * 68 + 68 ≤ length (s .journal)
   few : length (listed (f .writes)) ≤ 12
-  lawful : FoundFits f
+  lawful : PlanFits f
 
-recorded-inv : (top : ℕ) (s : State) (past : List Snap) (f : Found) → Taken s f → Inv s past → Inv (recorded top f s) (push Done s past)
+recorded-inv : (set : Settings) (s : State) (past : List Snap) (f : Plan) → Taken s f → Inv s past → Inv (recorded set f s) (push Done s past)
 unfolding recorded
-recorded-inv top s past f t v =
+recorded-inv set s past f t v =
     record {
       sound = t .lawful .machine;
-      bytes = bytes-stored top ws (s .memory) (v .bytes) (t .lawful .writes);
+      bytes = bytes-stored (set .«ram_top») ws (s .memory) (v .bytes) (t .lawful .writes);
       count = omega (arith, v .count);
       room = rw (length-withRecord (s .twin .used) entry (s .journal) whole (t .space)) (omega (arith, t .space));
-      size = λ l. length-stored top ws (s .memory) ∙ t .size;
+      size = λ l. length-stored (set .«ram_top») ws (s .memory) ∙ t .size;
       chain = (
         record {
-          saved = savedFor top ws (s .memory);
+          saved = savedFor (set .«ram_top») ws (s .memory);
           is = ap (λ (k : ℕ). recordAt k after) (sym (v .count)) ∙ record-own (s .twin .used) entry (s .journal) whole (t .space);
           few = few;
-          fit = all-saved-fit top ws (s .memory) (v .bytes) (t .lawful .writes);
+          fit = all-saved-fit (set .«ram_top») ws (s .memory) (v .bytes) (t .lawful .writes);
           sound = v .sound;
-          leads = same-eq (putBack (stored top ws (s .memory)) (savedFor top ws (s .memory))) (s .memory) (undone-writes top (s .memory) ws);
+          leads = same-eq (putBack (stored (set .«ram_top») ws (s .memory)) (savedFor (set .«ram_top») ws (s .memory))) (s .memory) (undone-writes (set .«ram_top») (s .memory) ws);
         },
         chain-kept (s .journal) after (s .memory) past (λ i h. record-kept (s .twin .used) entry (s .journal) whole (t .space) i (omega (arith, v .count))) (v .chain),
       );
@@ -190,69 +192,49 @@ recorded-inv top s past f t v =
     ws : List Write
     ws = listed (f .writes)
 
-    few : length (savedFor top ws (s .memory)) ≤ 12
-    few = omega (arith, saved-few top ws (s .memory), t .few)
+    few : length (savedFor (set .«ram_top») ws (s .memory)) ≤ 12
+    few = omega (arith, saved-few (set .«ram_top») ws (s .memory), t .few)
 
     entry : List ℕ
-    entry = encode (s .twin .machine) (savedFor top ws (s .memory))
+    entry = encode (s .twin .machine) (savedFor (set .«ram_top») ws (s .memory))
 
     whole : length entry ≡ 68
-    whole = length-encode (s .twin .machine) (savedFor top ws (s .memory)) few
+    whole = length-encode (s .twin .machine) (savedFor (set .«ram_top») ws (s .memory)) few
 
     after : List ℕ
     after = withRecord (s .twin .used) entry (s .journal)
 
-call-inv : (top : ℕ) (a : Answer) (s : State) (past : List Snap) (f : Found) → (a ≡ Done → Taken s f) → Inv s past
-    → Inv (concluded a top f s .state) (push (concluded a top f s .answer) s past)
-call-inv top Done s past f t v = recorded-inv top s past f (t refl) v
-call-inv top (Refused x) s past f t v = v
+call-inv : (set : Settings) (a : Answer) (s : State) (past : List Snap) (f : Plan) → (a ≡ Done → Taken s f) → Inv s past
+    → Inv (concluded a set f s .state) (push (concluded a set f s .answer) s past)
+call-inv set Done s past f t v = recorded-inv set s past f (t refl) v
+call-inv set (Refused x) s past f t v = v
 
--- what a forward call is refused by before 10, its ram_top, and what it finds
+-- what a forward call is refused by before 10
 abbrev earlyOf : Call → Machine → Answer
 earlyOf (step t) m = whileWaiting (m .wait)
 earlyOf (interrupt t i) m = Done
 earlyOf (reset t) m = Done
 
-abbrev topOf : Call → ℕ
-topOf (step t) = t .«ram_top»
-topOf (interrupt t i) = t .«ram_top»
-topOf (reset t) = t .«ram_top»
-
-abbrev foundBy : Call → Machine → List ℕ → Found
-foundBy (step t) m mem = foundOf mem m t
-foundBy (interrupt t i) m mem = interruptFound mem m t i
-foundBy (reset t) m mem = resetFound mem m
-
-call-is : (c : Call) (s : State) → call c s ≡ called (earlyOf c (s .twin .machine)) (topOf c) (foundBy c (s .twin .machine) (s .memory)) s
+call-is : (c : Call) (s : State) → call c s ≡ called (earlyOf c (s .twin .machine)) (settingsIn c) (planOf c (s .memory) (s .twin .machine)) s
 call-is (step t) s = refl
 call-is (interrupt t i) s = refl
 call-is (reset t) s = refl
 
-found-few : (c : Call) (m : Machine) (mem : List ℕ) → length (listed (foundBy c m mem .writes)) ≤ 12
-found-few (step t) m mem = twelve-writes mem m t
-found-few (interrupt t i) m mem = interrupt-twelve mem m t i
-found-few (reset t) m mem = reset-twelve mem m
-
-found-fits : (c : Call) (m : Machine) (mem : List ℕ) → MachineFits m → Bytes mem → FoundFits (foundBy c m mem)
-found-fits (step t) m mem h b = step-fits mem m t h b
-found-fits (interrupt t i) m mem h b = interrupt-fits mem m t i h b
-found-fits (reset t) m mem h b = reset-fits mem m h b
-
 taken : (c : Call) (s : State) → MachineFits (s .twin .machine) → Bytes (s .memory)
-    → callAnswer (earlyOf c (s .twin .machine)) (foundBy c (s .twin .machine) (s .memory)) s ≡ Done → Taken s (foundBy c (s .twin .machine) (s .memory))
+    → callAnswer (earlyOf c (s .twin .machine)) (planOf c (s .memory) (s .twin .machine)) s ≡ Done → Taken s (planOf c (s .memory) (s .twin .machine))
 taken c s f b e =
     let m = s .twin .machine in
     let e1 = unless-done (admitted (length (s .memory)) (length (s .journal)) (s .twin .used) (earlyOf c m)) _ e in
     let h = admitted-done (length (s .memory)) (length (s .journal)) (s .twin .used) (earlyOf c m) (e1 .0) in
-    record { size = h .size; space = h .space; few = found-few c m (s .memory); lawful = found-fits c m (s .memory) f b }
+    record { size = h .size; space = h .space; few = few-writes c (s .memory) m; lawful = call-fits c (s .memory) m f b }
 
 next-inv : (e : Event) (w : World) → Legal e → Inv (w .now) (w .past) → Inv (next e w .now) (next e w .past)
 unfolding next called
 next-inv (forward c) w l v =
     let m = w .now .twin .machine in
-    let f = foundBy c m (w .now .memory) in
+    let f = planOf c (w .now .memory) m in
     rw (call-is c (w .now))
-    (call-inv (topOf c) (callAnswer (earlyOf c m) f (w .now)) (w .now) (w .past) f (taken c (w .now) (v .sound) (v .bytes)) v)
+    (call-inv (settingsIn c) (callAnswer (earlyOf c m) f (w .now)) (w .now) (w .past) f (taken c (w .now) (v .sound) (v .bytes)) v)
 next-inv back w l v = undo-inv (w .now) (w .past) v
 next-inv (host a b) w l v = host-inv (w .now) (w .past) a b (l .0) (l .1) v
 
@@ -265,10 +247,10 @@ called-stays : (c : Call) (s : State) → call c s .answer ≢ Done → Unchange
 unfolding called
 called-stays c s =
     let m = s .twin .machine in
-    let f = foundBy c m (s .memory) in
+    let f = planOf c (s .memory) m in
     let a = callAnswer (earlyOf c m) f s in
-    let ds = reported (topOf c) (listed (f .writes)) in
-    rw (call-is c s) (λ h. stays a s (recorded (topOf c) f s) ds (λ e. h (answered a s (recorded (topOf c) f s) ds ∙ e)))
+    let ds = reported (settingsIn c .«ram_top») (listed (f .writes)) in
+    rw (call-is c s) (λ h. stays a s (recorded (settingsIn c) f s) ds (λ e. h (answered a s (recorded (settingsIn c) f s) ds ∙ e)))
 
 undone-stays : (s : State) → undone s .answer ≢ Done → Unchanged s (undone s)
 unfolding undone

@@ -7,29 +7,34 @@ use contract.Lifetimes.{Lfts}
 use denote.Ref.{now}
 use denote.Triple.Clauses.{Lasts, atExit}
 use borrow.Fn.Kinds.{Dens, resT, endedOf}
-use Rattle.u8oru16.proofs.Determined.{Determines}
-use Rattle.journal.proofs
+use Rattle.answers.proofs.Determined.{Determines}
+use Rattle.journal.proofs.recorded
+use Rattle.journal.proofs.undos
+use Rattle.journal.proofs.Twin
 
 -- the result, and memory and journal at exit
-pub step : Determines 2 proofs.step.Kinds.ps proofs.step.Kinds.r proofs.step.Reads.Post
+pub step : Determines 2 recorded.step.Kinds.ps recorded.step.Kinds.r recorded.step.Reads.Post
 step κs a x y ws vs p q =
     (p .result ∙ sym (q .result), λ i. ((p .memory-is ∙ sym (q .memory-is)) i, ((p .journal-is ∙ sym (q .journal-is)) i, (tt, (tt, tt)))))
 
-pub interrupt : Determines 2 proofs.interrupt.Kinds.ps proofs.interrupt.Kinds.r proofs.interrupt.Reads.Post
+pub interrupt : Determines 2 recorded.interrupt.Kinds.ps recorded.interrupt.Kinds.r recorded.interrupt.Reads.Post
 interrupt κs a x y ws vs p q =
     (p .result ∙ sym (q .result), λ i. ((p .memory-is ∙ sym (q .memory-is)) i, ((p .journal-is ∙ sym (q .journal-is)) i, (tt, (tt, (tt, tt))))))
 
-pub reset : Determines 2 proofs.reset.Kinds.ps proofs.reset.Kinds.r proofs.reset.Reads.Post
+pub reset : Determines 2 recorded.reset.Kinds.ps recorded.reset.Kinds.r recorded.reset.Reads.Post
 reset κs a x y ws vs p q =
     (p .result ∙ sym (q .result), λ i. ((p .memory-is ∙ sym (q .memory-is)) i, ((p .journal-is ∙ sym (q .journal-is)) i, (tt, (tt, tt)))))
 
 -- the journal is lent to be read only
-pub undo : Determines 2 proofs.undo.Kinds.ps proofs.undo.Kinds.r proofs.undo.Reads.Post
+pub undo : Determines 2 undos.undo.Kinds.ps undos.undo.Kinds.r undos.undo.Reads.Post
 undo κs a x y ws vs p q = (p .result ∙ sym (q .result), ap (λ (l : List ℕ). (l, (tt, (tt, tt)))) (p .memory-is ∙ sym (q .memory-is)))
 
 -- a returned part is its bytes: no two that differ fit
-pub newest : (κs : Lfts 1) (a : Dens κs proofs.newest.Kinds.ps) (x y : resT proofs.newest.Kinds.r κs .Denot)
-    (ws vs : Lasts (endedOf 1 proofs.newest.Kinds.ps proofs.newest.Kinds.r) κs a)
-    → proofs.newest.Reads.Post κs a x (atExit (endedOf 1 proofs.newest.Kinds.ps proofs.newest.Kinds.r) κs a ws)
-    → proofs.newest.Reads.Post κs a y (atExit (endedOf 1 proofs.newest.Kinds.ps proofs.newest.Kinds.r) κs a vs) → (now x ≡ now y) × (ws ≡ vs)
+pub newest : (κs : Lfts 1) (a : Dens κs undos.newest.Kinds.ps) (x y : resT undos.newest.Kinds.r κs .Denot)
+    (ws vs : Lasts (endedOf 1 undos.newest.Kinds.ps undos.newest.Kinds.r) κs a)
+    → undos.newest.Reads.Post κs a x (atExit (endedOf 1 undos.newest.Kinds.ps undos.newest.Kinds.r) κs a ws)
+    → undos.newest.Reads.Post κs a y (atExit (endedOf 1 undos.newest.Kinds.ps undos.newest.Kinds.r) κs a vs) → (now x ≡ now y) × (ws ≡ vs)
 newest κs a x y ws vs p q = (p ∙ sym q, refl)
+
+pub fresh : Determines 0 Twin.fresh.Kinds.ps Twin.fresh.Kinds.r Twin.fresh.Reads.Post
+fresh κs a x y ws vs p q = (p ∙ sym q, refl)

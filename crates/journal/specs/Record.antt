@@ -1,90 +1,53 @@
--- A record of the journal (document 01, section "Journal"): 68 bytes from before a call, and what is read back from them.
+-- A record of the journal (document 01, section "Journal"): the machine from before a call, the count of stored bytes, and room for twelve
+-- entries; and what is read back from it.
 -- Assumes nothing.
-use Prim.Native.Nat.{ℕ, zero, suc, _+_, _-_, _*_, _/_, _%_, _^_}
+use Prim.Native.Nat.{ℕ, zero, suc, _+_, _-_, _*_}
 use mathlib.Core.List.{List, [], _∷_, _++_}
-use lib.ListN.{length, getD, take, drop, replicate}
-use Rattle.registers.specs.declared.Set.{Set}
-use Rattle.evaluate.specs.declared.Wait.{Wait}
-use Rattle.evaluate.specs.declared.Wait.the-variants.{Running, Cwai, Sync}
-use Rattle.step.specs.declared.Machine.{Machine}
+use lib.ListN.{length, getD, drop, replicate}
+use Rattle.machine.specs.Record.{Waiting, bytes, numberAt, header, headerLength, offset}
+use Rattle.machine.specs.declared.Machine.{Machine}
 
 -- an entry: a place of memory, after mapping, and the byte that it had before the call
 pub record Saved : Type 0 where
   pub place : ℕ
   pub byte : ℕ
 
--- the low n bytes of a number, high byte first, and the number that bytes stand for
-unfoldable pub bytes : ℕ → ℕ → List ℕ
-bytes zero x = []
-bytes (suc n) x = x / 256 ^ n % 256 ∷ bytes n x
+-- a call stores at most twelve bytes; an entry has two bytes for the place and one for the byte
+abbrev pub most : ℕ
+most = 12
 
-unfoldable pub number : List ℕ → ℕ
-number [] = 0
-number (b ∷ bs) = b * 256 ^ length bs + number bs
+abbrev pub entryLength : ℕ
+entryLength = 3
 
--- the wait state as a byte; undo refuses a byte above 2 before it is read back
-abbrev pub waitByte : Wait → ℕ
-waitByte Running = 0
-waitByte Cwai = 1
-waitByte Sync = 2
+-- where the count and the entries stand, and the length of a record
+abbrev pub countAt : ℕ
+countAt = headerLength
 
-unfoldable pub waitOf : ℕ → Wait
-waitOf zero = Running
-waitOf (suc zero) = Cwai
-waitOf (suc (suc n)) = Sync
+abbrev pub entriesAt : ℕ
+entriesAt = countAt + 1
 
--- A, B, X, Y, U, S, PC, DP, CC
-abbrev pub registerBytes : Set → List ℕ
-registerBytes r =
-    r .a ∷ r .b ∷ (bytes 2 (r .x) ++ (bytes 2 (r .y) ++ (bytes 2 (r .u) ++ (bytes 2 (r .s) ++ (bytes 2 (r .pc) ++ (r .dp ∷ r .cc .reg ∷ []))))))
+abbrev pub recordLength : ℕ
+recordLength = entriesAt + most * entryLength
 
--- registers and wait state: 15 bytes
-unfoldable pub front : Machine → List ℕ
-front m = registerBytes (m .regs) ++ (waitByte (m .wait) ∷ [])
-
--- and both counters: 31 bytes
-unfoldable pub header : Machine → List ℕ
-header m = front m ++ (bytes 8 (m .cycles) ++ bytes 8 (m .instructions))
-
--- the entries in use, three bytes each
+-- the entries in use
 unfoldable pub entries : List Saved → List ℕ
 entries [] = []
 entries (e ∷ es) = bytes 2 (e .place) ++ (e .byte ∷ entries es)
 
--- the whole record: header, count, entries in the order stored, and zeros for the unused ones
+-- the whole record: entries in the order stored, and zeros for the unused ones
 unfoldable pub encode : Machine → List Saved → List ℕ
-encode m es = header m ++ (length es ∷ (entries es ++ replicate (36 - 3 * length es) 0))
+encode m es = header m ++ (length es ∷ (entries es ++ replicate (most * entryLength - entryLength * length es) 0))
 
 -- What is read back from a record
 unfoldable pub waitAt : List ℕ → ℕ
-waitAt r = getD r 14 0
-
-unfoldable pub machineOf : List ℕ → Machine
-machineOf r =
-    record {
-      cycles = number (take 8 (drop 15 r));
-      instructions = number (take 8 (drop 23 r));
-      regs =
-          record {
-            x = number (take 2 (drop 2 r));
-            y = number (take 2 (drop 4 r));
-            u = number (take 2 (drop 6 r));
-            s = number (take 2 (drop 8 r));
-            pc = number (take 2 (drop 10 r));
-            a = getD r 0 0;
-            b = getD r 1 0;
-            dp = getD r 12 0;
-            cc = record { reg = getD r 13 0 };
-          };
-      wait = waitOf (waitAt r);
-    }
+waitAt r = getD r (offset Waiting) 0
 
 unfoldable pub countOf : List ℕ → ℕ
-countOf r = getD r 31 0
+countOf r = getD r countAt 0
 
 unfoldable pub read : ℕ → List ℕ → List Saved
 read zero r = []
-read (suc n) r = record { place = number (take 2 r); byte = getD r 2 0 } ∷ read n (drop 3 r)
+read (suc n) r = record { place = numberAt r 0 2; byte = getD r 2 0 } ∷ read n (drop entryLength r)
 
 unfoldable pub entriesOf : List ℕ → List Saved
-entriesOf r = read (countOf r) (drop 32 r)
+entriesOf r = read (countOf r) (drop entriesAt r)

@@ -13,14 +13,15 @@ use lib.Dec.{eqb}
 use lib.ListN.{length, getD, set}
 use Rattle.memory.specs.Fits.{Bytes}
 use Rattle.memory.specs.Writes.{writesOf}
-use Rattle.memory.specs.declared.Answer.{Answer}
-use Rattle.memory.specs.declared.Answer.the-variants.{Done, Refused}
-use Rattle.memory.specs.declared.Refusal.the-variants.{MemoryLength, NoRecord}
-use Rattle.step.specs.Laws.{MachineFits}
-use Rattle.step.specs.declared.Machine.{Machine}
-use Rattle.step.specs.declared.Settings.{Settings}
-use Rattle.interrupts.specs.declared.InterruptType.{InterruptType}
-use Rattle.journal.specs.Calls.{State, Ended, need, stepped, interrupted, wasReset, undone}
+use Rattle.answers.specs.declared.Answer.{Answer}
+use Rattle.answers.specs.declared.Answer.the-variants.{Done, Refused}
+use Rattle.answers.specs.declared.Refusal.the-variants.{MemoryLength, NoRecord}
+use Rattle.machine.specs.Machine.{MachineFits}
+use Rattle.machine.specs.declared.Machine.{Machine}
+use Rattle.calls.specs.Calls.{Call, step, interrupt, reset}
+use Rattle.journal.specs.Record.{recordLength}
+use Rattle.journal.specs.Recorded.{State, Ended, need, stepped, interrupted, wasReset}
+use Rattle.journal.specs.Undos.{undone}
 
 -- ---- sequences
 
@@ -33,12 +34,7 @@ All P (x ∷ xs) = P x × All P xs
 abbrev pub Window : ℕ → Type 0
 Window i = (0xFF00 ≤ i) × (i < 0xFFE0)
 
--- A forward call, with the settings that it is given, and how it ends: what the statements of the code cite
-pub data Call : Type 0 where
-  step : Settings → Call
-  interrupt : Settings → InterruptType → Call
-  reset : Settings → Call
-
+-- How a forward call ends: what the statements of the code cite
 abbrev pub call : Call → State → Ended
 call (step t) s = stepped t s
 call (interrupt t i) s = interrupted t i s
@@ -125,7 +121,7 @@ pub record Undoes (w : World) : Type 0 where
   pub brings : BringsBack (w .now) (w .past) (undone (w .now))
   -- the journal has one record for each such call, and room for them: 12 is never given
   pub count : w .now .twin .used ≡ length (w .past)
-  pub room : w .now .twin .used * 68 ≤ length (w .now .journal)
+  pub room : w .now .twin .used * recordLength ≤ length (w .now .journal)
 
 -- A refused call changes nothing and reports nothing
 pub record Unchanged (s : State) (o : Ended) : Type 0 where

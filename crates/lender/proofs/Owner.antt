@@ -16,18 +16,18 @@ use denote.Laws.{Is, shows}
 use denote.Steps.{owned, facts}
 use denote.Struct.Steps.{spelt}
 use denote.Struct.Laws as LL
-use Rattle.journal.specs.Calls.{Ended}
+use Rattle.journal.specs.Recorded.{Ended}
 use Rattle.journal.specs.declared.Twin.{Twin}
 use Rattle.journal.proofs.Twin as T
 use Rattle.journal.proofs.Twin.Laws as T′
-use Rattle.machine.specs.Lending.{Returns, Leaves}
-use Rattle.machine.specs.declared.Reported.{Reported}
-use Rattle.machine.specs.declared.Returned.{Returned}
-use Rattle.machine.proofs.Parts.{at-twin, at-report}
-use Rattle.machine.proofs.Reported as N
-use Rattle.machine.proofs.Reported.Laws as N′
-use Rattle.machine.proofs.Returned as S
-use Rattle.machine.proofs.Returned.Laws as S′
+use Rattle.lent.specs.Lending.{Returns, Leaves}
+use Rattle.lent.specs.declared.Reported.{Reported}
+use Rattle.lent.specs.declared.Returned.{Returned}
+use Rattle.lent.proofs.Parts.{at-twin, at-report}
+use Rattle.lent.proofs.Reported as N
+use Rattle.lent.proofs.Reported.Laws as N′
+use Rattle.lent.proofs.Returned as S
+use Rattle.lent.proofs.Returned.Laws as S′
 
 abbrev pub pair : Reported → Twin → Returned
 pair r k = record { reported = r; twin = k }

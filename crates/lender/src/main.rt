@@ -6,17 +6,15 @@
 // A line for each call: the answer's number, PC, the count of records, and the byte at 0200. What it prints is worked out by
 // hand. NOP is one byte, STA extended three, and each leaves a record. The first undo puts 00 back at 0200, and PC and the count
 // go back with each; the third undo finds no record (11) and leaves all as it stands.
-ghost use Rattle.journal.specs.Calls.{inHand, stepped, undone};
-ghost use Rattle.machine.specs.Lending.{Returns};
-use evaluate::Wait;
+ghost use Rattle.journal.specs.Recorded.{inHand, stepped};
+ghost use Rattle.journal.specs.Undos.{undone};
+ghost use Rattle.lent.specs.Lending.{Returns};
+use answers::Answer;
 use journal::Twin;
+use lent::Returned;
 use libc::STDOUT_FILENO;
-use machine::Returned;
-use registers::CCBits;
+use machine::Settings;
 use registers::Flags;
-use registers::Set;
-use step::Machine;
-use step::Settings;
 
 type Memory = [u8; 0x10000];
 
@@ -30,7 +28,7 @@ fn step_owned(twin: Twin, mem: &mut [u8], journal: &mut [u8], settings: Settings
     ensures { λ r. ⌜ Returns r (now (mem .exit)) (now (journal .exit)) (stepped settings (inHand (now (mem .entry)) (now (journal .entry)) twin)) ⌝ }
 {
     let mut own = twin;
-    let reported = machine::step(&mut own, mem, journal, settings);
+    let reported = lent::step(&mut own, mem, journal, settings);
     Returned {
         reported,
         twin: own,
@@ -41,7 +39,7 @@ fn undo_owned(twin: Twin, mem: &mut [u8], journal: &[u8]) -> Returned
     ensures { λ r. ⌜ Returns r (now (mem .exit)) (now (journal .entry)) (undone (inHand (now (mem .entry)) (now (journal .entry)) twin)) ⌝ }
 {
     let mut own = twin;
-    let reported = machine::undo(&mut own, mem, journal);
+    let reported = lent::undo(&mut own, mem, journal);
     Returned {
         reported,
         twin: own,
@@ -54,7 +52,8 @@ fn letter(n: u8) -> u8 {
     if d < 10 { b'0' + d } else { b'A' - 10 + d }
 }
 
-fn show(number: u8, twin: Twin, byte: u8) -> bool {
+fn show(answer: Answer, twin: Twin, byte: u8) -> bool {
+    let number = answer.number();
     let machine = twin.machine;
     let regs = machine.regs;
     let high = (regs.pc / 256) as u8;
@@ -81,15 +80,12 @@ fn shown(returned: Returned, byte: u8) -> Twin {
     let reported = returned.reported;
     let answer = reported.answer;
     let twin = returned.twin;
-    show(answer.number(), twin, byte);
+    show(answer, twin, byte);
     twin
 }
 
 fn forward(twin: Twin, mem: &mut Memory, journal: &mut Journal) -> Twin {
-    let settings = Settings {
-        ram_top: 0x7FFF,
-        flags: Flags::Manual,
-    };
+    let settings = Settings::new(0x7FFF, Flags::Manual);
     let returned = step_owned(twin, mem, journal, settings);
     shown(returned, mem[CELL])
 }
@@ -99,26 +95,16 @@ fn back(twin: Twin, mem: &mut Memory, journal: &Journal) -> Twin {
     shown(returned, mem[CELL])
 }
 
+// A fresh machine at the program, with the byte to store.
 fn start() -> Twin {
-    Twin {
-        machine: Machine {
-            cycles: 0,
-            instructions: 0,
-            regs: Set {
-                x: 0,
-                y: 0,
-                u: 0,
-                s: 0,
-                pc: 0x0100,
-                a: 0x2A,
-                b: 0,
-                dp: 0,
-                cc: CCBits { reg: 0 },
-            },
-            wait: Wait::Running,
-        },
-        used: 0,
-    }
+    let mut twin = Twin::fresh();
+    let mut machine = twin.machine;
+    let mut regs = machine.regs;
+    regs.pc = 0x0100;
+    regs.a = 0x2A;
+    machine.regs = regs;
+    twin.machine = machine;
+    twin
 }
 
 fn main() {

@@ -1,15 +1,29 @@
--- No second report, and no second twin, memory or journal at exit, fits the contract of `step` or of `undo`. Neither is covered by the borrow checker, so this is said of their `clauses`, in the program logic.
+-- No second answer fits a public function's contract.
 -- Assumes nothing.
-use mathlib.Core.Path.{sym, _∙_}
-use Rattle.u8oru16.proofs.Determined.{DeterminesIn, facts}
-use Rattle.machine.proofs
+use mathlib.Core.Path.{refl, sym, _∙_}
+use Rattle.answers.proofs.Determined.{Determines}
+use Rattle.machine.proofs.Effect
+use Rattle.machine.proofs.Machine
+use Rattle.machine.proofs.Settings
+use Rattle.machine.proofs.record
 
-pub step : DeterminesIn proofs.step.ended (λ M 𝓤 H A mem run. proofs.step.clauses 𝓤 H A mem run)
-step M 𝓤 H A mem run κs a g x y ws vs =
-    facts 𝓤 (λ p q.
-    (p .result ∙ sym (q .result), λ i. ((p .twin-is ∙ sym (q .twin-is)) i, ((p .memory-is ∙ sym (q .memory-is)) i, ((p .journal-is ∙ sym (q .journal-is)) i, (tt, tt))))))
+pub fresh : Determines 0 Machine.fresh.Kinds.ps Machine.fresh.Kinds.r Machine.fresh.Reads.Post
+fresh κs a x y ws vs p q = (p ∙ sym q, refl)
 
--- the journal is lent to be read only
-pub undo : DeterminesIn proofs.undo.ended (λ M 𝓤 H A mem run. proofs.undo.clauses 𝓤 H A mem run)
-undo M 𝓤 H A mem run κs a g x y ws vs =
-    facts 𝓤 (λ p q. (p .result ∙ sym (q .result), λ i. ((p .twin-is ∙ sym (q .twin-is)) i, ((p .memory-is ∙ sym (q .memory-is)) i, (tt, tt)))))
+pub settings : Determines 0 Settings.new.Kinds.ps Settings.new.Kinds.r Settings.new.Reads.Post
+settings κs a x y ws vs p q = (p ∙ sym q, refl)
+
+pub changes : Determines 0 Effect.changes.Kinds.ps Effect.changes.Kinds.r Effect.changes.Reads.Post
+changes κs a x y ws vs p q = (p ∙ sym q, refl)
+
+pub stores : Determines 0 Effect.stores.Kinds.ps Effect.stores.Kinds.r Effect.stores.Reads.Post
+stores κs a x y ws vs p q = (p ∙ sym q, refl)
+
+pub refuses : Determines 0 Effect.refuses.Kinds.ps Effect.refuses.Kinds.r Effect.refuses.Reads.Post
+refuses κs a x y ws vs p q = (p ∙ sym q, refl)
+
+pub header-of : Determines 0 record.header_of.Kinds.ps record.header_of.Kinds.r record.header_of.Reads.Post
+header-of κs a x y ws vs p q = (p ∙ sym q, refl)
+
+pub machine-of : Determines 1 record.machine_of.Kinds.ps record.machine_of.Kinds.r record.machine_of.Reads.Post
+machine-of κs a x y ws vs p q = (p ∙ sym q, refl)

@@ -1,1 +1,3 @@
-pub mod Lending
+pub mod Machine
+pub mod Effect
+pub mod Record

@@ -1,64 +1,100 @@
-// The machine lent by its owner: step and undo on a twin behind a `&mut`, over the recorded calls on values.
-// Each is three statements, whatever the call does: every test and every refusal is below.
-ghost use Rattle.journal.specs.Calls.{inHand, stepped, undone};
-ghost use Rattle.machine.specs.Lending.{Returns, Leaves};
-use journal::Twin;
-use memory::Answer;
-use memory::Writes;
-use step::Settings;
+// The machine: registers, wait state and counters; the settings given with each call; what an instruction does to it.
+mod record;
 
-// What a call returns once the twin is written back: the device writes that it reports, and its answer.
-pub struct Reported {
-    pub devices: Writes,
+ghost use mathlib.Core.Path.{_≡_};
+ghost use Rattle.machine.specs.Machine.{fresh, settingsOf};
+ghost use Rattle.machine.specs.Effect.{changes, stores, refuses};
+use answers::Answer;
+use answers::Refusal;
+use memory::Writes;
+pub use record::HEADER;
+pub use record::WAIT;
+pub use record::header_of;
+pub use record::machine_of;
+use registers::Flags;
+use registers::Set;
+
+// Running, or waiting for an interrupt.
+pub enum Wait {
+    Running,
+    Cwai,
+    Sync,
+}
+
+pub struct Machine {
+    pub cycles: u64,
+    pub instructions: u64,
+    pub regs: Set,
+    pub wait: Wait,
+}
+
+// Given with each call.
+pub struct Settings {
+    pub ram_top: u16,
+    pub flags: Flags,
+}
+
+// What an instruction does: the bytes to write, the registers and wait state after it, or its refusal.
+pub struct Effect {
+    pub writes: Writes,
+    pub regs: Set,
+    pub wait: Wait,
     pub answer: Answer,
 }
 
-// The same with the twin, on values.
-pub struct Returned {
-    pub reported: Reported,
-    pub twin: Twin,
-}
-
-fn step_value(twin: Twin, mem: &mut [u8], journal: &mut [u8], settings: Settings) -> Returned
-    ensures { λ r. ⌜ Returns r (now (mem .exit)) (now (journal .exit)) (stepped settings (inHand (now (mem .entry)) (now (journal .entry)) twin)) ⌝ }
-{
-    let outcome = journal::step(mem, journal, twin, settings);
-    let devices = outcome.devices;
-    let answer = outcome.answer;
-    let next = outcome.twin;
-    Returned {
-        reported: Reported { devices, answer },
-        twin: next,
+impl Machine {
+    // Running, counters and registers 0, IRQ and FIRQ masked.
+    pub fn fresh() -> Machine
+        ensures { λ r. ⌜ r ≡ fresh ⌝ }
+    {
+        Machine {
+            cycles: 0,
+            instructions: 0,
+            regs: Set::reset(),
+            wait: Wait::Running,
+        }
     }
 }
 
-fn undo_value(twin: Twin, mem: &mut [u8], journal: &[u8]) -> Returned
-    ensures { λ r. ⌜ Returns r (now (mem .exit)) (now (journal .entry)) (undone (inHand (now (mem .entry)) (now (journal .entry)) twin)) ⌝ }
-{
-    let outcome = journal::undo(mem, journal, twin);
-    let devices = outcome.devices;
-    let answer = outcome.answer;
-    let before = outcome.twin;
-    Returned {
-        reported: Reported { devices, answer },
-        twin: before,
+impl Settings {
+    pub fn new(ram_top: u16, flags: Flags) -> Settings
+        ensures { λ r. ⌜ r ≡ settingsOf «ram_top» flags ⌝ }
+    {
+        Settings { ram_top, flags }
     }
 }
 
-// The recorded step of a lent twin.
-pub fn step(twin: &mut Twin, mem: &mut [u8], journal: &mut [u8], settings: Settings) -> Reported
-    ensures { λ r. ⌜ Leaves r (now (twin .exit)) (now (mem .exit)) (now (journal .exit)) (stepped settings (inHand (now (mem .entry)) (now (journal .entry)) (now (twin .entry)))) ⌝ }
-{
-    let done = step_value(*twin, mem, journal, settings);
-    *twin = done.twin;
-    done.reported
-}
+impl Effect {
+    pub fn changes(regs: Set) -> Effect
+        ensures { λ r. ⌜ r ≡ changes regs ⌝ }
+    {
+        Effect {
+            writes: Writes::none(),
+            regs,
+            wait: Wait::Running,
+            answer: Answer::Done,
+        }
+    }
 
-// The newest recorded call of a lent twin is taken back. The journal is only read.
-pub fn undo(twin: &mut Twin, mem: &mut [u8], journal: &[u8]) -> Reported
-    ensures { λ r. ⌜ Leaves r (now (twin .exit)) (now (mem .exit)) (now (journal .entry)) (undone (inHand (now (mem .entry)) (now (journal .entry)) (now (twin .entry)))) ⌝ }
-{
-    let done = undo_value(*twin, mem, journal);
-    *twin = done.twin;
-    done.reported
+    pub fn stores(regs: Set, writes: Writes) -> Effect
+        ensures { λ r. ⌜ r ≡ stores regs writes ⌝ }
+    {
+        Effect {
+            writes,
+            regs,
+            wait: Wait::Running,
+            answer: Answer::Done,
+        }
+    }
+
+    pub fn refuses(regs: Set, refusal: Refusal) -> Effect
+        ensures { λ r. ⌜ r ≡ refuses regs refusal ⌝ }
+    {
+        Effect {
+            writes: Writes::none(),
+            regs,
+            wait: Wait::Running,
+            answer: Answer::Refused(refusal),
+        }
+    }
 }

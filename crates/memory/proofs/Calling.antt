@@ -9,9 +9,9 @@ use Rattle.memory.specs.Map.{isSystem}
 use Rattle.memory.specs.Writes.{writesOf, listed, valueWrites, stored, reported}
 use Rattle.memory.specs.Calls.{writeAnswer, wroteOf, memoryAfter}
 use Rattle.memory.specs.declared.AccessType.{AccessType}
-use Rattle.memory.specs.declared.Answer.{Answer}
-use Rattle.memory.specs.declared.Answer.the-variants.{Done, Refused}
-use Rattle.memory.specs.declared.Refusal.{Refusal}
+use Rattle.answers.specs.declared.Answer.{Answer}
+use Rattle.answers.specs.declared.Answer.the-variants.{Done, Refused}
+use Rattle.answers.specs.declared.Refusal.{Refusal}
 use Rattle.memory.specs.declared.Writes.{Writes}
 use Rattle.memory.specs.declared.Wrote.{Wrote}
 use Rattle.memory.proofs.Folds.{listed-back}

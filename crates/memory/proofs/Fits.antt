@@ -15,7 +15,7 @@ use Rattle.memory.specs.Map.{placeOf, byteAt, wordFits, lowAt, wordAt, l
 use Rattle.memory.specs.Writes.{twelve, writesOf, listed, added, addedAll, wordWrites, putAt, stored}
 use Rattle.memory.specs.declared.Landing.{Landing}
 use Rattle.memory.specs.declared.Landing.the-variants.{Stored, Device, Ignored}
-use Rattle.memory.specs.declared.Refusal.the-variants.{WordAtTop}
+use Rattle.answers.specs.declared.Refusal.the-variants.{WordAtTop}
 use Rattle.memory.specs.declared.WordRead.{WordRead}
 use Rattle.memory.specs.declared.WordRead.the-variants.{Word, Refused}
 use Rattle.memory.specs.declared.Write.{Write}

@@ -5,4 +5,3 @@ pub mod Unique
 pub mod Places
 pub mod Twelve
 pub mod Fits
-pub mod Refusing

@@ -3,18 +3,10 @@
 use mathlib.Core.Path.{refl, sym, ap, _∙_}
 use mathlib.Core.List.{List}
 use Prim.Native.Nat.{ℕ}
-use Rattle.u8oru16.proofs.Determined.{Determines}
+use Rattle.answers.proofs.Determined.{Determines}
 use Rattle.memory.proofs
-use Rattle.memory.proofs.Refusal
-use Rattle.memory.proofs.Answer
 use Rattle.memory.proofs.AccessType
 use Rattle.memory.proofs.Writes
-
-pub refusal-number : Determines 0 Refusal.number.Kinds.ps Refusal.number.Kinds.r Refusal.number.Reads.Post
-refusal-number κs a x y ws vs p q = (p ∙ sym q, refl)
-
-pub answer-number : Determines 0 Answer.number.Kinds.ps Answer.number.Kinds.r Answer.number.Reads.Post
-answer-number κs a x y ws vs p q = (p ∙ sym q, refl)
 
 pub is-system : Determines 0 AccessType.is_system.Kinds.ps AccessType.is_system.Kinds.r AccessType.is_system.Reads.Post
 is-system κs a x y ws vs p q = (p ∙ sym q, refl)

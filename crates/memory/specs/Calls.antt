@@ -11,9 +11,9 @@ use Rattle.u8oru16.specs.declared.u8u16.the-variants.{u8}
 use Rattle.memory.specs.Map.{isSystem, wordFits}
 use Rattle.memory.specs.Writes.{writesOf, valueWrites, stored, reported}
 use Rattle.memory.specs.declared.AccessType.{AccessType}
-use Rattle.memory.specs.declared.Answer.{Answer}
-use Rattle.memory.specs.declared.Answer.the-variants.{Done, Refused}
-use Rattle.memory.specs.declared.Refusal.the-variants.{MemoryLength, WordAtTop}
+use Rattle.answers.specs.declared.Answer.{Answer}
+use Rattle.answers.specs.declared.Answer.the-variants.{Done, Refused}
+use Rattle.answers.specs.declared.Refusal.the-variants.{MemoryLength, WordAtTop}
 use Rattle.memory.specs.declared.Write.{Write}
 use Rattle.memory.specs.declared.Wrote.{Wrote}
 

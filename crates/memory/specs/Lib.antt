@@ -1,4 +1,3 @@
-pub mod Answers
 pub mod Map
 pub mod Writes
 pub mod Fits

@@ -10,7 +10,7 @@ use Rattle.memory.specs.declared.AccessType.{AccessType}
 use Rattle.memory.specs.declared.AccessType.the-variants.{Program, UserStack, SystemStack, Generic, System}
 use Rattle.memory.specs.declared.Landing.{Landing}
 use Rattle.memory.specs.declared.Landing.the-variants.{Stored, Device, Ignored}
-use Rattle.memory.specs.declared.Refusal.the-variants.{WordAtTop}
+use Rattle.answers.specs.declared.Refusal.the-variants.{WordAtTop}
 use Rattle.memory.specs.declared.ValueRead.{ValueRead}
 use Rattle.memory.specs.declared.ValueRead.the-variants.{Value, Refused as Refused′}
 use Rattle.memory.specs.declared.WordRead.{WordRead}

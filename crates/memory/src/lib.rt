@@ -2,32 +2,12 @@
 ghost use mathlib.Core.Path.{_≡_};
 ghost use mathlib.Core.List.{[]};
 ghost use Prim.Native.Nat.{_+_, _*_};
-ghost use Rattle.memory.specs.Answers.{numberOf, numberOfAnswer};
 ghost use Rattle.memory.specs.Map.{isSystem, placeOf, byteAt, wordFits, wordAt, valueAt, landingOf};
 ghost use Rattle.memory.specs.Writes.{writesOf, listed, added, addedAll, wordWrites, valueWrites, putAt, isDevice, stored, reported, overOf};
 ghost use Rattle.memory.specs.Calls.{byte, writeAnswer, wroteOf, memoryAfter};
+use answers::Answer;
+use answers::Refusal;
 use u8oru16::u8u16;
-
-// Why a call is refused: document 01's table, 1 to 12.
-pub enum Refusal {
-    MemoryLength,
-    Waiting,
-    Opcode,
-    PastEnd,
-    PostByte,
-    WordAtTop,
-    TransferCode,
-    StackTooSmall,
-    ZeroAtVector,
-    JournalFull,
-    NoRecord,
-    JournalLength,
-}
-
-pub enum Answer {
-    Done,
-    Refused(Refusal),
-}
 
 pub enum AccessType {
     Program,
@@ -73,38 +53,6 @@ pub struct Writes {
 pub struct Wrote {
     pub devices: Writes,
     pub answer: Answer,
-}
-
-impl Refusal {
-    pub fn number(self) -> u8
-        ensures { λ r. ⌜ r ≡ numberOf self ⌝ }
-    {
-        match self {
-            Refusal::MemoryLength => 1,
-            Refusal::Waiting => 2,
-            Refusal::Opcode => 3,
-            Refusal::PastEnd => 4,
-            Refusal::PostByte => 5,
-            Refusal::WordAtTop => 6,
-            Refusal::TransferCode => 7,
-            Refusal::StackTooSmall => 8,
-            Refusal::ZeroAtVector => 9,
-            Refusal::JournalFull => 10,
-            Refusal::NoRecord => 11,
-            Refusal::JournalLength => 12,
-        }
-    }
-}
-
-impl Answer {
-    pub fn number(self) -> u8
-        ensures { λ r. ⌜ r ≡ numberOfAnswer self ⌝ }
-    {
-        match self {
-            Answer::Done => 0,
-            Answer::Refused(refusal) => refusal.number(),
-        }
-    }
 }
 
 impl AccessType {

@@ -1,5 +1,5 @@
 pub mod Rows
-pub mod Letters
 pub mod Laws
 pub mod Places
+pub mod Reading
 pub mod Unique

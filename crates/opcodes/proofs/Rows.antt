@@ -1,4 +1,4 @@
--- Functions of a number below a bound, compared by one test that antt computes; the arms of a match on a number.
+-- A list given place by place; functions of a number below a bound, compared by one test that antt computes; the last arm of a match.
 -- Assumes nothing.
 use Prim.Native.Nat.{ℕ, zero, suc, _+_, _<_}
 use mathlib.Core.Path.{_≡_, refl, sym, ap, _∙_}
@@ -7,16 +7,17 @@ use mathlib.Core.List.{List, [], _∷_}
 use native.Mathlib.Decide.{ℕ-discrete}
 use native.Mathlib.Nat.{add-zero, zero-add, add-suc, suc-add, le-of-suc-le-suc, not-suc-le-zero}
 use native.Mathlib.Omega.{arith}
+use borrow.Author.Tests.{ne-eqb}
 use lib.Dec.{eqb}
 use lib.ListN.{getD}
-use Rattle.opcodes.specs.declared.Entry.{Entry}
+use Rattle.opcodes.specs.Table.{values}
 
--- the values of f at n places from i on
-abbrev pub values : {A : Type 0} → (ℕ → A) → ℕ → ℕ → List A
-values f i zero = []
-values f i (suc n) = f i ∷ values f (suc i) n
+-- a list, place by place
+infixr 25 _∷≡_
+pub _∷≡_ : {A : Type 0} {x y : A} {xs ys : List A} → x ≡ y → xs ≡ ys → x ∷ xs ≡ y ∷ ys
+_∷≡_ {A} {x} {y} {xs} {ys} p q = ap (λ (a : A). a ∷ xs) p ∙ ap (λ (l : List A). y ∷ l) q
 
-in-values : {A : Type 0} (f : ℕ → A) (d : A) (n i j : ℕ) → j < n → getD (values f i n) j d ≡ f (i + j)
+pub in-values : {A : Type 0} (f : ℕ → A) (d : A) (n i j : ℕ) → j < n → getD (values f i n) j d ≡ f (i + j)
 in-values f d zero i j h = absurd (not-suc-le-zero h)
 in-values f d (suc n) i zero h = rw (add-zero i)
 in-values f d (suc n) i (suc j) h = in-values f d n (suc i) j (le-of-suc-le-suc h) ∙ rw (suc-add i j, add-suc i j)
@@ -39,13 +40,9 @@ abbrev pub isIn : ℕ → List ℕ → Bool
 isIn n [] = false
 isIn n (k ∷ ks) = cond (eqb n k) true (isIn n ks)
 
--- an arm of a match: the answer is e, what is matched is k, and e is what f has there
-pub arm : {A B : Type 0} (f : A → B) {x k : A} {r e : B} → r ≡ e → x ≡ k → e ≡ f k → r ≡ f x
-arm f p q t = p ∙ t ∙ ap f (sym q)
-
--- an arm that calls nothing
-pub told : {A B : Type 0} (f : A → B) {x k : A} {r : B} → x ≡ k → r ≡ f k → r ≡ f x
-told f q t = t ∙ ap f (sym q)
+pub not-in : (n : ℕ) (ks : List ℕ) → NotIn n ks → isIn n ks ≡ false
+not-in n [] h = refl
+not-in n (k ∷ ks) h = rw (ne-eqb n k (h .1)) (not-in n ks (h .0))
 
 -- the numbers below m
 abbrev pub down : ℕ → List ℕ
@@ -66,7 +63,3 @@ last m n l h = go (ℕ-discrete n m)
     go : Dec (n ≡ m) → n ≡ m
     go (yes e) = e
     go (no d) = absurd (none-below m n (omega arith) h)
-
--- the last arm, where the others are the m numbers before it
-pub final : (f : ℕ → Entry) (m : ℕ) {n : ℕ} {r e : Entry} → r ≡ e → n < suc m → NotIn n (down m) → e ≡ f m → r ≡ f n
-final f m {n} p l h t = arm f p (last m n l h) t

@@ -1,11 +1,11 @@
 -- No second answer fits a public function's contract.
 -- Assumes nothing.
 use mathlib.Core.Path.{refl, sym, _∙_}
-use Rattle.u8oru16.proofs.Determined.{Determines}
+use Rattle.answers.proofs.Determined.{Determines}
 use Rattle.opcodes.proofs
 
-pub lookup : Determines 0 proofs.lookup.Kinds.ps proofs.lookup.Kinds.r proofs.lookup.Reads.Post
+pub lookup : Determines 0 proofs.table.lookup.Kinds.ps proofs.table.lookup.Kinds.r proofs.table.lookup.Reads.Post
 lookup κs a x y ws vs p q = (p ∙ sym q, refl)
 
-pub mnemonic : Determines 0 proofs.mnemonic.Kinds.ps proofs.mnemonic.Kinds.r proofs.mnemonic.Reads.Post
-mnemonic κs a x y ws vs p q = (p ∙ sym q, refl)
+pub pages : Determines 0 proofs.table.pages.Kinds.ps proofs.table.pages.Kinds.r proofs.table.pages.Reads.Post
+pages κs a x y ws vs p q = (p ∙ sym q, refl)

@@ -1,3 +1,3 @@
 pub mod Manual
-pub mod Mnemonics
 pub mod Places
+pub mod Table

@@ -1,29 +1,76 @@
-// Page 11 of the opcode map: the opcodes after a byte 11.
+// Page 11 of the opcode table, the opcodes after a byte 11: the rows of sixteen places that have an instruction, each set at its low digit.
 ghost use mathlib.Core.Path.{_≡_};
 ghost use Rattle.opcodes.specs.Manual.{entryOf};
+ghost use Rattle.opcodes.specs.Table.{rowOf};
 ghost use Rattle.opcodes.specs.declared.Page.the-variants.{Eleven};
-use super::Entry;
-use super::Op;
+use super::MemoryOp;
+use super::Mode;
+use super::Place;
 use super::Software;
-use super::place::compare16;
-use super::place::none;
-use super::place::place;
-use addressing::Mode;
-use registers::Name;
+use super::entries::compare16;
+use super::entries::memory;
+use super::table::at;
+use registers::Word;
 
-pub fn entry_at(code: u8) -> Entry
+// SWI3.
+fn row_3() -> [Place; 16]
+    ensures { λ r. ⌜ r ≡ rowOf Eleven 0x3 ⌝ }
+{
+    let mut row = [Place::None; 16];
+    row[0xF] = memory(MemoryOp::Swi(Software::Swi3), Mode::Inherent, 2, 20);
+    row
+}
+
+// U and S, immediate.
+fn row_8() -> [Place; 16]
+    ensures { λ r. ⌜ r ≡ rowOf Eleven 0x8 ⌝ }
+{
+    let mut row = [Place::None; 16];
+    row[0x3] = compare16(Word::U, Mode::Immediate16, 4, 5);
+    row[0xC] = compare16(Word::S, Mode::Immediate16, 4, 5);
+    row
+}
+
+// U and S, direct.
+fn row_9() -> [Place; 16]
+    ensures { λ r. ⌜ r ≡ rowOf Eleven 0x9 ⌝ }
+{
+    let mut row = [Place::None; 16];
+    row[0x3] = compare16(Word::U, Mode::Direct, 3, 7);
+    row[0xC] = compare16(Word::S, Mode::Direct, 3, 7);
+    row
+}
+
+// U and S, indexed.
+fn row_a() -> [Place; 16]
+    ensures { λ r. ⌜ r ≡ rowOf Eleven 0xA ⌝ }
+{
+    let mut row = [Place::None; 16];
+    row[0x3] = compare16(Word::U, Mode::Indexed, 3, 7);
+    row[0xC] = compare16(Word::S, Mode::Indexed, 3, 7);
+    row
+}
+
+// U and S, extended.
+fn row_b() -> [Place; 16]
+    ensures { λ r. ⌜ r ≡ rowOf Eleven 0xB ⌝ }
+{
+    let mut row = [Place::None; 16];
+    row[0x3] = compare16(Word::U, Mode::Extended, 4, 8);
+    row[0xC] = compare16(Word::S, Mode::Extended, 4, 8);
+    row
+}
+
+// The place of a byte: in the row of its high digit, at its low one.
+pub fn place(code: u8) -> Place
     ensures { λ r. ⌜ r ≡ entryOf Eleven code ⌝ }
 {
-    match code {
-        0x3F => place(Op::Swi(Software::Swi3), Mode::Inherent, 2, 20),
-        0x83 => compare16(Name::U, Mode::Immediate, 4, 5),
-        0x8C => compare16(Name::S, Mode::Immediate, 4, 5),
-        0x93 => compare16(Name::U, Mode::Direct, 3, 7),
-        0x9C => compare16(Name::S, Mode::Direct, 3, 7),
-        0xA3 => compare16(Name::U, Mode::Indexed, 3, 7),
-        0xAC => compare16(Name::S, Mode::Indexed, 3, 7),
-        0xB3 => compare16(Name::U, Mode::Extended, 4, 8),
-        0xBC => compare16(Name::S, Mode::Extended, 4, 8),
-        _ => none(),
+    match code / 16 {
+        0x3 => at(row_3(), code),
+        0x8 => at(row_8(), code),
+        0x9 => at(row_9(), code),
+        0xA => at(row_a(), code),
+        0xB => at(row_b(), code),
+        _ => Place::None,
     }
 }

@@ -1,62 +1,155 @@
-// Page 10 of the opcode map: the opcodes after a byte 10.
+// Page 10 of the opcode table, the opcodes after a byte 10: the rows of sixteen places that have an instruction, each set at its low digit.
 ghost use mathlib.Core.Path.{_≡_};
 ghost use Rattle.opcodes.specs.Manual.{entryOf};
+ghost use Rattle.opcodes.specs.Table.{rowOf};
 ghost use Rattle.opcodes.specs.declared.Page.the-variants.{Ten};
 use super::Cond;
-use super::Entry;
-use super::Op;
+use super::MemoryOp;
+use super::Mode;
+use super::Place;
 use super::Software;
-use super::place::branch;
-use super::place::compare16;
-use super::place::load16;
-use super::place::none;
-use super::place::place;
-use super::place::store16;
-use addressing::Mode;
-use registers::Name;
+use super::entries::branch;
+use super::entries::compare16;
+use super::entries::load16;
+use super::entries::memory;
+use super::entries::store16;
+use super::table::at;
+use registers::Word;
 
-pub fn entry_at(code: u8) -> Entry
+// Long branches.
+fn row_2() -> [Place; 16]
+    ensures { λ r. ⌜ r ≡ rowOf Ten 0x2 ⌝ }
+{
+    [
+        Place::None,
+        branch(Cond::Rn, Mode::Relative16, 4, 5),
+        branch(Cond::Hi, Mode::Relative16, 4, 5),
+        branch(Cond::Ls, Mode::Relative16, 4, 5),
+        branch(Cond::Cc, Mode::Relative16, 4, 5),
+        branch(Cond::Cs, Mode::Relative16, 4, 5),
+        branch(Cond::Ne, Mode::Relative16, 4, 5),
+        branch(Cond::Eq, Mode::Relative16, 4, 5),
+        branch(Cond::Vc, Mode::Relative16, 4, 5),
+        branch(Cond::Vs, Mode::Relative16, 4, 5),
+        branch(Cond::Pl, Mode::Relative16, 4, 5),
+        branch(Cond::Mi, Mode::Relative16, 4, 5),
+        branch(Cond::Ge, Mode::Relative16, 4, 5),
+        branch(Cond::Lt, Mode::Relative16, 4, 5),
+        branch(Cond::Gt, Mode::Relative16, 4, 5),
+        branch(Cond::Le, Mode::Relative16, 4, 5),
+    ]
+}
+
+// SWI2.
+fn row_3() -> [Place; 16]
+    ensures { λ r. ⌜ r ≡ rowOf Ten 0x3 ⌝ }
+{
+    let mut row = [Place::None; 16];
+    row[0xF] = memory(MemoryOp::Swi(Software::Swi2), Mode::Inherent, 2, 20);
+    row
+}
+
+// D and Y, immediate.
+fn row_8() -> [Place; 16]
+    ensures { λ r. ⌜ r ≡ rowOf Ten 0x8 ⌝ }
+{
+    let mut row = [Place::None; 16];
+    row[0x3] = compare16(Word::D, Mode::Immediate16, 4, 5);
+    row[0xC] = compare16(Word::Y, Mode::Immediate16, 4, 5);
+    row[0xE] = load16(Word::Y, Mode::Immediate16, 4, 4);
+    row
+}
+
+// D and Y, direct.
+fn row_9() -> [Place; 16]
+    ensures { λ r. ⌜ r ≡ rowOf Ten 0x9 ⌝ }
+{
+    let mut row = [Place::None; 16];
+    row[0x3] = compare16(Word::D, Mode::Direct, 3, 7);
+    row[0xC] = compare16(Word::Y, Mode::Direct, 3, 7);
+    row[0xE] = load16(Word::Y, Mode::Direct, 3, 6);
+    row[0xF] = store16(Word::Y, Mode::Direct, 3, 6);
+    row
+}
+
+// D and Y, indexed.
+fn row_a() -> [Place; 16]
+    ensures { λ r. ⌜ r ≡ rowOf Ten 0xA ⌝ }
+{
+    let mut row = [Place::None; 16];
+    row[0x3] = compare16(Word::D, Mode::Indexed, 3, 7);
+    row[0xC] = compare16(Word::Y, Mode::Indexed, 3, 7);
+    row[0xE] = load16(Word::Y, Mode::Indexed, 3, 6);
+    row[0xF] = store16(Word::Y, Mode::Indexed, 3, 6);
+    row
+}
+
+// D and Y, extended.
+fn row_b() -> [Place; 16]
+    ensures { λ r. ⌜ r ≡ rowOf Ten 0xB ⌝ }
+{
+    let mut row = [Place::None; 16];
+    row[0x3] = compare16(Word::D, Mode::Extended, 4, 8);
+    row[0xC] = compare16(Word::Y, Mode::Extended, 4, 8);
+    row[0xE] = load16(Word::Y, Mode::Extended, 4, 7);
+    row[0xF] = store16(Word::Y, Mode::Extended, 4, 7);
+    row
+}
+
+// S, immediate.
+fn row_c() -> [Place; 16]
+    ensures { λ r. ⌜ r ≡ rowOf Ten 0xC ⌝ }
+{
+    let mut row = [Place::None; 16];
+    row[0xE] = load16(Word::S, Mode::Immediate16, 4, 4);
+    row
+}
+
+// S, direct.
+fn row_d() -> [Place; 16]
+    ensures { λ r. ⌜ r ≡ rowOf Ten 0xD ⌝ }
+{
+    let mut row = [Place::None; 16];
+    row[0xE] = load16(Word::S, Mode::Direct, 3, 6);
+    row[0xF] = store16(Word::S, Mode::Direct, 3, 6);
+    row
+}
+
+// S, indexed.
+fn row_e() -> [Place; 16]
+    ensures { λ r. ⌜ r ≡ rowOf Ten 0xE ⌝ }
+{
+    let mut row = [Place::None; 16];
+    row[0xE] = load16(Word::S, Mode::Indexed, 3, 6);
+    row[0xF] = store16(Word::S, Mode::Indexed, 3, 6);
+    row
+}
+
+// S, extended.
+fn row_f() -> [Place; 16]
+    ensures { λ r. ⌜ r ≡ rowOf Ten 0xF ⌝ }
+{
+    let mut row = [Place::None; 16];
+    row[0xE] = load16(Word::S, Mode::Extended, 4, 7);
+    row[0xF] = store16(Word::S, Mode::Extended, 4, 7);
+    row
+}
+
+// The place of a byte: in the row of its high digit, at its low one.
+pub fn place(code: u8) -> Place
     ensures { λ r. ⌜ r ≡ entryOf Ten code ⌝ }
 {
-    match code {
-        0x21 => branch(Cond::Rn, 4, 5),
-        0x22 => branch(Cond::Hi, 4, 5),
-        0x23 => branch(Cond::Ls, 4, 5),
-        0x24 => branch(Cond::Cc, 4, 5),
-        0x25 => branch(Cond::Cs, 4, 5),
-        0x26 => branch(Cond::Ne, 4, 5),
-        0x27 => branch(Cond::Eq, 4, 5),
-        0x28 => branch(Cond::Vc, 4, 5),
-        0x29 => branch(Cond::Vs, 4, 5),
-        0x2A => branch(Cond::Pl, 4, 5),
-        0x2B => branch(Cond::Mi, 4, 5),
-        0x2C => branch(Cond::Ge, 4, 5),
-        0x2D => branch(Cond::Lt, 4, 5),
-        0x2E => branch(Cond::Gt, 4, 5),
-        0x2F => branch(Cond::Le, 4, 5),
-        0x3F => place(Op::Swi(Software::Swi2), Mode::Inherent, 2, 20),
-        0x83 => compare16(Name::D, Mode::Immediate, 4, 5),
-        0x8C => compare16(Name::Y, Mode::Immediate, 4, 5),
-        0x8E => load16(Name::Y, Mode::Immediate, 4, 4),
-        0x93 => compare16(Name::D, Mode::Direct, 3, 7),
-        0x9C => compare16(Name::Y, Mode::Direct, 3, 7),
-        0x9E => load16(Name::Y, Mode::Direct, 3, 6),
-        0x9F => store16(Name::Y, Mode::Direct, 3, 6),
-        0xA3 => compare16(Name::D, Mode::Indexed, 3, 7),
-        0xAC => compare16(Name::Y, Mode::Indexed, 3, 7),
-        0xAE => load16(Name::Y, Mode::Indexed, 3, 6),
-        0xAF => store16(Name::Y, Mode::Indexed, 3, 6),
-        0xB3 => compare16(Name::D, Mode::Extended, 4, 8),
-        0xBC => compare16(Name::Y, Mode::Extended, 4, 8),
-        0xBE => load16(Name::Y, Mode::Extended, 4, 7),
-        0xBF => store16(Name::Y, Mode::Extended, 4, 7),
-        0xCE => load16(Name::S, Mode::Immediate, 4, 4),
-        0xDE => load16(Name::S, Mode::Direct, 3, 6),
-        0xDF => store16(Name::S, Mode::Direct, 3, 6),
-        0xEE => load16(Name::S, Mode::Indexed, 3, 6),
-        0xEF => store16(Name::S, Mode::Indexed, 3, 6),
-        0xFE => load16(Name::S, Mode::Extended, 4, 7),
-        0xFF => store16(Name::S, Mode::Extended, 4, 7),
-        _ => none(),
+    match code / 16 {
+        0x2 => at(row_2(), code),
+        0x3 => at(row_3(), code),
+        0x8 => at(row_8(), code),
+        0x9 => at(row_9(), code),
+        0xA => at(row_a(), code),
+        0xB => at(row_b(), code),
+        0xC => at(row_c(), code),
+        0xD => at(row_d(), code),
+        0xE => at(row_e(), code),
+        0xF => at(row_f(), code),
+        _ => Place::None,
     }
 }

@@ -1,4 +1,3 @@
-pub mod Text
 pub mod Playing
 pub mod Booting
 pub mod Recorded

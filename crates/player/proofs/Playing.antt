@@ -7,31 +7,32 @@ use native.Mathlib.Omega.{arith}
 use native.Mathlib.Numerals.{add-one}
 use lib.ListN.{length, getD, take, length-append}
 use lib.Seq.{sets, take-suc, take-all, length-take-le}
-use Rattle.memory.specs.Answers.{numberOf, numberOfAnswer}
-use Rattle.memory.specs.declared.Answer.{Answer}
-use Rattle.memory.specs.declared.Answer.the-variants.{Done, Refused}
-use Rattle.memory.specs.declared.Refusal.{Refusal}
-use Rattle.memory.specs.declared.Refusal.the-variants.{MemoryLength, Waiting, Opcode, PastEnd, PostByte, WordAtTop, TransferCode, StackTooSmall, ZeroAtVector, JournalFull, NoRecord, JournalLength}
-use Rattle.step.specs.declared.Machine.{Machine}
-use Rattle.step.specs.declared.Settings.{Settings}
+use Rattle.answers.specs.Numbers.{numberOf, numberOfAnswer}
+use Rattle.answers.specs.declared.Answer.{Answer}
+use Rattle.answers.specs.declared.Answer.the-variants.{Done, Refused}
+use Rattle.answers.specs.declared.Refusal.{Refusal}
+use Rattle.answers.specs.declared.Refusal.the-variants.{MemoryLength, Waiting, Opcode, PastEnd, PostByte, WordAtTop, TransferCode, StackTooSmall, ZeroAtVector, JournalFull, NoRecord, JournalLength, DivisionByZero, LeftByte, NoRoom, Malformed, OutputShort, LineShape, Checksum, PastTop, NoEnd}
+use Rattle.text.proofs.Stores.{sets-append}
+use Rattle.text.proofs.Texts.{line-fits}
+use Rattle.machine.specs.declared.Machine.{Machine}
+use Rattle.machine.specs.declared.Settings.{Settings}
 use Rattle.journal.specs.declared.Outcome.{Outcome}
-use Rattle.journal.specs.Calls.{State, inHand, Leaves}
-use Rattle.runfile.specs.Format.{Parsed, says, malformed, parsed, operationAt}
-use Rattle.runfile.specs.Answers.{loaded, nextOf}
+use Rattle.journal.specs.Recorded.{State, inHand, Leaves}
+use Rattle.runfile.specs.Format.{Parsed, says, malformed, parsed, operationAt, loaded, nextOf}
 use Rattle.runfile.specs.declared.Operation.{Operation}
 use Rattle.runfile.specs.declared.Operation.the-variants.{Step}
 use Rattle.runfile.specs.declared.Next.the-variants.{Is}
 use Rattle.runfile.specs.declared.Start.{Start}
-use Rattle.runfile.specs.declared.Loaded.the-variants.{Ready, Malformed}
+use Rattle.runfile.specs.declared.Loaded.the-variants.{Ready, Refused as NotLoaded}
 use Rattle.runfile.proofs.Operations.{in-order, they-fit, not-longer}
-use Rattle.player.specs.Play.{acted, lineOf, lineFor, lines, after, played}
-use Rattle.player.proofs.Text.{sets-append, at-most-32}
+use Rattle.player.specs.Plays.{acted, lineOf, refusalLine, lineFor, lines, played}
 
-below-100 : (a : Answer) → numberOfAnswer a < 100
-below-100 Done = omega arith
-below-100 (Refused x) = go x
+-- an answer's number is a byte
+number-fits : (a : Answer) → numberOfAnswer a < 256
+number-fits Done = omega arith
+number-fits (Refused x) = go x
   where
-    go : (x : Refusal) → numberOf x < 100
+    go : (x : Refusal) → numberOf x < 256
     go MemoryLength = omega arith
     go Waiting = omega arith
     go Opcode = omega arith
@@ -44,9 +45,23 @@ below-100 (Refused x) = go x
     go JournalFull = omega arith
     go NoRecord = omega arith
     go JournalLength = omega arith
+    go DivisionByZero = omega arith
+    go LeftByte = omega arith
+    go NoRoom = omega arith
+    go Malformed = omega arith
+    go OutputShort = omega arith
+    go LineShape = omega arith
+    go Checksum = omega arith
+    go PastTop = omega arith
+    go NoEnd = omega arith
 
-pub line-bound : (a : Answer) (m : Machine) → length (lineOf a m) ≤ 32
-line-bound a m = at-most-32 (numberOfAnswer a) (m .regs .pc) (m .regs .cc .reg) (m .cycles) (below-100 a)
+pub line-bound : (a : Answer) (m : Machine) → length (lineOf a m) ≤ 33
+line-bound a m = line-fits (numberOfAnswer a) (m .regs .pc) (m .regs .cc .reg) (m .cycles) (number-fits a)
+
+-- what is in hand after some operations
+unfoldable pub after : Settings → List Operation → State → State
+after t [] s = s
+after t (o ∷ os) s = after t os (acted t o s .state)
 
 module _ (t : Settings) where
   lines-more : (os : List Operation) (o : Operation) (s : State) → lines t (os ++ (o ∷ [])) s ≡ lines t os s ++ lineFor (acted t o (after t os s))
@@ -61,7 +76,7 @@ module _ (t : Settings) where
   after-more [] o s = refl
   after-more (p ∷ os) o s = after-more os o (acted t p s .state)
 
-  pub lines-bound : (os : List Operation) (s : State) → length (lines t os s) ≤ 32 * length os
+  pub lines-bound : (os : List Operation) (s : State) → length (lines t os s) ≤ 33 * length os
   unfolding lines
   lines-bound [] s = omega arith
   lines-bound (o ∷ os) s = simp length-append (omega (arith, line-bound (acted t o s .answer) (acted t o s .state .twin .machine), lines-bound os (acted t o s .state)))
@@ -79,16 +94,16 @@ module _ (t : Settings) (os : List Operation) (s₀ : State) (out₀ : List ℕ)
 
   pub turn : (i used : ℕ) (out : List ℕ) (s : State) → Sofar t os s₀ out₀ i used out s → i < length os
       → {o : Operation} → o ≡ getD os i Step → {r : Outcome} {mem journal : List ℕ} → Leaves r mem journal (acted t o s)
-      → {used′ : ℕ} {out′ : List ℕ} → used′ ≡ used + length (lineOf (r .answer) (r .twin .machine)) → out′ ≡ sets out used (lineOf (r .answer) (r .twin .machine))
-      → Sofar t os s₀ out₀ (i + 1) used′ out′ (inHand mem journal (r .twin))
-  turn i used out s h k {o} eo {r} {mem} {journal} l {used′} {out′} eu et =
+      → {size : ℕ} {out′ : List ℕ} → size ≡ length (lineOf (r .answer) (r .twin .machine)) → out′ ≡ sets out used (lineOf (r .answer) (r .twin .machine))
+      → Sofar t os s₀ out₀ (i + 1) (used + size) out′ (inHand mem journal (r .twin))
+  turn i used out s h k {o} eo {r} {mem} {journal} l {size} {out′} eu et =
       let f : take (i + 1) os ≡ take i os ++ (o ∷ []) = rw (add-one, eo) (take-suc os i Step k) in
       let y = lines-more t (take i os) o s₀ in
       let x = lineOf (r .answer) (r .twin .machine) in
       let e : x ≡ lineFor (acted t o (after t (take i os) s₀)) = ap (λ (q : Outcome). lineOf (q .answer) (q .twin .machine)) (l .result) ∙ rw (h .state) in
       let z : used ≡ 0 + length (lines t (take i os) s₀) = omega (arith, h .count) in
       record {
-        count = eu ∙ rw (f, y, ← e, h .count) (sym (length-append (lines t (take i os) s₀) x));
+        count = rw (eu, f, y, ← e, h .count) (sym (length-append (lines t (take i os) s₀) x));
         text = et ∙ rw (f, y, ← e, h .text, z) (sym (sets-append out₀ (lines t (take i os) s₀) x 0));
         state = rw (f, after-more t (take i os) o s₀, ← h .state, l .memory-is, l .journal-is, l .result) refl;
       }
@@ -99,21 +114,18 @@ abbrev pub operationsIn : Parsed → List Operation
 operationsIn (says f) = f .operations
 operationsIn malformed = []
 
-abbrev pub settingsOf : Start → Settings
-settingsOf from = record { «ram_top» = from .«ram_top»; flags = from .flags }
-
 pub record Sound (file : List ℕ) (from : Start) (p : Parsed) : Type 0 where
   pub starts : from .operations + length (operationsIn p) ≡ length file
   pub short : length file ≤ 32768
   pub each : (i : ℕ) → i < length (operationsIn p) → nextOf (operationAt file (from .operations + i)) ≡ Is (getD (operationsIn p) i Step)
-  pub plays : (s : State) → played p s ≡ lines (settingsOf from) (operationsIn p) s
+  pub plays : (s : State) → played p s ≡ lines (from .settings) (operationsIn p) s
 
 pub sound : (file : List ℕ) (from : Start) → Ready from ≡ loaded (length file) (parsed file) → Sound file from (parsed file)
 sound file from h = go (parsed file) refl h
   where
     go : (p : Parsed) → parsed file ≡ p → Ready from ≡ loaded (length file) p → Sound file from p
     go (says f) e h =
-        let x : from ≡ record { operations = length file - length (f .operations); «ram_top» = f .settings .ramTop; flags = f .settings .flags } = cc in
+        let x : from ≡ record { operations = length file - length (f .operations); settings = f .settings } = cc in
         rw x
         (record {
           starts = omega (arith, they-fit file f e);
@@ -126,20 +138,20 @@ sound file from h = go (parsed file) refl h
 -- ---- the end
 
 module _ {file : List ℕ} {from : Start} {p : Parsed} (so : Sound file from p) (s₀ : State) (out₀ : List ℕ) where
-  pub finished : (at used : ℕ) (out : List ℕ) (s : State) → Sofar (settingsOf from) (operationsIn p) s₀ out₀ (at - from .operations) used out s
+  pub finished : (at used : ℕ) (out : List ℕ) (s : State) → Sofar (from .settings) (operationsIn p) s₀ out₀ (at - from .operations) used out s
       → length file ≤ at → (used ≡ length (played p s₀)) × (out ≡ sets out₀ 0 (played p s₀))
   finished at used out s h k =
       let e = take-all (at - from .operations) (operationsIn p) (omega (arith, so .starts)) in
       rw (so .plays s₀) (h .count ∙ rw e, h .text ∙ rw e)
 
-  pub fits : (at used : ℕ) (out : List ℕ) (s : State) → Sofar (settingsOf from) (operationsIn p) s₀ out₀ (at - from .operations) used out s → at ≤ length file → used ≤ 0x200000
+  pub fits : (at used : ℕ) (out : List ℕ) (s : State) → Sofar (from .settings) (operationsIn p) s₀ out₀ (at - from .operations) used out s → at ≤ length file → used ≤ 33 * 32768
   fits at used out s h k =
-      let b = lines-bound (settingsOf from) (take (at - from .operations) (operationsIn p)) s₀ in
+      let b = lines-bound (from .settings) (take (at - from .operations) (operationsIn p)) s₀ in
       let l = length-take-le (at - from .operations) (operationsIn p) (omega (arith, so .starts)) in
       omega (arith, h .count, so .short)
 
--- ---- a malformed file
+-- ---- a refused file
 
-pub no-file : (size : ℕ) (p : Parsed) → loaded size p ≡ Malformed → p ≡ malformed
-no-file size (says f) e = cc
-no-file size malformed e = refl
+pub refused-file : (size : ℕ) (p : Parsed) (s : State) {x : Refusal} → loaded size p ≡ NotLoaded x → played p s ≡ refusalLine x
+refused-file size (says f) s e = cc
+refused-file size malformed s {x} e = let d : Malformed ≡ x = cc in rw (← d)

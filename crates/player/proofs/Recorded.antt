@@ -6,61 +6,69 @@ use mathlib.Core.List.{List, _++_}
 use native.Mathlib.Omega.{arith}
 use borrow.Author.Tests.{eq-eqb, le-leb}
 use lib.ListN.{length, replicate, length-replicate}
+use Rattle.answers.specs.declared.Answer.{Answer}
+use Rattle.answers.specs.declared.Answer.the-variants.{Done, Refused}
 use Rattle.memory.specs.Writes.{listed}
-use Rattle.memory.specs.declared.Answer.{Answer}
-use Rattle.memory.specs.declared.Answer.the-variants.{Done, Refused}
-use Rattle.memory.specs.declared.Refusal.{Refusal}
 use Rattle.memory.proofs.Folds.{length-stored}
-use Rattle.evaluate.specs.declared.Wait.{Wait}
-use Rattle.evaluate.specs.declared.Wait.the-variants.{Running, Cwai, Sync}
-use Rattle.step.specs.Step.{foundOf, memoryWith}
-use Rattle.step.specs.declared.Found.{Found}
-use Rattle.step.specs.declared.Machine.{Machine}
-use Rattle.step.specs.declared.Settings.{Settings}
-use Rattle.step.proofs.Laws.{refused-step, twelve-writes}
-use Rattle.interrupts.specs.Interrupts.{resetFound}
-use Rattle.interrupts.proofs.Laws.{refused-reset, reset-twelve}
-use Rattle.journal.specs.Record.{encode}
-use Rattle.journal.specs.Calls.{State, Ended, inHand, unless, admitted, callAnswer, savedFor, recorded, concluded, called, whileWaiting, stepped, wasReset}
+use Rattle.machine.specs.declared.Machine.{Machine}
+use Rattle.machine.specs.declared.Settings.{Settings}
+use Rattle.machine.specs.declared.Wait.{Wait}
+use Rattle.machine.specs.declared.Wait.the-variants.{Running, Cwai, Sync}
+use Rattle.calls.specs.Calls.{Call, step, reset, planOf, settingsIn}
+use Rattle.calls.specs.Plans.{memoryWith}
+use Rattle.calls.specs.Steps.{stepPlan}
+use Rattle.calls.specs.declared.Plan.{Plan}
+use Rattle.calls.proofs.Accepted.{waits-refused}
+use Rattle.calls.proofs.Laws.{refused-call, few-writes}
+use Rattle.journal.specs.Record.{encode, recordLength}
+use Rattle.journal.specs.Recorded.{State, Ended, freshTwin, inHand, unless, admitted, callAnswer, savedFor, recorded, concluded, called, whileWaiting, stepped, wasReset}
 use Rattle.journal.proofs.Laying.{saved-few}
 use Rattle.journal.proofs.Reading.{length-encode}
 use Rattle.journal.proofs.Chain.{length-withRecord}
 use Rattle.runfile.specs.declared.Operation.the-variants.{Step}
-use Rattle.player.specs.Play.{start, zeros, lineOf, lineFor, lines}
-use Rattle.player.specs.Boot.{stepLines, runLines, AsRecorded}
+use Rattle.player.specs.Plays.{zeros, journalLength, lineOf, lineFor, lines}
+use Rattle.player.specs.Boots.{stepLines, runLines, AsRecorded}
 
 -- ---- one call
 
--- a recorded call that ended so shows what was found, and leaves room for k records more
-record Shows (top : ℕ) (f : Found) (s : State) (k : ℕ) (e : Ended) : Type 0 where
-  line : lineFor e ≡ lineOf (f .answer) (f .machine)
-  machine : e .state .twin .machine ≡ f .machine
-  memory : e .state .memory ≡ memoryWith top f (s .memory)
-  room : (e .state .twin .used + k) * 68 ≤ length (e .state .journal)
+abbrev planIn : Call → State → Plan
+planIn c s = planOf c (s .memory) (s .twin .machine)
+
+-- a recorded call that ended so shows what the call's plan says, and leaves room for k records more
+record Shows (c : Call) (s : State) (k : ℕ) (e : Ended) : Type 0 where
+  line : lineFor e ≡ lineOf (planIn c s .answer) (planIn c s .machine)
+  machine : e .state .twin .machine ≡ planIn c s .machine
+  memory : e .state .memory ≡ memoryWith (settingsIn c) (planIn c s) (s .memory)
+  room : (e .state .twin .used + k) * recordLength ≤ length (e .state .journal)
 
 unless-twice : (a b : Answer) → unless (unless a Done) b ≡ unless a b
 unless-twice Done b = refl
 unless-twice (Refused x) b = refl
 
-module _ (early : Answer) (top : ℕ) (f : Found) (s : State) (k : ℕ) (size : length (s .memory) ≡ 65536)
-    (space : (s .twin .used + suc k) * 68 ≤ length (s .journal)) (few : length (listed (f .writes)) ≤ 12)
-    (on-time : unless early (f .answer) ≡ f .answer)
-    (stays : (x : Refusal) → f .answer ≡ Refused x → (f .machine ≡ s .twin .machine) × (memoryWith top f (s .memory) ≡ s .memory)) where
+module _ (early : Answer) (c : Call) (s : State) (k : ℕ) (size : length (s .memory) ≡ 65536)
+    (space : (s .twin .used + suc k) * recordLength ≤ length (s .journal))
+    (on-time : unless early (planIn c s .answer) ≡ planIn c s .answer) where
+  abbrev plan : Plan
+  plan = planIn c s
+
+  abbrev top : ℕ
+  top = settingsIn c .«ram_top»
+
   admitted-early : admitted (length (s .memory)) (length (s .journal)) (s .twin .used) early ≡ unless early Done
   unfolding admitted
   admitted-early =
-      let a : s .twin .used * 68 ≤ length (s .journal) = omega arith in
-      let b : s .twin .used * 68 + 68 ≤ length (s .journal) = omega arith in
-      rw (eq-eqb (length (s .memory)) 65536 size, le-leb (s .twin .used * 68) (length (s .journal)) a, le-leb (s .twin .used * 68 + 68) (length (s .journal)) b)
+      let a : s .twin .used * recordLength ≤ length (s .journal) = omega arith in
+      let b : s .twin .used * recordLength + recordLength ≤ length (s .journal) = omega arith in
+      rw (eq-eqb (length (s .memory)) 65536 size, le-leb (s .twin .used * recordLength) (length (s .journal)) a, le-leb (s .twin .used * recordLength + recordLength) (length (s .journal)) b)
 
-  answer-is : callAnswer early f s ≡ f .answer
-  answer-is = rw admitted-early (unless-twice early (f .answer) ∙ on-time)
+  answer-is : callAnswer early plan s ≡ plan .answer
+  answer-is = rw admitted-early (unless-twice early (plan .answer) ∙ on-time)
 
-  by-answer : (a : Answer) → f .answer ≡ a → Shows top f s k (concluded a top f s)
+  by-answer : (a : Answer) → plan .answer ≡ a → Shows c s k (concluded a (settingsIn c) plan s)
   unfolding recorded
   by-answer Done e =
-      let saved = savedFor top (listed (f .writes)) (s .memory) in
-      let twelve : length saved ≤ 12 = omega (arith, saved-few top (listed (f .writes)) (s .memory)) in
+      let saved = savedFor top (listed (plan .writes)) (s .memory) in
+      let twelve : length saved ≤ 12 = omega (arith, few-writes c (s .memory) (s .twin .machine), saved-few top (listed (plan .writes)) (s .memory)) in
       let whole = length-encode (s .twin .machine) saved twelve in
       record {
         line = rw e;
@@ -69,41 +77,44 @@ module _ (early : Answer) (top : ℕ) (f : Found) (s : State) (k : ℕ) (size : 
         room = rw (length-withRecord (s .twin .used) (encode (s .twin .machine) saved) (s .journal) whole (omega arith)) (omega arith);
       }
   by-answer (Refused x) e =
-      let r = stays x e in
-      record { line = rw (e, r .0); machine = sym (r .0); memory = sym (r .1); room = omega arith }
+      let r = refused-call c (s .memory) (s .twin .machine) x e in
+      record { line = rw (e, r .machine); machine = sym (r .machine); memory = sym (r .memory); room = omega arith }
 
-  shows : Shows top f s k (called early top f s)
+  shows : Shows c s k (called early (settingsIn c) plan s)
   unfolding called
-  shows = rw answer-is (by-answer (f .answer) refl)
+  shows = rw answer-is (by-answer (plan .answer) refl)
 
 -- ---- the lines of a call and of the steps after it
 
+-- memory keeps its length
+still-whole : {c : Call} {s : State} {k : ℕ} {e : Ended} → Shows c s k e → length (s .memory) ≡ 65536 → length (e .state .memory) ≡ 65536
+still-whole {c} {s} h size =
+    ap length (h .memory) ∙ length-stored (settingsIn c .«ram_top») (listed (planIn c s .writes)) (s .memory) ∙ size
+
 module _ (t : Settings) where
-  following : {top : ℕ} {f : Found} {s : State} {k : ℕ} {e : Ended} → Shows top f s k e
+  following : {c : Call} {s : State} {k : ℕ} {e : Ended} → Shows c s k e
       → stepLines t k (e .state .memory) (e .state .twin .machine) ≡ lines t (replicate k Step) (e .state)
-      → lineOf (f .answer) (f .machine) ++ stepLines t k (memoryWith top f (s .memory)) (f .machine) ≡ lineFor e ++ lines t (replicate k Step) (e .state)
+      → lineOf (planIn c s .answer) (planIn c s .machine)
+      ++ stepLines t k (memoryWith (settingsIn c) (planIn c s) (s .memory)) (planIn c s .machine)
+      ≡ lineFor e ++ lines t (replicate k Step) (e .state)
   following h rest = rw (h .line, ← h .memory, ← h .machine, rest)
 
   -- 2 is given while waiting, recorded or not
-  on-time : (mem : List ℕ) (m : Machine) → length mem ≡ 65536 → unless (whileWaiting (m .wait)) (foundOf mem m t .answer) ≡ foundOf mem m t .answer
-  unfolding foundOf
+  on-time : (mem : List ℕ) (m : Machine) → length mem ≡ 65536 → unless (whileWaiting (m .wait)) (stepPlan mem m t .answer) ≡ stepPlan mem m t .answer
   on-time mem m size = go (m .wait) refl
     where
-      go : (w : Wait) → m .wait ≡ w → unless (whileWaiting w) (foundOf mem m t .answer) ≡ foundOf mem m t .answer
+      go : (w : Wait) → m .wait ≡ w → unless (whileWaiting w) (stepPlan mem m t .answer) ≡ stepPlan mem m t .answer
       go Running e = refl
-      go Cwai e = rw (eq-eqb (length mem) 65536 size, e)
-      go Sync e = rw (eq-eqb (length mem) 65536 size, e)
+      go Cwai e = sym (ap (λ (p : Plan). p .answer) (waits-refused mem m t size (λ r. let z : _≡_ {A = ℕ} 0 1 = cc in omega arith)))
+      go Sync e = sym (ap (λ (p : Plan). p .answer) (waits-refused mem m t size (λ r. let z : _≡_ {A = ℕ} 0 1 = cc in omega arith)))
 
-  steps-recorded : (k : ℕ) (s : State) → length (s .memory) ≡ 65536 → (s .twin .used + k) * 68 ≤ length (s .journal)
+  steps-recorded : (k : ℕ) (s : State) → length (s .memory) ≡ 65536 → (s .twin .used + k) * recordLength ≤ length (s .journal)
       → stepLines t k (s .memory) (s .twin .machine) ≡ lines t (replicate k Step) s
   unfolding stepLines lines
   steps-recorded zero s size space = refl
   steps-recorded (suc k) s size space =
-      let mem = s .memory in
-      let m = s .twin .machine in
-      let h = shows (whileWaiting (m .wait)) (t .«ram_top») (foundOf mem m t) s k size space (twelve-writes mem m t) (on-time mem m size)
-      (λ x e. let q = refused-step mem m t x e in (q .0, q .1)) in
-      following h (steps-recorded k (stepped t s .state) (ap length (h .memory) ∙ length-stored (t .«ram_top») (listed (foundOf mem m t .writes)) mem ∙ size) (h .room))
+      let h = shows (whileWaiting (s .twin .machine .wait)) (step t) s k size space (on-time (s .memory) (s .twin .machine) size) in
+      following h (steps-recorded k (stepped t s .state) (still-whole h size) (h .room))
 
 length-zeros : (n : ℕ) → length (zeros n) ≡ n
 unfolding zeros
@@ -112,8 +123,7 @@ length-zeros n = length-replicate n 0
 pub as-recorded : AsRecorded
 unfolding runLines lines
 as-recorded t n mem size few =
-    let s = inHand mem (zeros 65280) start in
-    let m = start .machine in
-    let space : (0 + suc n) * 68 ≤ length (zeros 65280) = rw (length-zeros 65280) (omega arith) in
-    let h = shows Done (t .«ram_top») (resetFound mem m) s n size space (reset-twelve mem m) refl (λ x e. let q = refused-reset mem m t x e in (q .0, q .1)) in
-    following t h (steps-recorded t n (wasReset t s .state) (ap length (h .memory) ∙ length-stored (t .«ram_top») (listed (resetFound mem m .writes)) mem ∙ size) (h .room))
+    let s = inHand mem (zeros journalLength) freshTwin in
+    let space : (0 + suc n) * recordLength ≤ length (zeros journalLength) = rw (length-zeros journalLength) (omega arith) in
+    let h = shows Done (reset t) s n size space refl in
+    following t h (steps-recorded t n (wasReset t s .state) (still-whole h size) (h .room))

@@ -3,11 +3,12 @@
 use mathlib.Core.Path.{sym, ap, _∙_}
 use mathlib.Core.List.{List}
 use Prim.Native.Nat.{ℕ}
-use Rattle.u8oru16.proofs.Determined.{Determines}
-use Rattle.player.proofs
+use Rattle.answers.proofs.Determined.{Determines}
+use Rattle.player.proofs.boots
+use Rattle.player.proofs.plays
 
-pub plays : Determines 2 proofs.play.Kinds.ps proofs.play.Kinds.r proofs.play.Reads.Post
-plays κs a x y ws vs p q = (p .0 ∙ sym (q .0), ap (λ (l : List ℕ). (tt, (l, tt))) (p .1 ∙ sym (q .1)))
+pub play : Determines 2 plays.play.Kinds.ps plays.play.Kinds.r plays.play.Reads.Post
+play κs a x y ws vs p q = (p .0 ∙ sym (q .0), ap (λ (l : List ℕ). (tt, (l, tt))) (p .1 ∙ sym (q .1)))
 
-pub boots : Determines 2 proofs.boot.Kinds.ps proofs.boot.Kinds.r proofs.boot.Reads.Post
-boots κs a x y ws vs p q = (p .0 ∙ sym (q .0), ap (λ (l : List ℕ). (tt, (l, tt))) (p .1 ∙ sym (q .1)))
+pub boot : Determines 2 boots.boot.Kinds.ps boots.boot.Kinds.r boots.boot.Reads.Post
+boot κs a x y ws vs p q = (p .0 ∙ sym (q .0), ap (λ (l : List ℕ). (tt, (l, tt))) (p .1 ∙ sym (q .1)))

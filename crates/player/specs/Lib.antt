@@ -1,3 +1,2 @@
-pub mod Line
-pub mod Play
-pub mod Boot
+pub mod Plays
+pub mod Boots

@@ -1,10 +1,13 @@
 -- No second answer fits a public function's contract.
 -- Assumes nothing.
 use mathlib.Core.Path.{refl, sym, _∙_}
-use Rattle.u8oru16.proofs.Determined.{Determines}
+use Rattle.answers.proofs.Determined.{Determines}
 use Rattle.registers.proofs.CCBit
 use Rattle.registers.proofs.CCBits
 use Rattle.registers.proofs.Name
+use Rattle.registers.proofs.Word
+use Rattle.registers.proofs.Index
+use Rattle.registers.proofs.Stack
 use Rattle.registers.proofs.Set
 use Rattle.registers.proofs
 
@@ -106,3 +109,21 @@ get-register κs a x y ws vs p q = (p ∙ sym q, refl)
 
 pub set-reset : Determines 0 Set.reset.Kinds.ps Set.reset.Kinds.r Set.reset.Reads.Post
 set-reset κs a x y ws vs p q = (p ∙ sym q, refl)
+
+pub word-name : Determines 0 Word.name.Kinds.ps Word.name.Kinds.r Word.name.Reads.Post
+word-name κs a x y ws vs p q = (p ∙ sym q, refl)
+
+pub index-word : Determines 0 Index.word.Kinds.ps Index.word.Kinds.r Index.word.Reads.Post
+index-word κs a x y ws vs p q = (p ∙ sym q, refl)
+
+pub stack-word : Determines 0 Stack.word.Kinds.ps Stack.word.Kinds.r Stack.word.Reads.Post
+stack-word κs a x y ws vs p q = (p ∙ sym q, refl)
+
+pub other : Determines 0 Stack.other.Kinds.ps Stack.other.Kinds.r Stack.other.Reads.Post
+other κs a x y ws vs p q = (p ∙ sym q, refl)
+
+pub word : Determines 0 Set.word.Kinds.ps Set.word.Kinds.r Set.word.Reads.Post
+word κs a x y ws vs p q = (p ∙ sym q, refl)
+
+pub with-word : Determines 0 Set.with_word.Kinds.ps Set.with_word.Kinds.r Set.with_word.Reads.Post
+with-word κs a x y ws vs p q = (p ∙ sym q, refl)

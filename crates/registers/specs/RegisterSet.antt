@@ -11,6 +11,12 @@ use Rattle.registers.specs.ConditionCodes.{ascii, padded}
 use Rattle.registers.specs.declared.Letters.{Letters}
 use Rattle.registers.specs.declared.Name.{Name}
 use Rattle.registers.specs.declared.Name.the-variants.{A, B, D, X, Y, U, S, PC, DP, CC}
+use Rattle.registers.specs.declared.Word.{Word}
+use Rattle.registers.specs.declared.Word.the-variants.{D as wordD, X as wordX, Y as wordY, U as wordU, S as wordS}
+use Rattle.registers.specs.declared.Index.{Index}
+use Rattle.registers.specs.declared.Index.the-variants.{X as indexX, Y as indexY, U as indexU, S as indexS}
+use Rattle.registers.specs.declared.Stack.{Stack}
+use Rattle.registers.specs.declared.Stack.the-variants.{S as stackS, U as stackU}
 use Rattle.registers.specs.declared.Set.{Set}
 
 abbrev pub sizeOf : Name → ℕ
@@ -42,6 +48,30 @@ textOf S = letters "S"
 textOf PC = letters "PC"
 textOf DP = letters "DP"
 textOf CC = letters "CC"
+
+-- the registers of 16 bits that LD, ST and CMP name, as registers
+abbrev pub wordName : Word → Name
+wordName wordD = D
+wordName wordX = X
+wordName wordY = Y
+wordName wordU = U
+wordName wordS = S
+
+-- the index registers, which a post-byte and LEA name
+abbrev pub indexWord : Index → Word
+indexWord indexX = wordX
+indexWord indexY = wordY
+indexWord indexU = wordU
+indexWord indexS = wordS
+
+-- the stack pointers, and the one that is not in use, which its pushes and pulls may name
+abbrev pub stackWord : Stack → Word
+stackWord stackS = wordS
+stackWord stackU = wordU
+
+abbrev pub otherStack : Stack → Stack
+otherStack stackS = stackU
+otherStack stackU = stackS
 
 -- IRQ and FIRQ masked, all else 0
 abbrev pub afterReset : Set
@@ -86,3 +116,10 @@ inSize S v = u16 (valueOf v)
 inSize PC v = u16 (valueOf v)
 inSize DP v = u8 (lowByte v)
 inSize CC v = u8 (lowByte v)
+
+-- a register of 16 bits, read and written
+abbrev pub wordOf : Set → Word → ℕ
+wordOf r w = valueOf (read r (wordName w))
+
+abbrev pub withWord : Set → Word → ℕ → Set
+withWord r w n = written r (wordName w) (u16 n)

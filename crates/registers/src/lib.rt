@@ -8,7 +8,7 @@ ghost use Rattle.registers.specs.ConditionCodes.{place, infoWith, infoOf
 ghost use Rattle.registers.specs.Page.{ADDD, SUB, SUBD, DEC, INC, AND, AND16, OR, EOR, COM, NEG, ASL, ROL, ROR, MUL, out8, out16, codes, adding, subtracting, shifting, carryIn, negativeAndZero};
 ghost use Rattle.registers.specs.Manual.{logical, manual};
 ghost use Rattle.registers.specs.Settings.{by, addV, subV, decV, incV};
-ghost use Rattle.registers.specs.RegisterSet.{sizeOf, lettersWith, textOf, afterReset, written, read};
+ghost use Rattle.registers.specs.RegisterSet.{sizeOf, lettersWith, textOf, wordName, indexWord, stackWord, otherStack, afterReset, written, read, wordOf, withWord};
 use u8oru16::OptionU8;
 use u8oru16::u8u16;
 
@@ -502,6 +502,29 @@ pub enum Name {
     CC,
 }
 
+// The registers of 16 bits that LD, ST and CMP name.
+pub enum Word {
+    D,
+    X,
+    Y,
+    U,
+    S,
+}
+
+// The index registers, which a post-byte and LEA name.
+pub enum Index {
+    X,
+    Y,
+    U,
+    S,
+}
+
+// The stack pointers.
+pub enum Stack {
+    S,
+    U,
+}
+
 // A register's name in letters, of which the first `len` count.
 pub struct Letters {
     pub bytes: [u8; 2],
@@ -547,6 +570,54 @@ pub fn reg_size(reg: Name) -> u16
         Name::PC => 2,
         Name::DP => 1,
         Name::CC => 1,
+    }
+}
+
+impl Word {
+    pub fn name(self) -> Name
+        ensures { λ r. ⌜ r ≡ wordName self ⌝ }
+    {
+        match self {
+            Word::D => Name::D,
+            Word::X => Name::X,
+            Word::Y => Name::Y,
+            Word::U => Name::U,
+            Word::S => Name::S,
+        }
+    }
+}
+
+impl Index {
+    pub fn word(self) -> Word
+        ensures { λ r. ⌜ r ≡ indexWord self ⌝ }
+    {
+        match self {
+            Index::X => Word::X,
+            Index::Y => Word::Y,
+            Index::U => Word::U,
+            Index::S => Word::S,
+        }
+    }
+}
+
+impl Stack {
+    pub fn word(self) -> Word
+        ensures { λ r. ⌜ r ≡ stackWord self ⌝ }
+    {
+        match self {
+            Stack::S => Word::S,
+            Stack::U => Word::U,
+        }
+    }
+
+    // The stack pointer that PSHS and PULS name by the bit of U, and PSHU and PULU by the same bit.
+    pub fn other(self) -> Stack
+        ensures { λ r. ⌜ r ≡ otherStack self ⌝ }
+    {
+        match self {
+            Stack::S => Stack::U,
+            Stack::U => Stack::S,
+        }
     }
 }
 
@@ -617,5 +688,17 @@ impl Set {
             Name::DP => u8u16::u8(self.dp),
             Name::CC => u8u16::u8(self.cc.get_as_byte()),
         }
+    }
+
+    pub fn word(self, reg: Word) -> u16
+        ensures { λ r. ⌜ r ≡ wordOf self reg ⌝ }
+    {
+        self.get_register(reg.name()).u16()
+    }
+
+    pub fn with_word(self, reg: Word, word: u16) -> Set
+        ensures { λ r. ⌜ r ≡ withWord self reg word ⌝ }
+    {
+        self.set_register(reg.name(), u8u16::u16(word))
     }
 }

@@ -1,6 +1,7 @@
 // The run program (document 01, "The run program"): reads a run file from standard input, plays its operations on recorded calls, and prints
 // a line for each. What it prints is `printed` of what it read (`player::play`); reading and writing are all that stands here.
 ghost use mathlib.Core.Path.{_≡_};
+ghost use Prim.Native.Nat.{_*_};
 ghost use lib.ListN.{length};
 use libc::STDIN_FILENO;
 use libc::STDOUT_FILENO;
@@ -8,12 +9,12 @@ use libc::STDOUT_FILENO;
 // One byte more than the longest run file, so that a longer one is seen.
 const FILE: usize = 32769;
 
-// 32 bytes for each of fewer than 32,768 operations: no text is longer (`play-fits`).
-const OUT: usize = 0x10_0000;
+// 33 bytes for each of at most 32,768 operations: no text is longer (`play-fits`).
+const OUT: usize = 33 * 32768;
 
 // Its length is all that lending it asks for.
 fn out_buffer() -> [u8; OUT]
-    ensures { λ r. ⌜ 0x100000 ≡ length r ⌝ }
+    ensures { λ r. ⌜ 33 * 32768 ≡ length r ⌝ }
 {
     [0; OUT]
 }

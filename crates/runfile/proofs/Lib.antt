@@ -1,5 +1,4 @@
 pub mod Reading
 pub mod Sections
-pub mod Laying
 pub mod Operations
 pub mod Unique

@@ -1,24 +1,17 @@
--- What stands behind an answer of the inner functions.
+-- What is read at a place: a word, a piece, an operation.
 -- Assumes nothing.
 use Prim.Native.Nat.{ℕ, _+_, _-_, _≤_, _<_}
-use mathlib.Core.Path.{_≡_, refl, sym, ap, _∙_}
-use mathlib.Core.Bool.{Bool, true, false, cond}
+use mathlib.Core.Path.{_≡_, refl, sym, _∙_}
+use mathlib.Core.Bool.{Bool, true, false, cond, not, _&&_}
 use mathlib.Core.List.{List}
 use native.Mathlib.Decide.{decLe}
 use native.Mathlib.Omega.{arith}
-use borrow.Author.Tests.{leb-true, le-leb, lt-leb, eq-eqb, ne-eqb}
-use lib.Dec.{leb, eqb}
-use lib.ListN.{length}
-use Rattle.registers.specs.declared.Flags.{Flags}
-use Rattle.runfile.specs.Format.{Read, got, missing, then, room, Settings}
-use Rattle.runfile.specs.Answers.{numberOf, flagOf, headOf, spanOf, endOf, nextOf, stands}
+use borrow.Author.Tests.{leb-true, leb-false, le-leb, lt-leb, not-true, not-false}
+use lib.Dec.{eqb, leb}
+use lib.ListN.{length, getD, take, drop}
+use Rattle.machine.specs.Machine.{settingsOf}
+use Rattle.runfile.specs.Format.{Read, got, missing, then, room, wordIn, wordAt, defaultFlags, flaggedAt, settingsAt, settled, sectionsOf, spanAt, pieceAt, operationAt, operationNumbered, Piece}
 use Rattle.runfile.specs.declared.Operation.{Operation}
-use Rattle.runfile.specs.declared.Next.the-variants.{Is, None}
-use Rattle.runfile.specs.declared.Number.the-variants.{Is as Word, None as NoWord}
-use Rattle.runfile.specs.declared.Flag.the-variants.{Is as Set, None as NoFlag}
-use Rattle.runfile.specs.declared.Head.the-variants.{Is as Heads, None as NoHead}
-use Rattle.runfile.specs.declared.Span.the-variants.{Is as Spans, None as NoSpan}
-use Rattle.runfile.specs.declared.End.the-variants.{At, None as NoEnd}
 
 -- a sum that fits, and one that could wrap
 pub by-difference : (a n s : ℕ) → n ≤ s → leb a (s - n) ≡ leb (a + n) s
@@ -28,83 +21,99 @@ by-difference a n s h = go (decLe (a + n) s)
     go (yes l) = le-leb a (s - n) (omega arith) ∙ sym (le-leb (a + n) s l)
     go (no m) = lt-leb a (s - n) (omega arith) ∙ sym (lt-leb (a + n) s (omega arith))
 
-pub in-room : (file : List ℕ) (at n : ℕ) {b : Bool} → b ≡ room file at n → b ≡ true → at + n ≤ length file
-in-room file at n e t = leb-true (at + n) (length file) (sym e ∙ t)
+-- what `has` tells
+module _ (file : List ℕ) (at n : ℕ) {b : Bool} (e : b ≡ room file at n) where
+  pub in-room : not b ≡ false → at + n ≤ length file
+  in-room h = leb-true (at + n) (length file) (sym e ∙ not-false b h)
 
-pub word-got : (r : Read ℕ) {n next : ℕ} → numberOf r ≡ Word n next → r ≡ got n next
-word-got (got m e) p = cc
-word-got missing p = cc
+  pub no-room : not b ≡ true → length file < at + n
+  no-room h = leb-false (at + n) (length file) (sym e ∙ not-true b h)
 
-pub word-none : (r : Read ℕ) → numberOf r ≡ NoWord → r ≡ missing
-word-none (got m e) p = cc
-word-none missing p = refl
+pub one-byte : {at n : ℕ} → at < n → leb (at + 1) n ≡ true
+one-byte {at} {n} h = le-leb (at + 1) n (omega arith)
 
-pub flag-got : (r : Read Flags) {f : Flags} {next : ℕ} → flagOf r ≡ Set f next → r ≡ got f next
-flag-got (got m e) p = cc
-flag-got missing p = cc
+-- the first of two things read one after the other
+pub then-got : {A B : Type 0} (r : Read A) {f : A → ℕ → Read B} {b : B} {end : ℕ} → then r f ≡ got b end
+    → (a : A) × ((next : ℕ) × ((r ≡ got a next) × (f a next ≡ got b end)))
+then-got (got a next) e = (a, (next, (refl, e)))
+then-got missing e = let z : _≡_ {A = ℕ} 0 1 = cc in absurd (omega arith)
 
-pub flag-none : (r : Read Flags) → flagOf r ≡ NoFlag → r ≡ missing
-flag-none (got m e) p = cc
-flag-none missing p = refl
+pub word-got : (file : List ℕ) (at : ℕ) → at + 2 ≤ length file → wordAt file at ≡ got (wordIn file at) (at + 2)
+unfolding wordAt
+word-got file at h = rw (le-leb (at + 2) (length file) h)
 
-pub span-got : (r : Read (ℕ × ℕ)) {n m from : ℕ} → spanOf r ≡ Spans n m from → r ≡ got (n, m) from
-span-got (got (a, b) e) p = cc
-span-got missing p = cc
+pub word-missing : (file : List ℕ) (at : ℕ) → length file < at + 2 → wordAt file at ≡ missing
+unfolding wordAt
+word-missing file at h = rw (lt-leb (at + 2) (length file) h)
 
-pub span-none : (r : Read (ℕ × ℕ)) → spanOf r ≡ NoSpan → r ≡ missing
-span-none (got m e) p = cc
-span-none missing p = refl
+-- ---- the settings
 
-pub next-none : (r : Read Operation) → nextOf r ≡ None → r ≡ missing
-next-none (got m e) p = cc
-next-none missing p = refl
+module _ (file : List ℕ) where
+  pub headed : 4 ≤ length file
+      → sectionsOf file ≡ settled file (cond (eqb (wordIn file 0) 2) (got (settingsOf (wordIn file 2) defaultFlags) 4) (cond (eqb (wordIn file 0) 3) (flaggedAt file (wordIn file 2) 4) missing))
+  unfolding sectionsOf settingsAt
+  headed h = rw (word-got file 0 (omega arith), word-got file 2 (omega arith))
 
-pub next-got : (r : Read Operation) {o : Operation} → nextOf r ≡ Is o → stands r ≡ true
-next-got (got m e) p = refl
-next-got missing p = cc
+  pub headless : length file < 4 → sectionsOf file ≡ missing
+  unfolding sectionsOf settingsAt
+  headless h = go (decLe 2 (length file))
+    where
+      go : Dec (2 ≤ length file) → sectionsOf file ≡ missing
+      go (yes l) = rw (word-got file 0 l, word-missing file 2 h)
+      go (no l) = rw (word-missing file 0 (omega arith))
 
-pub head-got : (r : Read Settings) {t next : ℕ} {f : Flags} → headOf r ≡ Heads t f next → r ≡ got (record { ramTop = t; flags = f }) next
-head-got (got s e) {t} {next} {f} p =
-    let a : t ≡ s .ramTop = cc in
-    let b : f ≡ s .flags = cc in
-    let d : next ≡ e = cc in
-    rw (a, b, d)
-head-got missing p = cc
+-- ---- a piece
 
-pub head-none : (r : Read Settings) → headOf r ≡ NoHead → r ≡ missing
-head-none (got m e) p = cc
-head-none missing p = refl
+module _ (file : List ℕ) (at : ℕ) where
+  abbrev pub size : ℕ
+  size = wordIn file (at + 2)
 
-pub end-none : {A : Type 0} (r : Read A) → endOf r ≡ NoEnd → r ≡ missing
-end-none (got m e) p = cc
-end-none missing p = refl
+  -- its bytes are there, and none is to go past FFFF
+  abbrev pub goes : Bool
+  goes = room file (at + 4) size && leb (wordIn file at + size) 0x10000
 
-pub end-stands : {A : Type 0} (r : Read A) {end : ℕ} → endOf r ≡ At end → stands r ≡ true
-end-stands (got m e) p = refl
-end-stands missing p = cc
+  abbrev pub this : Piece
+  this = record { address = wordIn file at; bytes = take size (drop (at + 4) file) }
 
--- a byte above 5
-pub above-five : (x : ℕ) → (x ≡ 0 → ⊥) → (x ≡ 1 → ⊥) → (x ≡ 2 → ⊥) → (x ≡ 3 → ⊥) → (x ≡ 4 → ⊥) → (x ≡ 5 → ⊥) → 5 < x
-above-five x a b c d e f = high x (low x a b c) d e f
+  pub piece-headed : at + 4 ≤ length file → pieceAt file at ≡ cond goes (got this (at + 4 + size)) missing
+  unfolding pieceAt spanAt
+  piece-headed h =
+      let e : at + 2 + 2 ≡ at + 4 = omega arith in
+      rw (word-got file at (omega arith), word-got file (at + 2) (omega arith), e) (go goes)
+    where
+      go : (t : Bool) → (then {A = ℕ × ℕ} (cond t (got (wordIn file at, size) (at + 4)) missing) λ s from. got (record { address = s .0; bytes = take (s .1) (drop from file) }) (from + s .1))
+          ≡ cond t (got this (at + 4 + size)) missing
+      go true = refl
+      go false = refl
+
+  pub piece-missing : length file < at + 4 → pieceAt file at ≡ missing
+  unfolding pieceAt spanAt
+  piece-missing h = go (decLe (at + 2) (length file))
+    where
+      go : Dec (at + 2 ≤ length file) → pieceAt file at ≡ missing
+      go (yes l) = rw (word-got file at l, word-missing file (at + 2) (omega arith))
+      go (no l) = rw (word-missing file at (omega arith))
+
+  pub piece-got : {p : Piece} {next : ℕ} → pieceAt file at ≡ got p next → (pieceAt file at ≡ got this (at + 4 + size)) × (at + 4 + size ≤ length file)
+  piece-got {p} {next} e = go (decLe (at + 4) (length file))
+    where
+      judged : (t : Bool) → leb (at + 4 + size) (length file) ≡ t → (u : Bool) → pieceAt file at ≡ cond (t && u) (got this (at + 4 + size)) missing
+          → (pieceAt file at ≡ got this (at + 4 + size)) × (at + 4 + size ≤ length file)
+      judged true l true h = (h, leb-true (at + 4 + size) (length file) l)
+      judged true l false h = let z : _≡_ {A = ℕ} 0 1 = cc in absurd (omega arith)
+      judged false l u h = let z : _≡_ {A = ℕ} 0 1 = cc in absurd (omega arith)
+
+      go : Dec (at + 4 ≤ length file) → (pieceAt file at ≡ got this (at + 4 + size)) × (at + 4 + size ≤ length file)
+      go (yes l) = judged (leb (at + 4 + size) (length file)) refl (leb (wordIn file at + size) 0x10000) (piece-headed l)
+      go (no l) = let m = piece-missing (omega arith) in let z : _≡_ {A = ℕ} 0 1 = cc in absurd (omega arith)
+
+-- ---- an operation takes one byte
+
+pub operation-got : (file : List ℕ) (at : ℕ) {o : Operation} {next : ℕ} → operationAt file at ≡ got o next → (next ≡ at + 1) × (at + 1 ≤ length file)
+unfolding operationAt
+operation-got file at {o} {next} e = go (leb (at + 1) (length file)) refl (leb (getD file at 0) 5) e
   where
-    low : (x : ℕ) → (x ≡ 0 → ⊥) → (x ≡ 1 → ⊥) → (x ≡ 2 → ⊥) → 2 < x
-    low x a b c = omega arith
-
-    high : (x : ℕ) → 2 < x → (x ≡ 3 → ⊥) → (x ≡ 4 → ⊥) → (x ≡ 5 → ⊥) → 5 < x
-    high x h a b c = omega arith
-
--- operations that end the file, and ones that do not
-module _ (r : Read (List Operation)) (size start : ℕ) {end : ℕ} (h : endOf r ≡ At end) where
-  pub ends-at : end ≡ size → endOf (then r λ os e. cond (eqb e size) (got os start) missing) ≡ At start
-  ends-at k = go r h
-    where
-      go : (r : Read (List Operation)) → endOf r ≡ At end → endOf (then r λ os e. cond (eqb e size) (got os start) missing) ≡ At start
-      go (got os e) h = let p : e ≡ size = cc in rw (eq-eqb e size p)
-      go missing h = cc
-
-  pub ends-before : (end ≡ size → ⊥) → endOf (then r λ os e. cond (eqb e size) (got os start) missing) ≡ NoEnd
-  ends-before k = go r h
-    where
-      go : (r : Read (List Operation)) → endOf r ≡ At end → endOf (then r λ os e. cond (eqb e size) (got os start) missing) ≡ NoEnd
-      go (got os e) h = let p : end ≡ e = cc in rw (ne-eqb e size (λ q. k (p ∙ q)))
-      go missing h = cc
+    go : (t : Bool) → leb (at + 1) (length file) ≡ t → (u : Bool) → cond (t && u) (got (operationNumbered (getD file at 0)) (at + 1)) missing ≡ got o next → (next ≡ at + 1) × (at + 1 ≤ length file)
+    go true l true e = (cc, leb-true (at + 1) (length file) l)
+    go true l false e = let z : _≡_ {A = ℕ} 0 1 = cc in absurd (omega arith)
+    go false l u e = let z : _≡_ {A = ℕ} 0 1 = cc in absurd (omega arith)

@@ -3,7 +3,7 @@
 use mathlib.Core.Path.{refl, sym, ap, _∙_}
 use mathlib.Core.List.{List}
 use Prim.Native.Nat.{ℕ}
-use Rattle.u8oru16.proofs.Determined.{Determines}
+use Rattle.answers.proofs.Determined.{Determines}
 use Rattle.runfile.proofs
 
 pub operation-at : Determines 1 proofs.operation_at.Kinds.ps proofs.operation_at.Kinds.r proofs.operation_at.Reads.Post

@@ -1,12 +1,21 @@
 -- The run file (document 01, section "The run program"): what its bytes say. `file` is the list of its bytes.
 -- Assumes nothing.
-use Prim.Native.Nat.{ℕ, zero, suc, _+_, _*_}
+use Prim.Native.Nat.{ℕ, zero, suc, _+_, _-_, _*_, _≤_, _<_}
+use mathlib.Core.Path.{_≡_}
 use mathlib.Core.Bool.{Bool, cond, _&&_}
 use mathlib.Core.List.{List, [], _∷_}
 use lib.Dec.{eqb, leb}
 use lib.ListN.{length, getD, take, drop}
+use lib.Seq.{sets}
+use Rattle.answers.specs.declared.Refusal.the-variants.{Malformed}
+use Rattle.machine.specs.Machine.{settingsOf}
+use Rattle.machine.specs.declared.Settings.{Settings}
 use Rattle.registers.specs.declared.Flags.{Flags}
 use Rattle.registers.specs.declared.Flags.the-variants.{Bought, Manual}
+use Rattle.runfile.specs.declared.Loaded.{Loaded}
+use Rattle.runfile.specs.declared.Loaded.the-variants.{Ready, Refused}
+use Rattle.runfile.specs.declared.Next.{Next}
+use Rattle.runfile.specs.declared.Next.the-variants.{Is, None}
 use Rattle.runfile.specs.declared.Operation.{Operation}
 use Rattle.runfile.specs.declared.Operation.the-variants.{Step, Irq, Firq, Nmi, Reset, Undo}
 
@@ -25,14 +34,13 @@ abbrev pub room : List ℕ → ℕ → ℕ → Bool
 room file at n = leb (at + n) (length file)
 
 -- two bytes, high byte first
+abbrev pub wordIn : List ℕ → ℕ → ℕ
+wordIn file at = 256 * getD file at 0 + getD file (at + 1) 0
+
 unfoldable pub wordAt : List ℕ → ℕ → Read ℕ
-wordAt file at = cond (room file at 2) (got (256 * getD file at 0 + getD file (at + 1) 0) (at + 2)) missing
+wordAt file at = cond (room file at 2) (got (wordIn file at) (at + 2)) missing
 
 -- ---- settings
-
-pub record Settings : Type 0 where
-  pub ramTop : ℕ
-  pub flags : Flags
 
 -- 0 as bought, 1 manual
 abbrev pub flagNumbered : ℕ → ℕ → Read Flags
@@ -46,13 +54,13 @@ abbrev pub defaultFlags : Flags
 defaultFlags = Bought
 
 abbrev pub flaggedAt : List ℕ → ℕ → ℕ → Read Settings
-flaggedAt file top at = then (flagAt file at) λ f next. got (record { ramTop = top; flags = f }) next
+flaggedAt file top at = then (flagAt file at) λ f next. got (settingsOf top f) next
 
 -- count 2: ram_top; count 3: ram_top and flags
 unfoldable pub settingsAt : List ℕ → ℕ → ℕ → Read Settings
 settingsAt file count at =
     then (wordAt file at) λ top next.
-    cond (eqb count 2) (got (record { ramTop = top; flags = defaultFlags }) next)
+    cond (eqb count 2) (got (settingsOf top defaultFlags) next)
     (cond (eqb count 3) (flaggedAt file top next)
     missing)
 
@@ -113,11 +121,12 @@ afterSettings file s at =
     then (operationsAt file m start) λ os end.
     got (record { settings = s; pieces = ps; operations = os }) end
 
+-- the settings first
+abbrev pub settled : List ℕ → Read Settings → Read RunFile
+settled file r = then r λ s next. afterSettings file s next
+
 unfoldable pub sectionsOf : List ℕ → Read RunFile
-sectionsOf file =
-    then (wordAt file 0) λ count at.
-    then (settingsAt file count at) λ s next.
-    afterSettings file s next
+sectionsOf file = then (wordAt file 0) λ count at. settled file (settingsAt file count at)
 
 pub data Parsed : Type 0 where
   says : RunFile → Parsed
@@ -131,3 +140,55 @@ wholly size missing = malformed
 -- what a file says; it is malformed if it is longer than 32,768 bytes, if a section does not stand there, or if bytes are to spare
 unfoldable pub parsed : List ℕ → Parsed
 parsed file = cond (leb (length file) 32768) (wholly (length file) (sectionsOf file)) malformed
+
+-- ---- what is answered, and what is placed
+
+abbrev pub nextOf : Read Operation → Next
+nextOf (got o next) = Is o
+nextOf missing = None
+
+-- the operations are the last bytes of a sound file of this size
+abbrev pub loaded : ℕ → Parsed → Loaded
+loaded size (says f) = Ready (record { operations = size - length (f .operations); settings = f .settings })
+loaded size malformed = Refused Malformed
+
+-- pieces laid raw, in order
+abbrev pub laid : List Piece → List ℕ → List ℕ
+laid [] mem = mem
+laid (p ∷ ps) mem = laid ps (sets mem (p .address) (p .bytes))
+
+-- a malformed file places nothing
+abbrev pub placed : Parsed → List ℕ → List ℕ
+placed (says f) mem = laid (f .pieces) mem
+placed malformed mem = mem
+
+-- ---- the laws
+
+-- a sound file's operations are its last bytes, in order: `operation_at` gives each of them from where `load` says that they start
+abbrev pub InOrder : Type 0
+InOrder =
+    (file : List ℕ) (f : RunFile) → parsed file ≡ says f
+    → (i : ℕ) → i < length (f .operations) → nextOf (operationAt file (length file - length (f .operations) + i)) ≡ Is (getD (f .operations) i Step)
+
+-- it has no more operations than bytes, and no more than 32,768 bytes
+abbrev pub TheyFit : Type 0
+TheyFit = (file : List ℕ) (f : RunFile) → parsed file ≡ says f → length (f .operations) ≤ length file
+
+abbrev pub NotLonger : Type 0
+NotLonger = (file : List ℕ) (f : RunFile) → parsed file ≡ says f → length file ≤ 32768
+
+-- and none follows them
+abbrev pub ThenNone : Type 0
+ThenNone = (file : List ℕ) → nextOf (operationAt file (length file)) ≡ None
+
+-- ---- of the private functions
+
+-- the place after what was read; if it is missing, a place past a file of this size
+abbrev pub endOf : {A : Type 0} → ℕ → Read A → ℕ
+endOf size (got x end) = end
+endOf size missing = size + 1
+
+-- what is laid of pieces that were read
+abbrev pub laidOf : Read (List Piece) → List ℕ → List ℕ
+laidOf (got ps end) mem = laid ps mem
+laidOf missing mem = mem

@@ -1,11 +1,10 @@
 // The run file (document 01, "The run program"): which files are sound, what a sound one sets and places, and its operations.
 ghost use mathlib.Core.Path.{_≡_};
-ghost use mathlib.Core.Bool.{true};
-ghost use Prim.Native.Nat.{_+_, _≤_};
-ghost use lib.ListN.{length, take, drop};
-ghost use lib.Seq.{sets};
-ghost use Rattle.runfile.specs.Format.{Settings, room, wordAt, flaggedAt, flagAt, settingsAt, spanAt, piecesAt, operationAt, operationsAt, afterSettings, wholly, parsed};
-ghost use Rattle.runfile.specs.Answers.{numberOf, flagOf, headOf, spanOf, endOf, lastOf, nextOf, loaded, placed, laidOf, stands};
+ghost use Prim.Native.Nat.{_≤_};
+ghost use lib.ListN.{length, getD};
+ghost use Rattle.runfile.specs.Format.{room, wordIn, pieceAt, piecesAt, operationAt, operationsAt, flaggedAt, afterSettings, wholly, parsed, nextOf, loaded, placed, endOf, laidOf, settled};
+use answers::Refusal;
+use machine::Settings;
 use registers::Flags;
 
 // The longest run file.
@@ -29,43 +28,12 @@ pub enum Next {
 // What a sound file sets, and where its operations start: they are its last bytes.
 pub struct Start {
     pub operations: usize,
-    pub ram_top: u16,
-    pub flags: Flags,
+    pub settings: Settings,
 }
 
 pub enum Loaded {
     Ready(Start),
-    Malformed,
-}
-
-// A word, and the place after it.
-enum Number {
-    Is(u16, usize),
-    None,
-}
-
-// A flag setting, and the place after it.
-enum Flag {
-    Is(Flags, usize),
-    None,
-}
-
-// The settings, and the place after them.
-enum Head {
-    Is(u16, Flags, usize),
-    None,
-}
-
-// A piece's address and length, and the place of its bytes.
-enum Span {
-    Is(u16, u16, usize),
-    None,
-}
-
-// The place after a section.
-enum End {
-    At(usize),
-    None,
+    Refused(Refusal),
 }
 
 // Whether n bytes stand from a place on. The sum of the two could wrap.
@@ -79,199 +47,141 @@ fn has(file: &[u8], at: usize, n: usize) -> bool
     at <= size - n
 }
 
-fn read_word(file: &[u8], at: usize) -> Number
-    ensures { λ r. ⌜ r ≡ numberOf (wordAt (now (file .entry)) at) ⌝ }
+// 0 past the end.
+fn byte(file: &[u8], at: usize) -> u8
+    ensures { λ r. ⌜ r ≡ getD (now (file .entry)) at 0 ⌝ }
 {
-    if has(file, at, 2) {
-        Number::Is(256 * file[at] as u16 + file[at + 1] as u16, at + 2)
+    if at < file.len() { file[at] } else { 0 }
+}
+
+// The word of two bytes, high byte first.
+fn word(file: &[u8], at: usize) -> u16
+    ensures { λ r. ⌜ r ≡ wordIn (now (file .entry)) at ⌝ }
+{
+    if at < file.len() {
+        256 * byte(file, at) as u16 + byte(file, at + 1) as u16
     } else {
-        Number::None
+        0
     }
 }
 
-fn read_flag(file: &[u8], at: usize) -> Flag
-    ensures { λ r. ⌜ r ≡ flagOf (flagAt (now (file .entry)) at) ⌝ }
+// The place after a piece. If it is missing: a place past the file, where nothing stands.
+fn piece_end(file: &[u8], at: usize) -> usize
+    ensures { λ r. ⌜ r ≡ endOf (length (now (file .entry))) (pieceAt (now (file .entry)) at) ⌝ }
 {
-    if has(file, at, 1) {
-        match file[at] {
-            0 => Flag::Is(Flags::Bought, at + 1),
-            1 => Flag::Is(Flags::Manual, at + 1),
-            _ => Flag::None,
-        }
+    if !has(file, at, 4) {
+        return file.len() + 1;
+    }
+    let address = word(file, at);
+    let size = word(file, at + 2);
+    let from = at + 4;
+    if has(file, from, size as usize) & (address as u32 + size as u32 <= 0x10000) {
+        from + size as usize
     } else {
-        Flag::None
+        file.len() + 1
     }
 }
 
-// ram_top with flags after it.
-fn with_flags(file: &[u8], ram_top: u16, at: usize) -> Head
-    ensures { λ r. ⌜ r ≡ headOf (flaggedAt (now (file .entry)) «ram_top» at) ⌝ }
-{
-    match read_flag(file, at) {
-        Flag::None => Head::None,
-        Flag::Is(flags, next) => Head::Is(ram_top, flags, next),
-    }
-}
-
-fn read_settings(file: &[u8], count: u16, at: usize) -> Head
-    ensures { λ r. ⌜ r ≡ headOf (settingsAt (now (file .entry)) count at) ⌝ }
-{
-    match read_word(file, at) {
-        Number::None => Head::None,
-        Number::Is(ram_top, next) => match count {
-            2 => Head::Is(ram_top, Flags::Bought, next),
-            3 => with_flags(file, ram_top, next),
-            _ => Head::None,
-        },
-    }
-}
-
-fn read_span(file: &[u8], at: usize) -> Span
-    ensures { λ r. ⌜ r ≡ spanOf (spanAt (now (file .entry)) at) ⌝ }
-{
-    match read_word(file, at) {
-        Number::None => Span::None,
-        Number::Is(address, next) => match read_word(file, next) {
-            Number::None => Span::None,
-            Number::Is(size, from) => {
-                if has(file, from, size as usize) & (address as u32 + size as u32 <= 0x10000) {
-                    Span::Is(address, size, from)
-                } else {
-                    Span::None
-                }
-            }
-        },
-    }
-}
-
-// The place after so many pieces.
-fn pieces_end(file: &[u8], count: u16, at: usize) -> End
-    ensures { λ r. ⌜ r ≡ endOf (piecesAt (now (file .entry)) count at) ⌝ }
+// The place after so many pieces, or past the file.
+fn pieces_end(file: &[u8], count: u16, at: usize) -> usize
+    ensures { λ r. ⌜ r ≡ endOf (length (now (file .entry))) (piecesAt (now (file .entry)) count at) ⌝ }
 {
     let mut left = count;
     let mut next = at;
     while 0 < left {
-        match read_span(file, next) {
-            Span::None => return End::None,
-            Span::Is(_, size, from) => {
-                next = from + size as usize;
-            }
-        }
+        next = piece_end(file, next);
         left -= 1;
     }
-    End::At(next)
+    next
+}
+
+// Lays so many pieces, which are known to stand there, in order.
+fn place(mem: &mut [u8], file: &[u8], count: u16, at: usize)
+    requires { ⌜ endOf (length (now file)) (piecesAt (now file) count at) ≤ length (now file) ⌝ }
+    ensures { λ _. ⌜ now (mem .exit) ≡ laidOf (piecesAt (now (file .entry)) count at) (now (mem .entry)) ⌝ }
+{
+    let mut left = count;
+    let mut next = at;
+    while 0 < left {
+        let address = word(file, next) as usize;
+        let from = next + 4;
+        let end = piece_end(file, next);
+        text::put(mem, address, &file[from..end]);
+        next = end;
+        left -= 1;
+    }
 }
 
 pub fn operation_at(file: &[u8], at: usize) -> Next
     ensures { λ r. ⌜ r ≡ nextOf (operationAt (now (file .entry)) at) ⌝ }
 {
-    if has(file, at, 1) {
-        match file[at] {
-            0 => Next::Is(Operation::Step),
-            1 => Next::Is(Operation::Irq),
-            2 => Next::Is(Operation::Firq),
-            3 => Next::Is(Operation::Nmi),
-            4 => Next::Is(Operation::Reset),
-            5 => Next::Is(Operation::Undo),
-            _ => Next::None,
-        }
-    } else {
-        Next::None
+    if file.len() <= at {
+        return Next::None;
+    }
+    match file[at] {
+        0 => Next::Is(Operation::Step),
+        1 => Next::Is(Operation::Irq),
+        2 => Next::Is(Operation::Firq),
+        3 => Next::Is(Operation::Nmi),
+        4 => Next::Is(Operation::Reset),
+        5 => Next::Is(Operation::Undo),
+        _ => Next::None,
     }
 }
 
-// The place after so many operations.
-fn operations_end(file: &[u8], count: u16, at: usize) -> End
-    ensures { λ r. ⌜ r ≡ endOf (operationsAt (now (file .entry)) count at) ⌝ }
+// The place after so many operations, or past the file.
+fn operations_end(file: &[u8], count: u16, at: usize) -> usize
+    ensures { λ r. ⌜ r ≡ endOf (length (now (file .entry))) (operationsAt (now (file .entry)) count at) ⌝ }
 {
     let mut left = count;
     let mut next = at;
     while 0 < left {
         match operation_at(file, next) {
-            Next::None => return End::None,
+            Next::None => return file.len() + 1,
             Next::Is(_) => {
                 next += 1;
             }
         }
         left -= 1;
     }
-    End::At(next)
-}
-
-// So many bytes of the file, laid raw from an address on.
-fn lay(mem: &mut [u8], address: u16, file: &[u8], from: usize, size: u16)
-    requires { ⌜ from + size ≤ length (now file) ⌝ }
-    ensures { λ _. ⌜ now (mem .exit) ≡ sets (now (mem .entry)) address (take size (drop from (now (file .entry)))) ⌝ }
-{
-    let n = size as usize;
-    let mut i = 0;
-    while i < n {
-        let p = address as usize + i;
-        if p < mem.len() {
-            mem[p] = file[from + i];
-        }
-        i += 1;
-    }
-}
-
-// So many pieces, which are known to stand there, laid in order.
-fn place(mem: &mut [u8], file: &[u8], count: u16, at: usize)
-    requires { ⌜ stands (piecesAt (now file) count at) ≡ true ⌝ }
-    ensures { λ _. ⌜ now (mem .exit) ≡ laidOf (piecesAt (now (file .entry)) count at) (now (mem .entry)) ⌝ }
-{
-    let mut left = count;
-    let mut next = at;
-    while 0 < left {
-        match read_span(file, next) {
-            Span::None => return,
-            Span::Is(address, size, from) => {
-                lay(mem, address, file, from, size);
-                next = from + size as usize;
-            }
-        }
-        left -= 1;
-    }
-}
-
-// Where the operations start, if the third section stands at a place and ends the file.
-fn last_section(file: &[u8], at: usize) -> End
-    ensures { λ r. ⌜ r ≡ lastOf (now (file .entry)) at ⌝ }
-{
-    match read_word(file, at) {
-        Number::None => End::None,
-        Number::Is(count, start) => match operations_end(file, count, start) {
-            End::None => End::None,
-            End::At(end) => {
-                if end == file.len() {
-                    End::At(start)
-                } else {
-                    End::None
-                }
-            }
-        },
-    }
+    next
 }
 
 // Memory is written once the whole file is known to be sound.
-fn load_after(mem: &mut [u8], file: &[u8], ram_top: u16, flags: Flags, at: usize) -> Loaded
-    ensures { λ r. ⌜ (r ≡ loaded (length (now (file .entry))) (wholly (length (now (file .entry))) (afterSettings (now (file .entry)) (record { ramTop = «ram_top»; flags = flags }) at))) × (now (mem .exit) ≡ placed (wholly (length (now (file .entry))) (afterSettings (now (file .entry)) (record { ramTop = «ram_top»; flags = flags }) at)) (now (mem .entry))) ⌝ }
+fn load_after(mem: &mut [u8], file: &[u8], settings: Settings, at: usize) -> Loaded
+    ensures { λ r. ⌜ (r ≡ loaded (length (now (file .entry))) (wholly (length (now (file .entry))) (afterSettings (now (file .entry)) settings at))) × (now (mem .exit) ≡ placed (wholly (length (now (file .entry))) (afterSettings (now (file .entry)) settings at)) (now (mem .entry))) ⌝ }
 {
-    match read_word(file, at) {
-        Number::None => Loaded::Malformed,
-        Number::Is(count, from) => match pieces_end(file, count, from) {
-            End::None => Loaded::Malformed,
-            End::At(next) => match last_section(file, next) {
-                End::None => Loaded::Malformed,
-                End::At(operations) => {
-                    place(mem, file, count, from);
-                    Loaded::Ready(Start {
-                        operations,
-                        ram_top,
-                        flags,
-                    })
-                }
-            },
-        },
+    if !has(file, at, 2) {
+        return Loaded::Refused(Refusal::Malformed);
+    }
+    let count = word(file, at);
+    let from = at + 2;
+    let next = pieces_end(file, count, from);
+    if !has(file, next, 2) {
+        return Loaded::Refused(Refusal::Malformed);
+    }
+    let operations = next + 2;
+    if operations_end(file, word(file, next), operations) != file.len() {
+        return Loaded::Refused(Refusal::Malformed);
+    }
+    place(mem, file, count, from);
+    Loaded::Ready(Start {
+        operations,
+        settings,
+    })
+}
+
+// Settings of three bytes: ram_top, and flags at place 4.
+fn load_flagged(mem: &mut [u8], file: &[u8], ram_top: u16) -> Loaded
+    ensures { λ r. ⌜ (r ≡ loaded (length (now (file .entry))) (wholly (length (now (file .entry))) (settled (now (file .entry)) (flaggedAt (now (file .entry)) «ram_top» 4)))) × (now (mem .exit) ≡ placed (wholly (length (now (file .entry))) (settled (now (file .entry)) (flaggedAt (now (file .entry)) «ram_top» 4))) (now (mem .entry))) ⌝ }
+{
+    if file.len() <= 4 {
+        return Loaded::Refused(Refusal::Malformed);
+    }
+    match file[4] {
+        0 => load_after(mem, file, Settings::new(ram_top, Flags::Bought), 5),
+        1 => load_after(mem, file, Settings::new(ram_top, Flags::Manual), 5),
+        _ => Loaded::Refused(Refusal::Malformed),
     }
 }
 
@@ -279,13 +189,15 @@ pub fn load(mem: &mut [u8], file: &[u8]) -> Loaded
     ensures { λ r. ⌜ (r ≡ loaded (length (now (file .entry))) (parsed (now (file .entry)))) × (now (mem .exit) ≡ placed (parsed (now (file .entry))) (now (mem .entry))) ⌝ }
 {
     if LONGEST < file.len() {
-        return Loaded::Malformed;
+        return Loaded::Refused(Refusal::Malformed);
     }
-    match read_word(file, 0) {
-        Number::None => Loaded::Malformed,
-        Number::Is(count, at) => match read_settings(file, count, at) {
-            Head::None => Loaded::Malformed,
-            Head::Is(ram_top, flags, next) => load_after(mem, file, ram_top, flags, next),
-        },
+    if !has(file, 0, 4) {
+        return Loaded::Refused(Refusal::Malformed);
+    }
+    let ram_top = word(file, 2);
+    match word(file, 0) {
+        2 => load_after(mem, file, Settings::new(ram_top, Flags::Bought), 4),
+        3 => load_flagged(mem, file, ram_top),
+        _ => Loaded::Refused(Refusal::Malformed),
     }
 }

@@ -17,6 +17,8 @@ use Rattle.srecord.specs.Promises.{zeros, blank, ReadsBack, OneForm}
 use Rattle.srecord.specs.declared.Loaded.{Loaded}
 use Rattle.srecord.proofs.Bools.{and-parts}
 use Rattle.srecord.proofs.Digits.{not-feed}
+use Rattle.srecord.proofs.Shapes.{held}
+use Rattle.srecord.proofs.Rows.{row-width}
 use Rattle.srecord.proofs.Sound.{Each, each, each-take, each-drop, hold-kinds, allBytes, are-bytes, text-is, reads}
 
 -- no line feed
@@ -42,7 +44,7 @@ line-cut : (kind a : ℕ) (d rest : List ℕ) → a < 65536 → Each d → mayHo
     → meaningsOf (textOf kind a d ++ rest) ≡ meant kind a d ∷ meaningsOf rest
 unfolding meaningsOf
 line-cut kind a d rest low are may =
-    let k = hold-kinds kind (length d) may in
+    let k = hold-kinds (held kind (length d) may) in
     let t = text-is kind a d in
     let p = pairs (allBytes a d) in
     let c = cut (83 ∷ kind ∷ p) rest ((λ e. omega arith), ((λ e. omega arith), no-feed _ (are-bytes kind a d low are may))) in
@@ -123,15 +125,10 @@ blank-length = length-replicate {A = ℕ} 65536 0
 
 module _ (mem : List ℕ) (full : length mem ≡ 65536) (are : Each mem) where
   module _ (k : ℕ) (rest : List ℕ) (h : k < 2048) where
-    width : length (rowOf mem k) ≡ 32
-    width =
-        let d = length-drop (32 * k) mem in
-        length-take-le 32 (drop (32 * k) mem) (omega arith)
-
     -- a row and what follows it
     row-means : meaningsOf (textOf 49 (32 * k) (rowOf mem k) ++ rest) ≡ piece (32 * k) (rowOf mem k) ∷ meaningsOf rest
     row-means =
-        let w = width in
+        let w = row-width mem k full h in
         line-cut 49 (32 * k) (rowOf mem k) rest (omega arith) (each-take 32 (drop (32 * k) mem) (each-drop (32 * k) mem are)) (rw w)
         ∙ rw (le-leb (32 * k + length (rowOf mem k)) 65536 (omega arith))
 

@@ -2,9 +2,8 @@
 -- Assumes nothing.
 use Prim.Native.Nat.{ℕ, zero, suc, _+_, _-_, _*_, _/_, _≤_, _<_}
 use native.Mathlib.Omega.{arith}
-use native.Mathlib.Numerals.{add-one}
-use mathlib.Core.Path.{_≡_, refl, sym, ap, _∙_}
-use mathlib.Core.List.{List, [], _∷_, _++_}
+use mathlib.Core.Path.{_≡_, refl, _∙_}
+use mathlib.Core.List.{List, [], _∷_}
 use lib.ListN.{length, getD, take, drop, length-drop}
 use lib.Seq.{getD-drop, getD-take, length-take-le}
 use Rattle.srecord.specs.Text.{bytesOf, byteOf}
@@ -30,20 +29,22 @@ pub line-bytes : (text : List ℕ) → length (bytes text) ≡ (length text - 2)
 line-bytes text = bytes-length (drop 2 text) ∙ rw (length-drop 2 text)
 
 -- byte i of a line
-pub byte-of : (text : List ℕ) (i : ℕ) → 2 + 2 * i + 1 < length text → getD (bytes text) i 0 ≡ byteOf (getD text (2 + 2 * i) 0) (getD text (2 + 2 * i + 1) 0)
+pub byte-of : (text : List ℕ) (i : ℕ) → i < length (bytes text) → getD (bytes text) i 0 ≡ byteOf (getD text (2 + 2 * i) 0) (getD text (3 + 2 * i) 0)
 byte-of text i h =
-    let n : length (drop 2 text) ≡ length text - 2 = length-drop 2 text in
-    let e : 2 + 2 * i + 1 ≡ 2 + (2 * i + 1) = omega arith in
+    let n = line-bytes text in
+    let d = length-drop 2 text in
+    let e : 3 + 2 * i ≡ 2 + (2 * i + 1) = omega arith in
     bytes-get (drop 2 text) i (omega arith) ∙ rw (getD-drop 2 text (2 * i) 0, getD-drop 2 text (2 * i + 1) 0, e)
 
-module _ (text : List ℕ) (n : ℕ) (room : 11 + 2 * n ≤ length text) where
-  pub data-length : length (take n (drop 3 (bytes text))) ≡ n
-  data-length =
-      let b = line-bytes text in
-      let d = length-drop 3 (bytes text) in
-      length-take-le n (drop 3 (bytes text)) (omega arith)
+pub past-end : (l : List ℕ) (i : ℕ) → length l ≤ i → getD l i 0 ≡ 0
+past-end [] i h = refl
+past-end (b ∷ l) zero h = absurd (omega arith)
+past-end (b ∷ l) (suc i) h = past-end l i (omega arith)
 
-  pub data-at : (i : ℕ) → i < n → getD (take n (drop 3 (bytes text))) i 0 ≡ byteOf (getD text (8 + 2 * i) 0) (getD text (8 + 2 * i + 1) 0)
-  data-at i h =
-      let e : 2 + 2 * (3 + i) ≡ 8 + 2 * i = omega arith in
-      getD-take n (drop 3 (bytes text)) i 0 h ∙ getD-drop 3 (bytes text) i 0 ∙ rw (← e) (byte-of text (3 + i) (omega arith))
+-- the n bytes after the address
+module _ (l : List ℕ) (n : ℕ) (room : 3 + n ≤ length l) where
+  pub data-length : length (take n (drop 3 l)) ≡ n
+  data-length = let d = length-drop 3 l in length-take-le n (drop 3 l) (omega arith)
+
+  pub data-at : (i : ℕ) → i < n → getD (take n (drop 3 l)) i 0 ≡ getD l (3 + i) 0
+  data-at i h = getD-take n (drop 3 l) i 0 h ∙ getD-drop 3 l i 0

@@ -11,24 +11,20 @@ use borrow.Author.Tests.{eq-eqb, ne-eqb, lt-ltb, le-ltb}
 use Rattle.srecord.specs.Text.{textOf}
 use Rattle.srecord.specs.File.{meaningsOf, judged, failed, landed, allowed, loadedOf, memoryAfter}
 use Rattle.srecord.specs.Written.{rowOf, isZero, rowText, rowsText, textFor, stopped, writtenOf, outputAfter}
-use Rattle.srecord.specs.Answers.{numberOf, numberOfAnswer}
-use Rattle.srecord.specs.declared.Answer.{Answer}
-use Rattle.srecord.specs.declared.Answer.the-variants.{Done, Refused}
+use Rattle.answers.specs.Numbers.{numberOf, numberOfAnswer}
+use Rattle.answers.specs.declared.Answer.{Answer}
+use Rattle.answers.specs.declared.Answer.the-variants.{Done, Refused}
 use Rattle.srecord.specs.declared.Loaded.{Loaded}
-use Rattle.srecord.specs.declared.Refusal.{Refusal}
-use Rattle.srecord.specs.declared.Refusal.the-variants.{MemoryLength, OutputShort, Shape, Checksum, PastTop, NoEnd}
-use Rattle.srecord.specs.declared.Written.{Written}
+use Rattle.answers.specs.declared.Refusal.{Refusal}
+use Rattle.answers.specs.declared.Refusal.the-variants.{MemoryLength, OutputShort}
+use Rattle.answers.proofs.Numbers.{refused-by-a-number}
+use Rattle.srecord.specs.declared.written.Written.{Written}
 use Rattle.srecord.proofs.Laying.{sets-two}
 use Rattle.srecord.proofs.Rows.{text-length}
 
 -- only a call that is done has the number 0
 no-zero : (r : Refusal) → numberOf r ≡ 0 → ⊥
-no-zero MemoryLength e = omega arith
-no-zero OutputShort e = omega arith
-no-zero Shape e = omega arith
-no-zero Checksum e = omega arith
-no-zero PastTop e = omega arith
-no-zero NoEnd e = omega arith
+no-zero r e = omega (arith, refused-by-a-number r)
 
 is-done : (x : Answer) → numberOfAnswer x ≡ 0 → x ≡ Done
 is-done Done e = refl

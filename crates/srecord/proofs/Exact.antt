@@ -5,19 +5,18 @@ use native.Mathlib.Omega.{arith}
 use mathlib.Core.Path.{_≡_, refl, sym, ap, _∙_}
 use mathlib.Core.Bool.{Bool, true, false, cond, _&&_}
 use mathlib.Core.List.{List, [], _∷_, _++_}
-use lib.Dec.{eqb, leb, ltb}
+use lib.Dec.{leb, ltb}
 use lib.ListN.{length, getD, take, drop}
 use lib.Seq.{length-take-le, take-length}
 use borrow.Author.Tests.{eqb-true, leb-true, lt-ltb, le-ltb}
 use Rattle.srecord.specs.Text.{isFigure, isCapital, isDigit, valueOf, digitOf, byteOf, pairs, isPaired, bytesOf, checksum, summed, textOf}
-use Rattle.srecord.specs.Line.{refused, mayHold, isShaped, isSummed, bytes, addressOf, dataOf, meant, lineOf}
+use Rattle.srecord.specs.Line.{Meaning, isSummed, bytes, addressOf, dataOf, meant, lineOf}
 use Rattle.srecord.specs.Promises.{Bytes, IsLine, Stands, LineExact}
-use Rattle.srecord.specs.declared.Refusal.the-variants.{Shape, Checksum}
 use Rattle.srecord.proofs.Bools.{and-parts}
 use Rattle.srecord.proofs.Digits.{value-figure, value-capital, value-small, byte-small}
 use Rattle.srecord.proofs.Scan.{take-one}
-use Rattle.srecord.proofs.Shapes.{shaped-length, shaped-first, shaped-paired, shaped-room, shaped-count, shaped-may, data-size}
-use Rattle.srecord.proofs.Lines.{sound}
+use Rattle.srecord.proofs.Shapes.{Held, in-0, in-1, in-9, Shaped, may-hold}
+use Rattle.srecord.proofs.Lines.{Found, bad, good, found}
 use Rattle.srecord.proofs.Sound.{Each, each-take, each-drop, text-is}
 
 -- a digit is that of the number for which it stands
@@ -106,61 +105,41 @@ all-bytes (b ∷ d ∷ e ∷ bs) are h c s =
     let w = whole b d e (getD bs (length bs - 1) 0) (take (length bs - 1) bs) (omega arith) (are .1 .1 .0) f in
     rw n (ap (λ (l : List ℕ). b ∷ d ∷ e ∷ l) (last-one bs (omega arith)) ∙ w)
 
-text-exact : (text : List ℕ) → isShaped text ≡ true → isSummed (bytes text) ≡ true
+text-exact : (text : List ℕ) → Shaped text → isSummed (bytes text) ≡ true
     → text ≡ textOf (getD text 1 0) (addressOf (bytes text)) (dataOf (bytes text))
-text-exact [] e f = absurd (omega (arith, shaped-length [] e))
-text-exact (s ∷ []) e f = absurd (omega (arith, shaped-length (s ∷ []) e))
-text-exact (s ∷ k ∷ t) e f =
-    let p = paired-exact t (shaped-paired (s ∷ k ∷ t) e) in
-    let b = all-bytes (bytesOf t) (each-byte t) (shaped-room (s ∷ k ∷ t) e) (shaped-count (s ∷ k ∷ t) e) f in
-    ap (λ (c : ℕ). c ∷ k ∷ t) (shaped-first (s ∷ k ∷ t) e)
+text-exact [] s f = absurd (omega (arith, s .size))
+text-exact (c ∷ []) s f = absurd (omega (arith, s .size))
+text-exact (c ∷ k ∷ t) s f =
+    let p = paired-exact t (s .paired) in
+    let b = all-bytes (bytesOf t) (each-byte t) (s .room) (s .count) f in
+    ap (λ (n : ℕ). n ∷ k ∷ t) (s .first)
     ∙ ap (λ (l : List ℕ). 83 ∷ k ∷ l) (p ∙ ap (λ (bs : List ℕ). pairs bs ++ (10 ∷ [])) b)
     ∙ sym (text-is k (addressOf (bytesOf t)) (dataOf (bytesOf t)))
 
-is-line : (text : List ℕ) → isShaped text ≡ true → isSummed (bytes text) ≡ true → IsLine text (getD text 1 0) (addressOf (bytes text)) (dataOf (bytes text))
-is-line text e f =
+is-line : (text : List ℕ) → Shaped text → isSummed (bytes text) ≡ true → IsLine text (getD text 1 0) (addressOf (bytes text)) (dataOf (bytes text))
+is-line text s f =
     let are = each-byte (drop 2 text) in
     let h = are-bytes (bytes text) are 1 in
     let l = are-bytes (bytes text) are 2 in
     record {
       address = omega arith;
       values = are-bytes (dataOf (bytes text)) (each-take (length (bytes text) - 4) (drop 3 (bytes text)) (each-drop 3 (bytes text) are));
-      count = rw (data-size text e) (shaped-may text e);
-      exact = text-exact text e f;
+      count = rw (s .width) (may-hold (s .may));
+      exact = text-exact text s f;
     }
 
--- the kind of a line that is neither S0 nor S9
-kind-1 : (kind n : ℕ) → eqb kind 48 ≡ false → eqb kind 57 ≡ false → mayHold kind n ≡ true → kind ≡ 49
-kind-1 kind n p q h = go (eqb kind 49) refl
+stands : (text : List ℕ) (kind a : ℕ) (d : List ℕ) → IsLine text kind a d → Held (length d) kind → Stands text (meant kind a d)
+stands text _ a d l (in-0 h) = (a, l)
+stands text _ a d l (in-9 e) = rw (empty d e) at l
+stands text _ a d l (in-1 h k) = go (leb (a + length d) 65536) refl
   where
-    go : (w : Bool) → eqb kind 49 ≡ w → kind ≡ 49
-    go true e = eqb-true kind 49 e
-    go false e = let z : false ≡ true = rw (p, e, q) at h in cc
-
-stands : (text : List ℕ) (kind a : ℕ) (d : List ℕ) → IsLine text kind a d → Stands text (meant kind a d)
-stands text kind a d l = go (eqb kind 48) refl (eqb kind 57) refl (leb (a + length d) 65536) refl
-  where
-    go : (u : Bool) → eqb kind 48 ≡ u → (v : Bool) → eqb kind 57 ≡ v → (w : Bool) → leb (a + length d) 65536 ≡ w → Stands text (meant kind a d)
-    go true p v q w r = rw p (a, rw (eqb-true kind 48 p) at l)
-    go false p true q w r =
-        let k = eqb-true kind 57 q in
-        let n = eqb-true (length d) 0 (rw k at (l .count)) in
-        rw (p, q) (rw (k, empty d n) at l)
-    go false p false q true r = rw (p, q, r) (rw (kind-1 kind (length d) p q (l .count)) at l)
-    go false p false q false r = rw (p, q, r) tt
-
-not-shaped : (text : List ℕ) → isShaped text ≡ false → lineOf text ≡ refused Shape
-unfolding lineOf
-not-shaped text e = rw e
-
-not-summed : (text : List ℕ) → isShaped text ≡ true → isSummed (bytes text) ≡ false → lineOf text ≡ refused Checksum
-unfolding lineOf
-not-summed text e f = rw (e, f)
+    go : (w : Bool) → leb (a + length d) 65536 ≡ w → Stands text (meant 49 a d)
+    go true r = rw r l
+    go false r = rw r tt
 
 pub line-exact : LineExact
-line-exact text = go (isShaped text) refl (isSummed (bytes text)) refl
+line-exact text = go (lineOf text) (found text)
   where
-    go : (u : Bool) → isShaped text ≡ u → (v : Bool) → isSummed (bytes text) ≡ v → Stands text (lineOf text)
-    go false p v q = rw (not-shaped text p) tt
-    go true p false q = rw (not-summed text p q) tt
-    go true p true q = rw (sound text p q) (stands text (getD text 1 0) (addressOf (bytes text)) (dataOf (bytes text)) (is-line text p q))
+    go : (m : Meaning) → Found text m → Stands text m
+    go _ (bad r) = tt
+    go _ (good s q) = stands text (getD text 1 0) (addressOf (bytes text)) (dataOf (bytes text)) (is-line text s q) (rw (s .width) (s .may))

@@ -9,8 +9,8 @@ use lib.ListN.{length}
 use Rattle.srecord.specs.File.{loadedOf, memoryAfter}
 use Rattle.srecord.specs.Written.{textFor, writtenOf, outputAfter}
 use Rattle.srecord.specs.Promises.{RefusedKeeps}
-use Rattle.srecord.specs.declared.Answer.the-variants.{Done, Refused}
-use Rattle.srecord.specs.declared.Refusal.{Refusal}
+use Rattle.answers.specs.declared.Answer.the-variants.{Done, Refused}
+use Rattle.answers.specs.declared.Refusal.{Refusal}
 
 memory-kept : (mem file : List ℕ) (r : Refusal) → loadedOf mem file .answer ≡ Refused r → memoryAfter mem file ≡ mem
 unfolding memoryAfter

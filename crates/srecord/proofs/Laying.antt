@@ -1,4 +1,4 @@
--- Lists that are stored one behind the other.
+-- Stores of lists one after the other.
 -- Assumes nothing.
 use Prim.Native.Nat.{ℕ, suc, _+_, _*_, _<_}
 use native.Mathlib.Omega.{arith}
@@ -9,12 +9,12 @@ use lib.Seq.{sets, length-take-le}
 use Rattle.srecord.specs.Text.{pair, pairs}
 use Rattle.srecord.proofs.Scan.{take-one}
 
--- what is stored behind another list
+-- two stores, the second right after the first, are one
 pub sets-two : (a b : ℕ) (d e m : List ℕ) → b ≡ a + length d → sets (sets m a d) b e ≡ sets m a (d ++ e)
 sets-two a b [] e m p = let q : b ≡ a = omega arith in rw q
 sets-two a b (v ∷ d) e m p = sets-two (suc a) b d e (set m a v) (omega arith)
 
--- one element more of a list that is stored from a on
+-- one more element of a list stored from index a on
 pub sets-more : (a i v : ℕ) (l m now : List ℕ) → i < length l → now ≡ sets m a (take i l) → v ≡ getD l i 0
     → set now (a + i) v ≡ sets m a (take (i + 1) l)
 sets-more a i v l m now h e f =
@@ -35,7 +35,7 @@ pub pairs-one : (b : ℕ) → pairs (b ∷ []) ≡ pair b
 unfolding pairs
 pairs-one b = refl
 
--- the pair of one byte more
+-- the digits of one more byte
 pub pairs-more : (a i : ℕ) (l m now : List ℕ) → i < length l → now ≡ sets m a (pairs (take i l))
     → sets now (a + 2 * i) (pair (getD l i 0)) ≡ sets m a (pairs (take (i + 1) l))
 pairs-more a i l m now h e =

@@ -1,24 +1,27 @@
 -- A file's lines, the first one split off; and what a line's answer says of its meaning.
 -- Assumes nothing.
-use Prim.Native.Nat.{ℕ, suc, _+_, _-_, _*_, _≤_, _<_}
+use Prim.Native.Nat.{ℕ, suc, _+_, _-_, _≤_, _<_}
 use native.Mathlib.Omega.{arith}
 use native.Mathlib.Decide.{ℕ-discrete}
-use mathlib.Core.Path.{_≡_, refl, sym, ap, _∙_}
+use mathlib.Core.Path.{_≡_, refl, sym, ap, _∙_, subst}
 use mathlib.Core.Bool.{Bool, true, false}
 use mathlib.Core.List.{List, [], _∷_, map}
-use lib.Dec.{eqb, leb}
+use lib.Dec.{leb}
 use lib.ListN.{length, getD, take, drop, length-drop, drop-of-length-le}
-use lib.Seq.{sets, length-sets, drop-drop, length-take-le}
+use lib.Seq.{sets, length-sets, drop-drop}
 use borrow.Author.Tests.{eq-eqb, ne-eqb, leb-true}
-use Rattle.srecord.specs.Text.{isPaired, bytesOf, valueOf, total}
 use Rattle.srecord.specs.Line.{Meaning, heading, piece, start, refused, bytes, isShaped, isSummed, addressOf, dataOf, meant, lineOf, shown}
 use Rattle.srecord.specs.File.{joined, linesOf, first, lineEnd, meaningsOf, failed, ended, judged, landed}
-use Rattle.srecord.specs.Written.{plainEnd}
-use Rattle.srecord.specs.declared.Line.the-variants.{Header, Data, End, Bad}
-use Rattle.srecord.specs.declared.Refusal.{Refusal}
-use Rattle.srecord.specs.declared.Refusal.the-variants.{Shape, Checksum, PastTop}
+use denote.Enum.Declared.{tagOf}
+use types.Run.{OneOf, miss}
+use Rattle.srecord.specs.declared.line.Line.{Line}
+use Rattle.srecord.proofs.line.Line.{the-type}
+use Rattle.srecord.specs.declared.line.Line.the-variants.{Header, Data, End, Bad}
+use Rattle.srecord.specs.declared.Loaded.{Loaded}
+use Rattle.answers.specs.declared.Refusal.{Refusal}
+use Rattle.answers.specs.declared.Refusal.the-variants.{LineShape, Checksum, PastTop}
 use Rattle.srecord.proofs.Scan.{first-joined}
-use Rattle.srecord.proofs.Shapes.{shaped-length, shaped-room}
+use Rattle.srecord.proofs.Shapes.{Held, in-0, in-1, in-9, Shaped, is-shaped}
 
 -- a text whose first n characters are its first line
 record Cut (t : List ℕ) (n : ℕ) : Type 0 where
@@ -78,56 +81,40 @@ pub no-lines : (file : List ℕ) (from : ℕ) → length file ≤ from → meani
 unfolding meaningsOf linesOf
 no-lines file from h = rw (drop-of-length-le file {i = from} h)
 
--- what an answer says
-pub on-header : (m : Meaning) (ms : List Meaning) → shown m ≡ Header → judged (m ∷ ms) ≡ judged ms
-unfolding judged
-on-header (heading d) ms e = refl
-on-header (piece a d) ms e = refl
-on-header (start a) ms e = let z : _≡_ {A = ℕ} 0 1 = cc in absurd (omega arith)
-on-header (refused r) ms e = let z : _≡_ {A = ℕ} 0 1 = cc in absurd (omega arith)
+-- the answer to a file, by what its first line shows
+abbrev pub answerBy : Line → List Meaning → Loaded
+answerBy Header ms = judged ms
+answerBy (Data a n) ms = judged ms
+answerBy (End a) ms = ended a ms
+answerBy (Bad r) ms = failed r
 
-pub on-data : (m : Meaning) (ms : List Meaning) (a n : ℕ) → shown m ≡ Data a n → judged (m ∷ ms) ≡ judged ms
+judge-one : (m : Meaning) (ms : List Meaning) → judged (m ∷ ms) ≡ answerBy (shown m) ms
 unfolding judged
-on-data (heading d) ms a n e = refl
-on-data (piece b d) ms a n e = refl
-on-data (start b) ms a n e = let z : _≡_ {A = ℕ} 0 1 = cc in absurd (omega arith)
-on-data (refused r) ms a n e = let z : _≡_ {A = ℕ} 0 1 = cc in absurd (omega arith)
+judge-one (heading d) ms = refl
+judge-one (piece a d) ms = refl
+judge-one (start a) ms = refl
+judge-one (refused r) ms = refl
 
-pub on-end : (m : Meaning) (ms : List Meaning) (a : ℕ) → shown m ≡ End a → judged (m ∷ ms) ≡ ended a ms
-unfolding judged
-on-end (heading d) ms a e = let z : _≡_ {A = ℕ} 0 1 = cc in absurd (omega arith)
-on-end (piece b d) ms a e = let z : _≡_ {A = ℕ} 0 1 = cc in absurd (omega arith)
-on-end (start b) ms a e = let f : b ≡ a = cc in rw f
-on-end (refused r) ms a e = let z : _≡_ {A = ℕ} 0 1 = cc in absurd (omega arith)
+pub judge-by : {l : Line} (m : Meaning) (ms : List Meaning) → shown m ≡ l → judged (m ∷ ms) ≡ answerBy l ms
+judge-by m ms e = judge-one m ms ∙ ap (λ (l : Line). answerBy l ms) e
 
-pub on-bad : (m : Meaning) (ms : List Meaning) (r : Refusal) → shown m ≡ Bad r → judged (m ∷ ms) ≡ failed r
-unfolding judged
-on-bad (heading d) ms r e = let z : _≡_ {A = ℕ} 0 1 = cc in absurd (omega arith)
-on-bad (piece b d) ms r e = let z : _≡_ {A = ℕ} 0 1 = cc in absurd (omega arith)
-on-bad (start b) ms r e = let z : _≡_ {A = ℕ} 0 1 = cc in absurd (omega arith)
-on-bad (refused s) ms r e = let f : s ≡ r = cc in rw f
+-- the judge goes on after S0 and S1, by their tags
+pub passed : (l : Line) (ms : List Meaning) → OneOf (0 ∷ 1 ∷ []) (tagOf the-type l) → answerBy l ms ≡ judged ms
+passed Header ms h = refl
+passed (Data a n) ms h = refl
+passed (End a) ms h = absurd (miss (0 ∷ 1 ∷ []) 2 tt h)
+passed (Bad r) ms h = absurd (miss (0 ∷ 1 ∷ []) 3 tt h)
 
--- a line that is no S1 leaves memory as it is
-pub lands-header : (m : Meaning) (ms : List Meaning) (mem : List ℕ) → shown m ≡ Header → landed (m ∷ ms) mem ≡ landed ms mem
+-- any other line than S1 stores nothing
+lands-none-of : (m : Meaning) (ms : List Meaning) (mem : List ℕ) → OneOf (0 ∷ 2 ∷ 3 ∷ []) (tagOf the-type (shown m)) → landed (m ∷ ms) mem ≡ landed ms mem
 unfolding landed
-lands-header (heading d) ms mem e = refl
-lands-header (piece a d) ms mem e = let z : _≡_ {A = ℕ} 0 1 = cc in absurd (omega arith)
-lands-header (start a) ms mem e = refl
-lands-header (refused r) ms mem e = refl
+lands-none-of (heading d) ms mem h = refl
+lands-none-of (piece a d) ms mem h = absurd (miss (0 ∷ 2 ∷ 3 ∷ []) 1 tt h)
+lands-none-of (start a) ms mem h = refl
+lands-none-of (refused r) ms mem h = refl
 
-pub lands-end : (m : Meaning) (ms : List Meaning) (mem : List ℕ) {b : ℕ} → shown m ≡ End b → landed (m ∷ ms) mem ≡ landed ms mem
-unfolding landed
-lands-end (heading d) ms mem e = refl
-lands-end (piece a d) ms mem e = let z : _≡_ {A = ℕ} 0 1 = cc in absurd (omega arith)
-lands-end (start a) ms mem e = refl
-lands-end (refused r) ms mem e = refl
-
-pub lands-bad : (m : Meaning) (ms : List Meaning) (mem : List ℕ) {r : Refusal} → shown m ≡ Bad r → landed (m ∷ ms) mem ≡ landed ms mem
-unfolding landed
-lands-bad (heading d) ms mem e = refl
-lands-bad (piece a d) ms mem e = let z : _≡_ {A = ℕ} 0 1 = cc in absurd (omega arith)
-lands-bad (start a) ms mem e = refl
-lands-bad (refused r) ms mem e = refl
+pub idle : {l : Line} (m : Meaning) (ms : List Meaning) (mem : List ℕ) → l ≡ shown m → OneOf (0 ∷ 2 ∷ 3 ∷ []) (tagOf the-type l) → landed (m ∷ ms) mem ≡ landed ms mem
+idle m ms mem e h = lands-none-of m ms mem (subst (λ (l : Line). OneOf (0 ∷ 2 ∷ 3 ∷ []) (tagOf the-type l)) e h)
 
 pub lands-none : (mem : List ℕ) → landed [] mem ≡ mem
 unfolding landed
@@ -137,57 +124,54 @@ pub lands : (m : Meaning) (ms : List Meaning) (mem : List ℕ) (a : ℕ) (d : Li
 unfolding landed
 lands m ms mem a d e = rw e
 
-pub plain-end : shown (lineOf plainEnd) ≡ End 0
-unfolding lineOf isShaped isSummed isPaired bytesOf valueOf total
-plain-end = refl
-
-pub bad-shape : (text : List ℕ) → isShaped text ≡ false → Bad Shape ≡ shown (lineOf text)
-unfolding lineOf
-bad-shape text e = rw e
-
-pub bad-sum : (text : List ℕ) → isShaped text ≡ true → isSummed (bytes text) ≡ false → Bad Checksum ≡ shown (lineOf text)
-unfolding lineOf
-bad-sum text e f = rw (e, f)
-
 pub sound : (text : List ℕ) → isShaped text ≡ true → isSummed (bytes text) ≡ true → lineOf text ≡ meant (getD text 1 0) (addressOf (bytes text)) (dataOf (bytes text))
 unfolding lineOf
 sound text e f = rw (e, f)
+
+-- a line that is refused, or of the right shape and sum
+pub data Found (text : List ℕ) : Meaning → Type 0 where
+  bad : (r : Refusal) → Found text (refused r)
+  good : Shaped text → isSummed (bytes text) ≡ true → Found text (meant (getD text 1 0) (addressOf (bytes text)) (dataOf (bytes text)))
+
+pub found : (text : List ℕ) → Found text (lineOf text)
+unfolding lineOf
+found text = go (isShaped text) refl (isSummed (bytes text)) refl
+  where
+    go : (u : Bool) → isShaped text ≡ u → (v : Bool) → isSummed (bytes text) ≡ v → Found text (lineOf text)
+    go false p v q = rw p (bad LineShape)
+    go true p false q = rw (p, q) (bad Checksum)
+    go true p true q = rw (p, q) (good (is-shaped text p) q)
 
 -- an S1 line's data
 module _ (text : List ℕ) (a n : ℕ) where
   pub record IsData : Type 0 where
     pub means : lineOf text ≡ piece a (take n (drop 3 (bytes text)))
     pub fits : a + n ≤ 65536
-    pub room : 11 + 2 * n ≤ length text
+    pub room : 3 + n ≤ length (bytes text)
 
-  data-meant : (kind b : ℕ) (d : List ℕ) → shown (meant kind b d) ≡ Data a n → (meant kind b d ≡ piece b d) × ((b ≡ a) × ((length d ≡ n) × (b + length d ≤ 65536)))
-  data-meant kind b d e = go (eqb kind 48) refl (eqb kind 57) refl (leb (b + length d) 65536) refl
+  data-meant : (kind b : ℕ) (d : List ℕ) → Held (length d) kind → shown (meant kind b d) ≡ Data a n
+      → (meant kind b d ≡ piece b d) × ((b ≡ a) × ((length d ≡ n) × (b + length d ≤ 65536)))
+  data-meant _ b d (in-0 h) e = let z : _≡_ {A = ℕ} 0 1 = cc in absurd (omega arith)
+  data-meant _ b d (in-9 h) e = let z : _≡_ {A = ℕ} 0 1 = cc in absurd (omega arith)
+  data-meant _ b d (in-1 h k) e = go (leb (b + length d) 65536) refl
     where
-      go : (u : Bool) → eqb kind 48 ≡ u → (v : Bool) → eqb kind 57 ≡ v → (w : Bool) → leb (b + length d) 65536 ≡ w
-          → (meant kind b d ≡ piece b d) × ((b ≡ a) × ((length d ≡ n) × (b + length d ≤ 65536)))
-      go true p v q w r = let z : Data a n ≡ Header = sym e ∙ rw p in let y : _≡_ {A = ℕ} 0 1 = cc in absurd (omega arith)
-      go false p true q w r = let z : Data a n ≡ End b = sym e ∙ rw (p, q) in let y : _≡_ {A = ℕ} 0 1 = cc in absurd (omega arith)
-      go false p false q false r = let z : Data a n ≡ Bad PastTop = sym e ∙ rw (p, q, r) in let y : _≡_ {A = ℕ} 0 1 = cc in absurd (omega arith)
-      go false p false q true r =
-          let z : Data a n ≡ Data b (length d) = sym e ∙ rw (p, q, r) in
-          (rw (p, q, r), (cc, (cc, leb-true (b + length d) 65536 r)))
+      go : (w : Bool) → leb (b + length d) 65536 ≡ w → (meant 49 b d ≡ piece b d) × ((b ≡ a) × ((length d ≡ n) × (b + length d ≤ 65536)))
+      go false r = let z : Data a n ≡ Bad PastTop = sym e ∙ rw r in let y : _≡_ {A = ℕ} 0 1 = cc in absurd (omega arith)
+      go true r =
+          let z : Data a n ≡ Data b (length d) = sym e ∙ rw r in
+          (rw r, (cc, (cc, leb-true (b + length d) 65536 r)))
 
   pub data-line : shown (lineOf text) ≡ Data a n → IsData
-  data-line e = go (isShaped text) refl (isSummed (bytes text)) refl
+  data-line = go (lineOf text) refl (found text)
     where
-      go : (u : Bool) → isShaped text ≡ u → (v : Bool) → isSummed (bytes text) ≡ v → IsData
-      go false p v q = let z : Bad Shape ≡ Data a n = bad-shape text p ∙ e in let y : _≡_ {A = ℕ} 0 1 = cc in absurd (omega arith)
-      go true p false q = let z : Bad Checksum ≡ Data a n = bad-sum text p q ∙ e in let y : _≡_ {A = ℕ} 0 1 = cc in absurd (omega arith)
-      go true p true q =
-          let l = shaped-length text p in
-          let r = shaped-room text p in
-          let d = length-drop 3 (bytes text) in
-          let s = sound text p q in
-          let k = data-meant (getD text 1 0) (addressOf (bytes text)) (dataOf (bytes text)) (ap shown (sym s) ∙ e) in
-          let j = length-take-le (length (bytes text) - 4) (drop 3 (bytes text)) (omega arith) in
-          let m : length (bytes text) - 4 ≡ n = sym j ∙ k .1 .1 .0 in
+      go : (m : Meaning) → lineOf text ≡ m → Found text m → shown m ≡ Data a n → IsData
+      go _ f (bad r) e = let z : _≡_ {A = ℕ} 0 1 = cc in absurd (omega arith)
+      go _ f (good s q) e =
+          let k = data-meant (getD text 1 0) (addressOf (bytes text)) (dataOf (bytes text)) (rw (s .width) (s .may)) e in
+          let m : length (bytes text) - 4 ≡ n = sym (s .width) ∙ k .1 .1 .0 in
+          let r = s .room in
           record {
-            means = s ∙ k .0 ∙ rw (k .1 .0, m);
+            means = f ∙ k .0 ∙ rw (k .1 .0, m);
             fits = omega arith;
             room = omega arith;
           }

@@ -4,13 +4,13 @@ use Prim.Native.Nat.{ℕ, zero, suc, _+_, _-_, _*_, _/_, _%_, _^_, _≤_, _<_}
 use native.Mathlib.Omega.{arith}
 use native.Mathlib.Numerals.{add-one}
 use mathlib.Core.Path.{_≡_, refl, sym, ap, _∙_}
-use mathlib.Core.Bool.{Bool, true, false}
+use mathlib.Core.Bool.{true, false}
 use mathlib.Core.List.{List, [], _∷_, _++_, append-assoc, append-nil}
 use lib.ListN.{length, take, drop, length-append, length-drop}
 use lib.Seq.{sets, length-sets, length-take-le}
-use Rattle.srecord.specs.Text.{pair, pairs, total, summed, textOf, digitOf}
-use Rattle.srecord.specs.Written.{rowOf, isZero, rowText, rowsText, plainEnd}
-use Rattle.srecord.proofs.Laying.{sets-two, pairs-length}
+use Rattle.srecord.specs.Text.{pair, pairs, total, summed, textOf}
+use Rattle.srecord.specs.Written.{rowOf, isZero, rowText, rowsText}
+use Rattle.srecord.proofs.Laying.{sets-two, pairs-length, pairs-one}
 
 pub text-length : (kind a : ℕ) (d : List ℕ) → length (textOf kind a d) ≡ 11 + 2 * length d
 unfolding textOf
@@ -22,12 +22,12 @@ pub sum-fields : (c h l t : ℕ) (d : List ℕ) → t ≡ (total (c ∷ h ∷ l 
 unfolding total
 sum-fields c h l t d e = omega arith
 
--- the parts of a line, one sets other behind the
+-- the parts of a line, each stored right after the one before
 module _ (at kind a sum : ℕ) (d out o₁ o₂ o₃ o₄ o₅ : List ℕ)
     (e₁ : o₁ ≡ sets out at (83 ∷ kind ∷ []))
     (e₂ : o₂ ≡ sets o₁ (at + 2) (pairs ((length d + 3) ∷ a / 256 ∷ a % 256 ∷ [])))
     (e₃ : o₃ ≡ sets o₂ (at + 8) (pairs d))
-    (e₄ : o₄ ≡ sets o₃ (at + 8 + 2 * length d) (pair (255 - sum)))
+    (e₄ : o₄ ≡ sets o₃ (at + 8 + 2 * length d) (pairs ((255 - sum) ∷ [])))
     (e₅ : o₅ ≡ sets o₄ (at + 8 + 2 * length d + 2) (10 ∷ []))
     (s : sum ≡ total (summed a d) % 256) where
   abbrev f : List ℕ
@@ -54,7 +54,7 @@ module _ (at kind a sum : ℕ) (d out o₁ o₂ o₃ o₄ o₅ : List ℕ)
       let m = pairs-length d in
       let k = length-append h f in
       let j = length-append (h ++ f) (pairs d) in
-      e₄ ∙ rw three (sets-two at (at + 8 + 2 * length d) ((h ++ f) ++ pairs d) (pair (255 - sum)) out (omega arith))
+      e₄ ∙ rw (three, pairs-one (255 - sum)) (sets-two at (at + 8 + 2 * length d) ((h ++ f) ++ pairs d) (pair (255 - sum)) out (omega arith))
 
   pub line-put : o₅ ≡ sets out at (textOf kind a d)
   unfolding textOf pairs
@@ -69,35 +69,28 @@ module _ (at kind a sum : ℕ) (d out o₁ o₂ o₃ o₄ o₅ : List ℕ)
       let same : ((((h ++ f) ++ pairs d) ++ pair (255 - sum)) ++ (10 ∷ [])) ≡ textOf kind a d = rw s (ap (λ (l : List ℕ). (h ++ f) ++ l) (append-assoc (pairs d) (pair (255 - total (summed a d) % 256)) (10 ∷ []))) in
       e₅ ∙ last ∙ ap (λ (l : List ℕ). sets out at l) same
 
-pub plain-text : textOf 57 0 [] ≡ plainEnd
-unfolding textOf pairs digitOf total
-plain-text = refl
+-- row k as a part of memory: its start and end are 32 k and 32 k + 32
+pub row-part : (mem : List ℕ) (k : ℕ) → take (32 * k + 32 - 32 * k) (drop (32 * k) mem) ≡ rowOf mem k
+row-part mem k = let e : 32 * k + 32 - 32 * k ≡ 32 = omega arith in rw e
 
--- the rows of memory
-module _ (mem : List ℕ) (k w : ℕ) (wide : w ≡ 32) (z : Bool) (e : z ≡ isZero (take w (drop (32 * k) mem))) where
-  pub row-skip : z ≡ true → rowsText mem (k + 1) ≡ rowsText mem k
+module _ (mem : List ℕ) (k : ℕ) where
+  pub row-skip : isZero (rowOf mem k) ≡ true → rowsText mem (k + 1) ≡ rowsText mem k
   unfolding rowsText rowText
-  row-skip t =
-      let f : isZero (rowOf mem k) ≡ true = ap (λ (v : ℕ). isZero (take v (drop (32 * k) mem))) (sym wide) ∙ sym e ∙ t in
-      rw (add-one k) (rw f (append-nil (rowsText mem k)))
+  row-skip z = rw (add-one k) (rw z (append-nil (rowsText mem k)))
 
-  pub row-more : z ≡ false → rowsText mem (k + 1) ≡ rowsText mem k ++ textOf 49 (32 * k) (take w (drop (32 * k) mem))
+  pub row-more : isZero (rowOf mem k) ≡ false → rowsText mem (k + 1) ≡ rowsText mem k ++ textOf 49 (32 * k) (rowOf mem k)
   unfolding rowsText rowText
-  row-more t =
-      let f : isZero (rowOf mem k) ≡ false = ap (λ (v : ℕ). isZero (take v (drop (32 * k) mem))) (sym wide) ∙ sym e ∙ t in
-      rw (add-one k) (rw (f, wide))
+  row-more z = rw (add-one k) (rw z)
 
   module _ (full : length mem ≡ 65536) (h : k < 2048) where
-    pub row-width : length (take w (drop (32 * k) mem)) ≡ 32
-    row-width =
-        let d = length-drop (32 * k) mem in
-        length-take-le w (drop (32 * k) mem) (omega arith) ∙ wide
+    pub row-width : length (rowOf mem k) ≡ 32
+    row-width = let d = length-drop (32 * k) mem in length-take-le 32 (drop (32 * k) mem) (omega arith)
 
-    pub row-length : z ≡ false → length (rowsText mem (k + 1)) ≡ length (rowsText mem k) + 75
-    row-length t =
+    pub row-length : isZero (rowOf mem k) ≡ false → length (rowsText mem (k + 1)) ≡ length (rowsText mem k) + 75
+    row-length z =
         let n = row-width in
-        let m = text-length 49 (32 * k) (take w (drop (32 * k) mem)) in
-        ap length (row-more t) ∙ length-append (rowsText mem k) (textOf 49 (32 * k) (take w (drop (32 * k) mem))) ∙ omega arith
+        let m = text-length 49 (32 * k) (rowOf mem k) in
+        ap length (row-more z) ∙ length-append (rowsText mem k) (textOf 49 (32 * k) (rowOf mem k)) ∙ omega arith
 
 pub rows-none : (mem : List ℕ) → rowsText mem 0 ≡ []
 unfolding rowsText
@@ -115,26 +108,23 @@ pub rows-grow : (mem : List ℕ) (j n : ℕ) → j ≤ n → length (rowsText me
 rows-grow mem j n h = let e : j + (n - j) ≡ n = omega arith in rw e at (grow mem j (n - j))
 
 -- a turn of the writer's loop
-module _ (mem : List ℕ) (k w : ℕ) (wide : w ≡ 32) (z : Bool) (e : z ≡ isZero (take w (drop (32 * k) mem))) (full : length mem ≡ 65536) (h : k < 2048)
-    (at : ℕ) (out out₀ : List ℕ) (p : at ≡ length (rowsText mem k)) (q : length out ≡ length out₀) (o : out ≡ sets out₀ 0 (rowsText mem k)) where
+module _ (mem : List ℕ) (k at : ℕ) (out out₀ : List ℕ) (p : at ≡ length (rowsText mem k)) (q : length out ≡ length out₀) (o : out ≡ sets out₀ 0 (rowsText mem k)) where
   pub record Turned (at′ : ℕ) (out′ : List ℕ) : Type 0 where
     pub ends : at′ ≡ length (rowsText mem (k + 1))
     pub keeps : length out′ ≡ length out₀
     pub holds : out′ ≡ sets out₀ 0 (rowsText mem (k + 1))
 
-  pub turn-skip : (at′ : ℕ) (out′ : List ℕ) → at′ ≡ at → out′ ≡ out → z ≡ true → Turned at′ out′
-  turn-skip at′ out′ f g t =
-      let r = row-skip mem k w wide z e t in
+  pub turn-skip : (at′ : ℕ) (out′ : List ℕ) → at′ ≡ at → out′ ≡ out → isZero (rowOf mem k) ≡ true → Turned at′ out′
+  turn-skip at′ out′ f g z =
+      let r = row-skip mem k z in
       record { ends = f ∙ p ∙ ap length (sym r); keeps = ap length g ∙ q; holds = g ∙ o ∙ ap (λ (l : List ℕ). sets out₀ 0 l) (sym r) }
 
-  pub turn-more : (at′ : ℕ) (out′ : List ℕ) → at′ ≡ at + 75 → out′ ≡ sets out at (textOf 49 (32 * k) (take w (drop (32 * k) mem))) → z ≡ false → Turned at′ out′
-  turn-more at′ out′ f g t =
-      let r = row-more mem k w wide z e t in
-      let l = row-length mem k w wide z e full h t in
-      let n = row-width mem k w wide z e full h in
-      let m = text-length 49 (32 * k) (take w (drop (32 * k) mem)) in
+  pub turn-more : (at′ : ℕ) (out′ : List ℕ) → at′ ≡ at + 75 → out′ ≡ sets out at (textOf 49 (32 * k) (rowOf mem k)) → length mem ≡ 65536 → k < 2048
+      → isZero (rowOf mem k) ≡ false → Turned at′ out′
+  turn-more at′ out′ f g full h z =
+      let l = row-length mem k full h z in
       record {
         ends = omega arith;
-        keeps = ap length g ∙ length-sets out at (textOf 49 (32 * k) (take w (drop (32 * k) mem))) ∙ q;
-        holds = g ∙ rw (o, r) (sets-two 0 at (rowsText mem k) (textOf 49 (32 * k) (take w (drop (32 * k) mem))) out₀ (omega arith));
+        keeps = ap length g ∙ length-sets out at (textOf 49 (32 * k) (rowOf mem k)) ∙ q;
+        holds = g ∙ rw (o, row-more mem k z) (sets-two 0 at (rowsText mem k) (textOf 49 (32 * k) (rowOf mem k)) out₀ (omega arith));
       }

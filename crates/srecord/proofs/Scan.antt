@@ -1,17 +1,16 @@
 -- What a turn of each loop over characters does, and where it ends.
 -- Assumes nothing.
-use Prim.Native.Nat.{ℕ, suc, _+_, _%_, _^_, _≤_, _<_}
+use Prim.Native.Nat.{ℕ, _+_, _%_, _^_, _≤_, _<_}
 use native.Mathlib.Numerals.{add-one}
 use native.Mathlib.Omega.{arith}
-use mathlib.Core.Path.{_≡_, refl, ap, _∙_}
+use mathlib.Core.Path.{_≡_, refl, _∙_}
 use mathlib.Core.Bool.{Bool, true, false, _&&_}
 use mathlib.Core.List.{List, [], _∷_, _++_}
 use lib.Dec.{eqb}
-use borrow.Author.Tests.{eq-eqb, ne-eqb, eqb-true}
-use Rattle.srecord.proofs.Bools.{and-false, and-parts}
+use borrow.Author.Tests.{eq-eqb, ne-eqb}
 use lib.ListN.{length, getD, take, drop, drop-of-length-le}
 use lib.Seq.{drop-cons, take-suc}
-use Rattle.srecord.specs.Text.{isDigit, isPaired, total, isSame}
+use Rattle.srecord.specs.Text.{isDigit, isPaired, total}
 use Rattle.srecord.specs.File.{first, joined, linesOf, lineEnd}
 use Rattle.srecord.specs.Written.{isZero}
 
@@ -80,26 +79,6 @@ module _ (text : List ℕ) (i : ℕ) where
   unfolding isZero
   zero-none h = rw (drop-of-length-le text {i = i} h)
 
-  pub same-not : (other : List ℕ) → i < length text → i < length other → (getD text i 0 ≡ getD other i 0 → ⊥) → isSame (drop i text) (drop i other) ≡ false
-  unfolding isSame
-  same-not other h k n = rw (drop-one text i h, drop-one other i k, ne-eqb (getD text i 0) (getD other i 0) n)
-
-  pub same-on : (other : List ℕ) → i < length text → i < length other → getD text i 0 ≡ getD other i 0
-      → isSame (drop i text) (drop i other) ≡ isSame (drop (i + 1) text) (drop (i + 1) other)
-  unfolding isSame
-  same-on other h k e = rw (drop-one text i h, drop-one other i k, eq-eqb (getD text i 0) (getD other i 0) e)
-
-  pub same-none : (other : List ℕ) → length text ≤ i → length other ≤ i → isSame (drop i text) (drop i other) ≡ true
-  unfolding isSame
-  same-none other h k = rw (drop-of-length-le text {i = i} h, drop-of-length-le other {i = i} k)
-
-pub same-lengths : (a b : List ℕ) → (length a ≡ length b → ⊥) → isSame a b ≡ false
-unfolding isSame
-same-lengths [] [] n = absurd (n refl)
-same-lengths [] (b ∷ m) n = refl
-same-lengths (a ∷ l) [] n = refl
-same-lengths (a ∷ l) (b ∷ m) n = rw (same-lengths l m (λ e. n (ap suc e))) (and-false (eqb a b))
-
 pub total-more : (l : List ℕ) (b : ℕ) → total (l ++ (b ∷ [])) ≡ total l + b
 unfolding total
 total-more [] b = omega arith
@@ -110,12 +89,3 @@ pub sum-more : (l : List ℕ) (i sum b : ℕ) → i < length l → sum ≡ total
 sum-more l i sum b h e f =
     let t = total-more (take i l) (getD l i 0) in
     rw (take-one l i h) (omega arith)
-
-pub same-true : (a b : List ℕ) → isSame a b ≡ true → a ≡ b
-unfolding isSame
-same-true [] [] e = refl
-same-true [] (b ∷ m) e = cc
-same-true (a ∷ l) [] e = cc
-same-true (a ∷ l) (b ∷ m) e =
-    let p = and-parts (eqb a b) (isSame l m) e in
-    rw (eqb-true a b (p .0), same-true l m (p .1))

@@ -3,19 +3,18 @@
 use Prim.Native.Nat.{ℕ, zero, suc, _+_, _-_, _/_, _%_, _≤_, _<_}
 use native.Mathlib.Omega.{arith}
 use mathlib.Core.Path.{_≡_, refl, sym, ap, _∙_}
-use mathlib.Core.Bool.{Bool, true, false}
+use mathlib.Core.Bool.{true}
 use mathlib.Core.List.{List, [], _∷_, _++_, append-assoc}
-use lib.Dec.{eqb, leb}
 use lib.ListN.{length, take, drop, length-append}
 use lib.Seq.{take-append-seam, getD-append-seam}
-use borrow.Author.Tests.{eq-eqb, le-leb, leb-true, eqb-true}
+use borrow.Author.Tests.{eq-eqb, le-leb}
 use Rattle.srecord.specs.Text.{pair, pairs, isPaired, bytesOf, checksum, summed, textOf}
 use Rattle.srecord.specs.Line.{most, mayHold, isShaped, isSummed, bytes, addressOf, dataOf, meant, lineOf}
 use Rattle.srecord.specs.Promises.{Bytes, LineReads}
-use Rattle.srecord.proofs.Bools.{and-parts}
 use Rattle.srecord.proofs.Digits.{is-digit, byte-pair}
 use Rattle.srecord.proofs.Laying.{pairs-append, pairs-one}
 use Rattle.srecord.proofs.Lines.{sound}
+use Rattle.srecord.proofs.Shapes.{Held, in-0, in-1, in-9, held}
 
 -- every element is a byte, one by one
 abbrev pub Each : List ℕ → Type 0
@@ -51,20 +50,11 @@ pub bytes-append : (l m : List ℕ) → Each l → Each m → Each (l ++ m)
 bytes-append [] m h k = k
 bytes-append (b ∷ l) m h k = (h .0, bytes-append l m (h .1) k)
 
--- the kinds, and how many data bytes each may have
-pub hold-kinds : (kind n : ℕ) → mayHold kind n ≡ true → (10 < kind) × (n ≤ most)
-hold-kinds kind n h = go (eqb kind 48) refl (eqb kind 49) refl
-  where
-    go : (u : Bool) → eqb kind 48 ≡ u → (v : Bool) → eqb kind 49 ≡ v → (10 < kind) × (n ≤ most)
-    go true e v f = let k = eqb-true kind 48 e in (omega arith, leb-true n most (rw e at h))
-    go false e true f =
-        let k = eqb-true kind 49 f in
-        (omega arith, leb-true n most (and-parts (leb 1 n) (leb n most) (rw (e, f) at h) .1))
-    go false e false f =
-        let p = and-parts (eqb kind 57) (eqb n 0) (rw (e, f) at h) in
-        let k = eqb-true kind 57 (p .0) in
-        let z = eqb-true n 0 (p .1) in
-        (omega arith, omega arith)
+-- a kind is no line feed, and the data are not too many
+pub hold-kinds : {kind n : ℕ} → Held n kind → (10 < kind) × (n ≤ most)
+hold-kinds (in-0 h) = (omega arith, h)
+hold-kinds (in-1 h k) = (omega arith, k)
+hold-kinds (in-9 h) = (omega arith, omega arith)
 
 -- all bytes of a line
 abbrev pub allBytes : ℕ → List ℕ → List ℕ
@@ -85,7 +75,7 @@ module _ (kind a : ℕ) (d : List ℕ) (low : a < 65536) (are : Each d) (may : m
 
   pub are-bytes : Each all
   are-bytes =
-      let n = hold-kinds kind (length d) may .1 in
+      let n = hold-kinds (held kind (length d) may) .1 in
       (omega arith, (omega arith, (omega arith, bytes-append d (sum ∷ []) are (omega arith, tt))))
 
   all-length : length all ≡ length d + 4

@@ -8,11 +8,11 @@ use lib.ListN.{length, drop}
 use lib.Seq.{sets}
 use Rattle.srecord.specs.Text.{lineFeed}
 use Rattle.srecord.specs.Line.{Meaning, heading, piece, start, refused, lineOf}
-use Rattle.srecord.specs.declared.Answer.{Answer}
-use Rattle.srecord.specs.declared.Answer.the-variants.{Done, Refused}
+use Rattle.answers.specs.declared.Answer.{Answer}
+use Rattle.answers.specs.declared.Answer.the-variants.{Done, Refused}
 use Rattle.srecord.specs.declared.Loaded.{Loaded}
-use Rattle.srecord.specs.declared.Refusal.{Refusal}
-use Rattle.srecord.specs.declared.Refusal.the-variants.{MemoryLength, Shape, NoEnd}
+use Rattle.answers.specs.declared.Refusal.{Refusal}
+use Rattle.answers.specs.declared.Refusal.the-variants.{MemoryLength, LineShape, NoEnd}
 
 -- a character before the lines that follow it
 abbrev pub joined : ℕ → List (List ℕ) → List (List ℕ)
@@ -45,7 +45,7 @@ failed r = record { start = 0; answer = Refused r }
 -- S9 and nothing after it
 abbrev pub ended : ℕ → List Meaning → Loaded
 ended a [] = done a
-ended a (m ∷ ms) = failed Shape
+ended a (m ∷ ms) = failed LineShape
 
 -- the first bad line decides, and a line after S9 is bad; if none is, there has to be an S9
 unfoldable pub judged : List Meaning → Loaded

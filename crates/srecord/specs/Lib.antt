@@ -1,4 +1,3 @@
-pub mod Answers
 pub mod Text
 pub mod Line
 pub mod File

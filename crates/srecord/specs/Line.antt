@@ -1,15 +1,15 @@
 -- What one line means: its kind, address and data, or why it is refused. A line is its text with its line feed.
 -- Assumes nothing.
 use Prim.Native.Nat.{ℕ, _+_, _-_, _*_}
-use mathlib.Core.Bool.{Bool, true, false, cond, _&&_, _||_}
+use mathlib.Core.Bool.{Bool, cond, _&&_}
 use mathlib.Core.List.{List}
 use lib.Dec.{eqb, leb}
 use lib.ListN.{length, getD, take, drop}
 use Rattle.srecord.specs.Text.{letterS, kind0, kind1, kind9, isPaired, bytesOf, checksum}
-use Rattle.srecord.specs.declared.Line.{Line}
-use Rattle.srecord.specs.declared.Line.the-variants.{Header, Data, End, Bad}
-use Rattle.srecord.specs.declared.Refusal.{Refusal}
-use Rattle.srecord.specs.declared.Refusal.the-variants.{Shape, Checksum, PastTop}
+use Rattle.srecord.specs.declared.line.Line.{Line}
+use Rattle.srecord.specs.declared.line.Line.the-variants.{Header, Data, End, Bad}
+use Rattle.answers.specs.declared.Refusal.{Refusal}
+use Rattle.answers.specs.declared.Refusal.the-variants.{LineShape, Checksum, PastTop}
 
 pub data Meaning : Type 0 where
   -- S0: its data lands nowhere
@@ -59,7 +59,7 @@ unfoldable pub lineOf : List ℕ → Meaning
 lineOf text =
     cond (isShaped text)
     (cond (isSummed (bytes text)) (meant (getD text 1 0) (addressOf (bytes text)) (dataOf (bytes text))) (refused Checksum))
-    (refused Shape)
+    (refused LineShape)
 
 -- what `line_of` answers: of the data, how many
 abbrev pub shown : Meaning → Line

@@ -9,8 +9,8 @@ use Rattle.srecord.specs.Text.{kind0, kind1, kind9, textOf}
 use Rattle.srecord.specs.Line.{Meaning, heading, piece, start, refused, mayHold, meant, lineOf}
 use Rattle.srecord.specs.File.{done, loadedOf, memoryAfter}
 use Rattle.srecord.specs.Written.{textFor, writtenOf, outputAfter}
-use Rattle.srecord.specs.declared.Answer.the-variants.{Refused}
-use Rattle.srecord.specs.declared.Refusal.{Refusal}
+use Rattle.answers.specs.declared.Answer.the-variants.{Refused}
+use Rattle.answers.specs.declared.Refusal.{Refusal}
 
 -- every element is a byte
 abbrev pub Bytes : List ℕ → Type 0

@@ -1,7 +1,7 @@
 -- The text of an S-record line: S, the kind's digit, two capital hex digits for each byte (count, address, data, checksum), a line feed.
 -- Assumes nothing.
 use Prim.Native.Nat.{ℕ, _+_, _-_, _*_, _/_, _%_}
-use mathlib.Core.Bool.{Bool, true, false, cond, _&&_, _||_}
+use mathlib.Core.Bool.{Bool, false, cond, _&&_, _||_}
 use mathlib.Core.List.{List, [], _∷_, _++_}
 use lib.Dec.{eqb, leb, ltb}
 use lib.ListN.{length}
@@ -76,10 +76,3 @@ summed a d = (length d + 3) ∷ a / 256 ∷ a % 256 ∷ d
 
 unfoldable pub textOf : ℕ → ℕ → List ℕ → List ℕ
 textOf kind a d = letterS ∷ kind ∷ (pairs (summed a d) ++ (pair (checksum (summed a d)) ++ (lineFeed ∷ [])))
-
--- whether two texts are the same
-unfoldable pub isSame : List ℕ → List ℕ → Bool
-isSame [] [] = true
-isSame [] (b ∷ m) = false
-isSame (a ∷ l) [] = false
-isSame (a ∷ l) (b ∷ m) = eqb a b && isSame l m

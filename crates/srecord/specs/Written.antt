@@ -7,10 +7,10 @@ use lib.Dec.{eqb, ltb}
 use lib.ListN.{length, take, drop}
 use lib.Seq.{sets}
 use Rattle.srecord.specs.Text.{kind1, kind9, textOf}
-use Rattle.srecord.specs.declared.Answer.the-variants.{Done, Refused}
-use Rattle.srecord.specs.declared.Refusal.{Refusal}
-use Rattle.srecord.specs.declared.Refusal.the-variants.{MemoryLength, OutputShort}
-use Rattle.srecord.specs.declared.Written.{Written}
+use Rattle.answers.specs.declared.Answer.the-variants.{Done, Refused}
+use Rattle.answers.specs.declared.Refusal.{Refusal}
+use Rattle.answers.specs.declared.Refusal.the-variants.{MemoryLength, OutputShort}
+use Rattle.srecord.specs.declared.written.Written.{Written}
 
 -- the k-th 32 bytes of memory
 abbrev pub rowOf : List ℕ → ℕ → List ℕ
@@ -32,10 +32,6 @@ rowsText mem (suc k) = rowsText mem k ++ rowText mem k
 -- all 2,048 rows, and S9
 unfoldable pub textFor : List ℕ → ℕ → List ℕ
 textFor mem a = rowsText mem 2048 ++ textOf kind9 a []
-
--- the line S9030000FC
-abbrev pub plainEnd : List ℕ
-plainEnd = 83 ∷ 57 ∷ 48 ∷ 51 ∷ 48 ∷ 48 ∷ 48 ∷ 48 ∷ 70 ∷ 67 ∷ 10 ∷ []
 
 abbrev pub stopped : Refusal → Written
 stopped r = record { count = 0; answer = Refused r }

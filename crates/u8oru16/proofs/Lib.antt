@@ -1,4 +1,3 @@
 pub mod Signed
 pub mod Shapes
-pub mod Determined
 pub mod Unique

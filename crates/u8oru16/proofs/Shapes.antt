@@ -9,20 +9,21 @@ use native.Mathlib.Omega.{arith}
 use lib.Dec.{eqb}
 use lib.ListN.{length, set, drop}
 use borrow.Author.Tests.{eq-eqb, ne-eqb}
+use Rattle.answers.specs.declared.Refusal.the-variants.{DivisionByZero}
 use Rattle.u8oru16.specs.Value.{isByte, valueOf, lowByte}
 use Rattle.u8oru16.specs.Answers.{sized}
-use Rattle.u8oru16.specs.declared.Answer.{Answer}
-use Rattle.u8oru16.specs.declared.Answer.the-variants.{Value, ByZero}
+use Rattle.u8oru16.specs.declared.Valued.{Valued}
+use Rattle.u8oru16.specs.declared.Valued.the-variants.{Value, Refused}
 use Rattle.u8oru16.specs.declared.u8u16.{u8u16}
 use Rattle.u8oru16.specs.declared.u8u16.the-variants.{u8, u16}
 
 -- the answer of `div` or `modulo`, f being `/` or `%`
-abbrev parted : (ℕ → ℕ → ℕ) → u8u16 → u8u16 → Answer
-parted f a b = cond (eqb (valueOf b) 0) ByZero (Value (sized a b (f (valueOf a) (valueOf b))))
+abbrev parted : (ℕ → ℕ → ℕ) → u8u16 → u8u16 → Valued
+parted f a b = cond (eqb (valueOf b) 0) (Refused DivisionByZero) (Value (sized a b (f (valueOf a) (valueOf b))))
 
 -- what the code has found when it answers: the right side u and whether it is 0, and whether both are bytes
 module _ (f : ℕ → ℕ → ℕ) (a b : u8u16) {u : ℕ} (value : u ≡ valueOf b) where
-  pub by-zero : u ≡ 0 → ByZero ≡ parted f a b
+  pub by-zero : u ≡ 0 → Refused DivisionByZero ≡ parted f a b
   by-zero e = rw (eq-eqb (valueOf b) 0 (sym value ∙ e))
 
   module _ (some : u ≢ 0) {i j : Bool} (left : i ≡ isByte a) (right : j ≡ isByte b) where

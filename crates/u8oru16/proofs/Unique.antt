@@ -3,13 +3,13 @@
 use mathlib.Core.Path.{refl, sym, ap, _∙_}
 use mathlib.Core.List.{List}
 use Prim.Native.Nat.{ℕ}
-use Rattle.u8oru16.proofs.Determined.{Determines}
-use Rattle.u8oru16.proofs.Answer
+use Rattle.answers.proofs.Determined.{Determines}
+use Rattle.u8oru16.proofs.Valued
 use Rattle.u8oru16.proofs.Written
 use Rattle.u8oru16.proofs.u8u16
 
-pub answer-number : Determines 0 Answer.number.Kinds.ps Answer.number.Kinds.r Answer.number.Reads.Post
-answer-number κs a x y ws vs p q = (p ∙ sym q, refl)
+pub valued-number : Determines 0 Valued.number.Kinds.ps Valued.number.Kinds.r Valued.number.Reads.Post
+valued-number κs a x y ws vs p q = (p ∙ sym q, refl)
 
 pub written-number : Determines 0 Written.number.Kinds.ps Written.number.Kinds.r Written.number.Reads.Post
 written-number κs a x y ws vs p q = (p ∙ sym q, refl)

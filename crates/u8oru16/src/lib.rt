@@ -2,7 +2,8 @@
 ghost use mathlib.Core.Path.{_≡_};
 ghost use Rattle.u8oru16.specs.Value.{sizeOf, valueOf, isByte, lowByte, highByte, joined, shrunk, signedOf};
 ghost use Rattle.u8oru16.specs.Negated.{negated, negatedWide, forced, extended};
-ghost use Rattle.u8oru16.specs.Answers.{numberOf, numberOfWritten, offsetBy, divided, remainder, writtenOf, bytesWritten};
+ghost use Rattle.u8oru16.specs.Answers.{numberOfValued, numberOfWritten, offsetBy, divided, remainder, writtenOf, bytesWritten};
+use answers::Refusal;
 
 pub enum u8u16 {
     u8(u8),
@@ -16,16 +17,15 @@ pub enum OptionU8 {
 }
 
 // What `signed_offset`, `div` and `modulo` answer.
-pub enum Answer {
+pub enum Valued {
     Value(u8u16),
-    ByZero,
-    LeftByte,
+    Refused(Refusal),
 }
 
 // What `get_as_bytes` answers.
 pub enum Written {
     Bytes(usize),
-    NoRoom,
+    Refused(Refusal),
 }
 
 // A value, and whether it left the range of its sign.
@@ -34,14 +34,13 @@ pub struct Negated {
     pub overflow: bool,
 }
 
-impl Answer {
+impl Valued {
     pub fn number(self) -> u8
-        ensures { λ r. ⌜ r ≡ numberOf self ⌝ }
+        ensures { λ r. ⌜ r ≡ numberOfValued self ⌝ }
     {
         match self {
-            Answer::Value(_) => 0,
-            Answer::ByZero => 13,
-            Answer::LeftByte => 14,
+            Valued::Value(_) => 0,
+            Valued::Refused(refusal) => refusal.number(),
         }
     }
 }
@@ -52,7 +51,7 @@ impl Written {
     {
         match self {
             Written::Bytes(_) => 0,
-            Written::NoRoom => 15,
+            Written::Refused(refusal) => refusal.number(),
         }
     }
 }
@@ -135,7 +134,7 @@ impl u8u16 {
         ensures { λ r. ⌜ now (buf .exit) ≡ bytesWritten self (now (buf .entry)) ⌝ }
     {
         if buf.len() < self.size() as usize {
-            return Written::NoRoom;
+            return Written::Refused(Refusal::NoRoom);
         }
         match self {
             u8u16::u8(b) => {
@@ -221,41 +220,41 @@ impl u8u16 {
         }
     }
 
-    pub fn signed_offset(self, rhs: Self) -> Answer
+    pub fn signed_offset(self, rhs: Self) -> Valued
         ensures { λ r. ⌜ r ≡ offsetBy self rhs ⌝ }
     {
         match self {
-            u8u16::u8(_) => Answer::LeftByte,
+            u8u16::u8(_) => Valued::Refused(Refusal::LeftByte),
             u8u16::u16(w) => {
                 let off = rhs.sign_extended().u16();
-                Answer::Value(u8u16::u16(std::num::wrapping_add_u16(w, off)))
+                Valued::Value(u8u16::u16(std::num::wrapping_add_u16(w, off)))
             }
         }
     }
 
-    pub fn div(self, rhs: Self) -> Answer
+    pub fn div(self, rhs: Self) -> Valued
         ensures { λ r. ⌜ r ≡ divided self rhs ⌝ }
     {
         if rhs.u16() == 0 {
-            return Answer::ByZero;
+            return Valued::Refused(Refusal::DivisionByZero);
         }
         if self.is_u8() & rhs.is_u8() {
-            Answer::Value(u8u16::u8(self.u8() / rhs.u8()))
+            Valued::Value(u8u16::u8(self.u8() / rhs.u8()))
         } else {
-            Answer::Value(u8u16::u16(self.u16() / rhs.u16()))
+            Valued::Value(u8u16::u16(self.u16() / rhs.u16()))
         }
     }
 
-    pub fn modulo(self, rhs: Self) -> Answer
+    pub fn modulo(self, rhs: Self) -> Valued
         ensures { λ r. ⌜ r ≡ remainder self rhs ⌝ }
     {
         if rhs.u16() == 0 {
-            return Answer::ByZero;
+            return Valued::Refused(Refusal::DivisionByZero);
         }
         if self.is_u8() & rhs.is_u8() {
-            Answer::Value(u8u16::u8(self.u8() % rhs.u8()))
+            Valued::Value(u8u16::u8(self.u8() % rhs.u8()))
         } else {
-            Answer::Value(u8u16::u16(self.u16() % rhs.u16()))
+            Valued::Value(u8u16::u16(self.u16() % rhs.u16()))
         }
     }
 }

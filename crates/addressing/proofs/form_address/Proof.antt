@@ -1,79 +1,24 @@
--- `form_address` meets its contract.
+-- An arm for each form.
 -- Assumes nothing.
 use borrow.Author.Needs.{needs}
 use Rattle.addressing.proofs.form_address.Statement.{statement}
 use Rattle.addressing.proofs.form_address.Tie as tie
 
-returns : tie.Need-returns
-returns c = rw (c .offset-by .ensures, c .before .enum-told .given .1, c .before .before .before .index-of .ensures)
-
-returns-2 : tie.Need-returns-2
-returns-2 c = rw (c .increment .ensures, c .before .enum-told2 .given .1, c .before .before .before .index-of .ensures)
-
-returns-3 : tie.Need-returns-3
-returns-3 c = rw (c .increment2 .ensures, c .before .enum-told3 .given .1, c .before .before .before .index-of .ensures)
-
-returns-4 : tie.Need-returns-4
-returns-4 c = rw (c .decrement .ensures, c .before .enum-told4 .given .1, c .before .before .before .index-of .ensures)
-
-returns-5 : tie.Need-returns-5
-returns-5 c = rw (c .decrement2 .ensures, c .before .enum-told5 .given .1, c .before .before .before .index-of .ensures)
-
-returns-6 : tie.Need-returns-6
-returns-6 c =
-    rw (
-      c .at-address .ensures,
-      c .before .index .ensures,
-      c .before .before .enum-told6 .given .1,
-      c .before .before .before .before .index-of .ensures,
-    )
-
-returns-7 : tie.Need-returns-7
-returns-7 c =
-    rw (
-      c .offset-by2 .ensures,
-      c .before .signed-byte .ensures,
-      c .before .before .enum-told7 .given .1,
-      c .before .before .before .before .index-of .ensures,
-    )
-
-returns-8 : tie.Need-returns-8
-returns-8 c =
-    rw (
-      c .offset-by3 .ensures,
-      c .before .signed-byte2 .ensures,
-      c .before .before .enum-told8 .given .1,
-      c .before .before .before .before .index-of .ensures,
-    )
-
-returns-9 : tie.Need-returns-9
-returns-9 c = rw (c .offset-by4 .ensures, c .before .enum-told9 .given .1, c .before .before .before .index-of .ensures)
-
-returns-10 : tie.Need-returns-10
-returns-10 c = rw (c .offset-by5 .ensures, c .before .enum-told10 .given .1, c .before .before .before .index-of .ensures)
-
-returns-11 : tie.Need-returns-11
-returns-11 c =
-    rw (
-      c .offset-by6 .ensures,
-      c .before .index2 .ensures,
-      c .before .before .enum-told11 .given .1,
-      c .before .before .before .before .index-of .ensures,
-    )
-
-returns-12 : tie.Need-returns-12
-returns-12 c = rw (c .program-relative .ensures, c .before .enum-told12 .given .1)
-
-returns-13 : tie.Need-returns-13
-returns-13 c = rw (c .program-relative2 .ensures, c .before .enum-told13 .given .1)
-
-returns-14 : tie.Need-returns-14
-returns-14 c = rw (c .at-address2 .ensures, c .before .enum-told14 .given .1)
-
-returns-15 : tie.Need-returns-15
-returns-15 c = rw (c .at-address3 .ensures, c .before .enum-told15 .given .1)
-
 pub form-address-spec : {M : Type 1} → statement M
 form-address-spec =
     tie.close
-    (tie.spec (search needs) (search needs) (search needs) (search needs) (search needs) (search needs) (search needs) (search needs) (search needs) (search needs) (search needs) (search needs) (search needs) (search needs) (search needs) (search needs) (search needs) (search needs) (search needs) (search needs) (search needs) (search needs) (search needs) (search needs) (search needs) (search needs) (search needs) (search needs) (search needs) (search needs) (search needs) (search needs) (search needs) (search needs) (search needs) returns returns-2 returns-3 returns-4 returns-5 returns-6 returns-7 returns-8 returns-9 returns-10 returns-11 returns-12 returns-13 returns-14 returns-15)
+    (tie.spec (search needs) (search needs) (search needs) (search needs) (search needs) (search needs) (search needs) (search needs) (search needs) (search needs) (search needs) (search needs) (search needs) (search needs) (search needs) (search needs) (search needs) (search needs) (search needs) (search needs) (search needs) (search needs) (search needs) (search needs) (search needs) (search needs) (search needs) (search needs) (search needs) (search needs) (search needs) (search needs) (search needs) (search needs)
+    (λ c. rw (c .offset-by .ensures, c .before .enum-told .given .1, c .before .before .before .word .ensures, c .before .before .before .before .index-of .ensures))
+    (λ c. rw (c .increment .ensures, c .before .enum-told2 .given .1, c .before .before .before .word .ensures, c .before .before .before .before .index-of .ensures))
+    (λ c. rw (c .increment2 .ensures, c .before .enum-told3 .given .1, c .before .before .before .word .ensures, c .before .before .before .before .index-of .ensures))
+    (λ c. rw (c .decrement .ensures, c .before .enum-told4 .given .1, c .before .before .before .word .ensures, c .before .before .before .before .index-of .ensures))
+    (λ c. rw (c .decrement2 .ensures, c .before .enum-told5 .given .1, c .before .before .before .word .ensures, c .before .before .before .before .index-of .ensures))
+    (λ c. rw (c .at-address .ensures, c .before .word2 .ensures, c .before .before .enum-told6 .given .1, c .before .before .before .before .word .ensures, c .before .before .before .before .before .index-of .ensures))
+    (λ c. rw (c .offset-by2 .ensures, c .before .signed-byte .ensures, c .before .before .enum-told7 .given .1, c .before .before .before .before .word .ensures, c .before .before .before .before .before .index-of .ensures))
+    (λ c. rw (c .offset-by3 .ensures, c .before .signed-byte2 .ensures, c .before .before .enum-told8 .given .1, c .before .before .before .before .word .ensures, c .before .before .before .before .before .index-of .ensures))
+    (λ c. rw (c .offset-by4 .ensures, c .before .enum-told9 .given .1, c .before .before .before .word .ensures, c .before .before .before .before .index-of .ensures))
+    (λ c. rw (c .offset-by5 .ensures, c .before .enum-told10 .given .1, c .before .before .before .word .ensures, c .before .before .before .before .index-of .ensures))
+    (λ c. rw (c .offset-by6 .ensures, c .before .word3 .ensures, c .before .before .enum-told11 .given .1, c .before .before .before .before .word .ensures, c .before .before .before .before .before .index-of .ensures))
+    (λ c. rw (c .program-relative .ensures, c .before .enum-told12 .given .1))
+    (λ c. rw (c .program-relative2 .ensures, c .before .enum-told13 .given .1))
+    (λ c. rw (c .at-address2 .ensures, c .before .enum-told14 .given .1)))

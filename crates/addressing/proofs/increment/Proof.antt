@@ -1,13 +1,11 @@
--- `increment` meets its contract.
+-- The register is read before it changes.
 -- Assumes nothing.
 use borrow.Author.Needs.{needs}
 use Rattle.addressing.proofs.increment.Statement.{statement}
 use Rattle.addressing.proofs.increment.Tie as tie
 
-returns : tie.Need-returns
-returns c = rw (c .set-register .ensures, c .before .wrapping-add-u16 .ensures, c .before .before .index .ensures)
-
 pub increment-spec : {M : Type 1} → statement M
 increment-spec =
     tie.close
-    (tie.spec (search needs) (search needs) (search needs) returns)
+    (tie.spec (search needs) (search needs) (search needs)
+    (λ c. rw (c .with-word .ensures, c .before .wrapping-add-u16 .ensures, c .before .before .word .ensures)))

@@ -1,4 +1,4 @@
--- `boot_into` meets its contract.
+-- The input is bytes, so its text fits (`boot-fits`).
 -- Assumes nothing.
 use borrow.Author.Needs.{needs}
 use native.Mathlib.Omega.{arith}

@@ -1,4 +1,4 @@
--- `in_buffer` meets its contract.
+-- The length of an array that is too long to be counted.
 -- Assumes nothing.
 use Rattle.player.proofs.Bounds.{counted}
 use Rattle.boot.proofs.in_buffer.Statement.{statement}

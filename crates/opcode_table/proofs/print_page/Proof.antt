@@ -6,12 +6,12 @@ use Rattle.opcode_table.proofs.print_page.Statement.{statement}
 use Rattle.opcode_table.proofs.print_page.Tie as tie
 
 abbrev Inv-loop : tie.InvT-loop
-Inv-loop prefix page code₀ code = Unit {0}
+Inv-loop prefix places code₀ code = Unit {0}
 
 abbrev μ-loop : tie.MeasureT-loop
-μ-loop prefix page code₀ code = 256 - code
+μ-loop prefix places code₀ code = 256 - code
 
 pub print-page-spec : {M : Type 1} → statement M
 print-page-spec =
     tie.close
-    (tie.spec Inv-loop μ-loop (search needs) (search needs) (search needs) (search needs) (search needs) (search needs) (search needs))
+    (tie.spec Inv-loop μ-loop (search needs) (search needs) (search needs) (search needs) (search needs) (search needs) (search needs) (search needs) (search needs))

@@ -1,7 +1,7 @@
--- `zeroed_memory` meets its contract.
+-- The array is `zeros`, which is opened here and nowhere else.
 -- Assumes nothing.
 use mathlib.Core.Path.{refl}
-use Rattle.player.specs.Play.{zeros}
+use Rattle.player.specs.Plays.{zeros}
 use Rattle.player.proofs.zeroed_memory.Statement.{statement}
 use Rattle.player.proofs.zeroed_memory.Tie as tie
 
@@ -10,6 +10,4 @@ unfolding zeros
 returns c = refl
 
 pub zeroed-memory-spec : {M : Type 1} → statement M
-zeroed-memory-spec =
-    tie.close
-    (tie.spec returns)
+zeroed-memory-spec = tie.close (tie.spec returns)

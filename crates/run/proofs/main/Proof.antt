@@ -1,18 +1,18 @@
 -- `main` is safe and ends: the text fits the buffer.
 -- Assumes nothing.
 use borrow.Author.Needs.{needs}
-use Prim.Native.Nat.{ℕ, _≤_}
+use Prim.Native.Nat.{ℕ, _*_, _≤_}
 use mathlib.Core.Path.{_≡_, sym}
 use mathlib.Core.List.{List}
 use native.Mathlib.Omega.{arith}
 use lib.ListN.{length}
 use lib.Seq.{length-take-le}
-use Rattle.player.specs.Play.{printed}
+use Rattle.player.specs.Plays.{printed}
 use Rattle.player.proofs.Bounds.{play-fits}
 use Rattle.run.proofs.main.Statement.{statement}
 use Rattle.run.proofs.main.Tie as tie
 
-bound : (used : ℕ) (file : List ℕ) → used ≡ length (printed file) → used ≤ 0x100000
+bound : (used : ℕ) (file : List ℕ) → used ≡ length (printed file) → used ≤ 33 * 32768
 bound used file e = rw e (play-fits file)
 
 array-share-prefix-out : tie.Need-array-share-prefix-out

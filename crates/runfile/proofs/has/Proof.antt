@@ -1,4 +1,4 @@
--- `has` meets its contract.
+-- The sum of a place and a length is not formed: it could wrap.
 -- Assumes nothing.
 use Prim.Native.Nat.{_+_}
 use mathlib.Core.Path.{sym}
@@ -9,13 +9,7 @@ use Rattle.runfile.proofs.Reading.{by-difference}
 use Rattle.runfile.proofs.has.Statement.{statement}
 use Rattle.runfile.proofs.has.Tie as tie
 
-returns : tie.Need-returns
-returns c = let a = c .before .args in sym (lt-leb (a .at + a .n) (length (a .file .now)) (omega arith))
-
-returns-2 : tie.Need-returns-2
-returns-2 c = by-difference _ _ _ (c .if1 .left)
-
 pub has-spec : {M : Type 1} → statement M
 has-spec =
     tie.close
-    (tie.spec returns returns-2)
+    (tie.spec (λ c. let a = c .before .args in sym (lt-leb (a .at + a .n) (length (a .file .now)) (omega arith))) (λ c. by-difference _ _ _ (c .if1 .left)))

@@ -1,46 +1,40 @@
--- `operations_end` meets its contract. The invariant: the operations that are left end where all end. The measure is their number.
+-- The invariant: the operations that are left end where all end. The measure is their number.
 -- Assumes nothing.
-use Prim.Native.Nat.{suc, _+_, _-_}
-use mathlib.Core.Path.{_≡_, refl, sym, ap, _∙_}
+use Prim.Native.Nat.{suc, _-_}
+use mathlib.Core.Path.{_≡_, refl, sym, _∙_}
 use native.Mathlib.Omega.{arith}
 use borrow.Author.Needs.{needs}
-use Rattle.runfile.specs.Format.{operationAt, operationsAt}
-use Rattle.runfile.specs.Answers.{endOf}
-use Rattle.runfile.proofs.Reading.{next-got, next-none}
-use Rattle.runfile.proofs.Sections.{operation-room, no-operation, operation-end}
+use lib.ListN.{length}
+use Rattle.runfile.specs.Format.{operationsAt, endOf}
+use Rattle.runfile.proofs.Sections.{no-operation, operation-end}
 use Rattle.runfile.proofs.operations_end.Statement.{statement}
 use Rattle.runfile.proofs.operations_end.Tie as tie
 
 abbrev Inv-loop : tie.InvT-loop
-Inv-loop file count at left₀ next₀ left next = endOf (operationsAt file left next) ≡ endOf (operationsAt file count at)
+Inv-loop file count at left₀ next₀ left next = endOf (length file) (operationsAt file left next) ≡ endOf (length file) (operationsAt file count at)
 
 abbrev μ-loop : tie.MeasureT-loop
 μ-loop file count at left₀ next₀ left next = left
-
-loop-holds : tie.Need-loop-holds Inv-loop μ-loop
-loop-holds c = refl
 
 returns : tie.Need-returns Inv-loop μ-loop
 returns c =
     let f = c .before .before .before .before .before .before .args .file .now in
     let l = c .before .before .before .before .loop in
-    let e = next-none (operationAt f (l .next)) (sym (c .before .before .operation-at .ensures) ∙ c .enum-told .given .1) in
     let s : l .left ≡ suc (l .left - 1) = omega arith in
-    sym (ap endOf (no-operation f (l .left - 1) (l .next) e)) ∙ (rw s at (l .inv))
+    sym (no-operation f (l .left - 1) (l .next) (sym (c .before .before .operation-at .ensures) ∙ c .enum-told .given .1)) ∙ (rw s at (l .inv))
 
 add-next : tie.Need-add-next Inv-loop μ-loop
 add-next c =
     let f = c .before .before .before .before .before .before .args .file .now in
     let l = c .before .before .before .before .loop in
-    omega (arith, operation-room f (l .next) (next-got (operationAt f (l .next)) (sym (c .before .before .operation-at .ensures) ∙ c .enum-told2 .given .1)))
+    omega (arith, operation-end f (l .left - 1) (l .next) (sym (c .before .before .operation-at .ensures) ∙ c .enum-told2 .given .1) .1)
 
 loop-again : tie.Need-loop-again Inv-loop μ-loop
 loop-again c =
     let f = c .before .before .before .before .before .before .args .file .now in
     let l = c .before .before .before .before .loop in
-    let e = next-got (operationAt f (l .next)) (sym (c .before .before .operation-at .ensures) ∙ c .enum-told2 .given .1) in
     let s : l .left ≡ suc (l .left - 1) = omega arith in
-    sym (operation-end f (l .left - 1) (l .next) e) ∙ (rw s at (l .inv))
+    sym (operation-end f (l .left - 1) (l .next) (sym (c .before .before .operation-at .ensures) ∙ c .enum-told2 .given .1) .0) ∙ (rw s at (l .inv))
 
 returns-2 : tie.Need-returns-2 Inv-loop μ-loop
 unfolding operationsAt
@@ -52,4 +46,4 @@ returns-2 c =
 pub operations-end-spec : {M : Type 1} → statement M
 operations-end-spec =
     tie.close
-    (tie.spec Inv-loop μ-loop loop-holds (search needs) (search needs) returns (search needs) add-next (search needs) (search needs) loop-again returns-2)
+    (tie.spec Inv-loop μ-loop (λ c. refl) (search needs) (search needs) (search needs) returns (search needs) add-next (search needs) (search needs) loop-again returns-2)

@@ -1,23 +1,16 @@
--- `row_5` meets its contract: an arm for each place, and the last for the others.
+-- The sixteen places of `row_5` are those of the manual's rows: each is what its call answers, or none.
 -- Assumes nothing.
 use borrow.Author.Needs.{needs}
-use Prim.Native.Nat.{ℕ, _+_}
+use mathlib.Core.Path.{refl}
 use Rattle.opcodes.specs.Manual.{entryOf}
-use Rattle.opcodes.specs.Places.{inRow, named}
-use Rattle.opcodes.specs.declared.Entry.{Entry}
-use Rattle.opcodes.specs.declared.Page.the-variants.{Plain}
-use Rattle.opcodes.proofs.Rows.{arm}
-use Rattle.opcodes.proofs.Places.{rest}
+use Rattle.opcodes.specs.Table.{rowOf}
+use Rattle.opcodes.proofs.Rows.{_∷≡_}
 use Rattle.opcodes.proofs.plain.row_5.Statement.{statement}
 use Rattle.opcodes.proofs.plain.row_5.Tie as tie
 
-abbrev row : ℕ → Entry
-row i = entryOf Plain (0x50 + i)
-
 pub row-5-spec : {M : Type 1} → statement M
-unfolding entryOf inRow named
+unfolding entryOf rowOf
 row-5-spec =
     tie.close
-    (tie.spec (search needs) (search needs) (search needs) (search needs) (search needs) (search needs) (search needs) (search needs) (search needs) (search needs) (search needs) (search needs)
-    (λ c. search (arm row)) (λ c. search (arm row)) (λ c. search (arm row)) (λ c. search (arm row)) (λ c. search (arm row)) (λ c. search (arm row)) (λ c. search (arm row)) (λ c. search (arm row)) (λ c. search (arm row)) (λ c. search (arm row)) (λ c. search (arm row))
-    (λ c. search (rest Plain (λ (i : ℕ). 0x50 + i) 16)))
+    (tie.spec (search needs) (search needs) (search needs) (search needs) (search needs) (search needs) (search needs) (search needs) (search needs) (search needs) (search needs)
+    (λ c. c .before .before .before .before .before .before .before .before .before .before .on-acc .ensures ∷≡ refl ∷≡ refl ∷≡ c .before .before .before .before .before .before .before .before .before .on-acc2 .ensures ∷≡ c .before .before .before .before .before .before .before .before .on-acc3 .ensures ∷≡ refl ∷≡ c .before .before .before .before .before .before .before .on-acc4 .ensures ∷≡ c .before .before .before .before .before .before .on-acc5 .ensures ∷≡ c .before .before .before .before .before .on-acc6 .ensures ∷≡ c .before .before .before .before .on-acc7 .ensures ∷≡ c .before .before .before .on-acc8 .ensures ∷≡ refl ∷≡ c .before .before .on-acc9 .ensures ∷≡ c .before .registers .ensures ∷≡ refl ∷≡ c .on-acc10 .ensures ∷≡ refl))

@@ -1,23 +1,16 @@
--- `row_c` meets its contract: an arm for each place, and the last for the others.
+-- The sixteen places of `row_c` are those of the manual's rows: each is what its call answers, or none.
 -- Assumes nothing.
 use borrow.Author.Needs.{needs}
-use Prim.Native.Nat.{ℕ, _+_}
+use mathlib.Core.Path.{refl}
 use Rattle.opcodes.specs.Manual.{entryOf}
-use Rattle.opcodes.specs.Places.{inRow, named}
-use Rattle.opcodes.specs.declared.Entry.{Entry}
-use Rattle.opcodes.specs.declared.Page.the-variants.{Plain}
-use Rattle.opcodes.proofs.Rows.{arm}
-use Rattle.opcodes.proofs.Places.{rest}
+use Rattle.opcodes.specs.Table.{rowOf}
+use Rattle.opcodes.proofs.Rows.{_∷≡_}
 use Rattle.opcodes.proofs.plain.row_c.Statement.{statement}
 use Rattle.opcodes.proofs.plain.row_c.Tie as tie
 
-abbrev row : ℕ → Entry
-row i = entryOf Plain (0xC0 + i)
-
 pub row-c-spec : {M : Type 1} → statement M
-unfolding entryOf inRow named
+unfolding entryOf rowOf
 row-c-spec =
     tie.close
-    (tie.spec (search needs) (search needs) (search needs) (search needs) (search needs) (search needs) (search needs) (search needs) (search needs) (search needs) (search needs) (search needs) (search needs) (search needs)
-    (λ c. search (arm row)) (λ c. search (arm row)) (λ c. search (arm row)) (λ c. search (arm row)) (λ c. search (arm row)) (λ c. search (arm row)) (λ c. search (arm row)) (λ c. search (arm row)) (λ c. search (arm row)) (λ c. search (arm row)) (λ c. search (arm row)) (λ c. search (arm row)) (λ c. search (arm row))
-    (λ c. search (rest Plain (λ (i : ℕ). 0xC0 + i) 16)))
+    (tie.spec (search needs) (search needs) (search needs) (search needs) (search needs) (search needs) (search needs) (search needs) (search needs) (search needs) (search needs) (search needs) (search needs)
+    (λ c. c .before .before .before .before .before .before .before .before .before .before .before .before .alu8 .ensures ∷≡ c .before .before .before .before .before .before .before .before .before .before .before .alu82 .ensures ∷≡ c .before .before .before .before .before .before .before .before .before .before .alu83 .ensures ∷≡ c .before .before .before .before .before .before .before .before .before .registers .ensures ∷≡ c .before .before .before .before .before .before .before .before .alu84 .ensures ∷≡ c .before .before .before .before .before .before .before .alu85 .ensures ∷≡ c .before .before .before .before .before .before .alu86 .ensures ∷≡ refl ∷≡ c .before .before .before .before .before .alu87 .ensures ∷≡ c .before .before .before .before .alu88 .ensures ∷≡ c .before .before .before .alu89 .ensures ∷≡ c .before .before .alu810 .ensures ∷≡ c .before .load16 .ensures ∷≡ refl ∷≡ c .load162 .ensures ∷≡ refl ∷≡ refl))

@@ -1,0 +1,67 @@
+-- No refusal is numbered 0, and no two refusals have one number.
+-- Assumes nothing.
+use Prim.Native.Nat.{ℕ}
+use mathlib.Core.Bool.{cond}
+use mathlib.Core.List.{List, [], _∷_}
+use mathlib.Core.Path.{_≡_, refl, sym, ap, _∙_}
+use native.Mathlib.Omega.{arith}
+use lib.ListN.{getD}
+use Rattle.answers.specs.Numbers.{numberOf, RefusedByANumber, NumbersApart}
+use Rattle.answers.specs.declared.Refusal.{Refusal}
+use Rattle.answers.specs.declared.Refusal.the-variants.{MemoryLength, Waiting, Opcode, PastEnd, PostByte, WordAtTop, TransferCode, StackTooSmall, ZeroAtVector, JournalFull, NoRecord, JournalLength, DivisionByZero, LeftByte, NoRoom, Malformed, OutputShort, LineShape, Checksum, PastTop, NoEnd}
+
+pub refused-by-a-number : RefusedByANumber
+refused-by-a-number MemoryLength = omega arith
+refused-by-a-number Waiting = omega arith
+refused-by-a-number Opcode = omega arith
+refused-by-a-number PastEnd = omega arith
+refused-by-a-number PostByte = omega arith
+refused-by-a-number WordAtTop = omega arith
+refused-by-a-number TransferCode = omega arith
+refused-by-a-number StackTooSmall = omega arith
+refused-by-a-number ZeroAtVector = omega arith
+refused-by-a-number JournalFull = omega arith
+refused-by-a-number NoRecord = omega arith
+refused-by-a-number JournalLength = omega arith
+refused-by-a-number DivisionByZero = omega arith
+refused-by-a-number LeftByte = omega arith
+refused-by-a-number NoRoom = omega arith
+refused-by-a-number Malformed = omega arith
+refused-by-a-number OutputShort = omega arith
+refused-by-a-number LineShape = omega arith
+refused-by-a-number Checksum = omega arith
+refused-by-a-number PastTop = omega arith
+refused-by-a-number NoEnd = omega arith
+
+-- the refusal of a number, by the table's places; 18 and 19 are not used
+abbrev refusalOf : ℕ → Refusal
+refusalOf n =
+    getD
+    (NoEnd ∷ MemoryLength ∷ Waiting ∷ Opcode ∷ PastEnd ∷ PostByte ∷ WordAtTop ∷ TransferCode ∷ StackTooSmall ∷ ZeroAtVector ∷ JournalFull ∷ NoRecord ∷ JournalLength ∷ DivisionByZero ∷ LeftByte ∷ NoRoom ∷ Malformed ∷ OutputShort ∷ NoEnd ∷ NoEnd ∷ LineShape ∷ Checksum ∷ PastTop ∷ [])
+    n NoEnd
+
+back : (x : Refusal) → refusalOf (numberOf x) ≡ x
+back MemoryLength = refl
+back Waiting = refl
+back Opcode = refl
+back PastEnd = refl
+back PostByte = refl
+back WordAtTop = refl
+back TransferCode = refl
+back StackTooSmall = refl
+back ZeroAtVector = refl
+back JournalFull = refl
+back NoRecord = refl
+back JournalLength = refl
+back DivisionByZero = refl
+back LeftByte = refl
+back NoRoom = refl
+back Malformed = refl
+back OutputShort = refl
+back LineShape = refl
+back Checksum = refl
+back PastTop = refl
+back NoEnd = refl
+
+pub numbers-apart : NumbersApart
+numbers-apart x y e = sym (back x) ∙ (ap refusalOf e ∙ back y)

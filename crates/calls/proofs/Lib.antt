@@ -1,0 +1,5 @@
+pub mod Laws
+pub mod Accepted
+pub mod Room
+pub mod Parting
+pub mod Unique

@@ -1,0 +1,36 @@
+-- Calls whose plan is known whole: a step while waiting, a masked interrupt, a reset.
+-- Assumes nothing.
+use Prim.Native.Nat.{ℕ, _+_, _*_}
+use mathlib.Core.Bool.{true}
+use mathlib.Core.List.{List}
+use mathlib.Core.Logic.{_≢_}
+use mathlib.Core.Path.{_≡_}
+use lib.ListN.{length}
+use Rattle.answers.specs.declared.Refusal.the-variants.{Waiting}
+use Rattle.registers.specs.RegisterSet.{afterReset}
+use Rattle.memory.specs.Map.{byteAt}
+use Rattle.machine.specs.declared.Machine.{Machine}
+use Rattle.machine.specs.declared.Settings.{Settings}
+use Rattle.machine.specs.declared.Wait.the-variants.{Running}
+use Rattle.operations.specs.Branches.{jumped}
+use Rattle.calls.specs.Plans.{refusedWith, accepted, withRegisters}
+use Rattle.calls.specs.Steps.{stepPlan}
+use Rattle.calls.specs.Interrupts.{isMasked, afterMasked, interruptPlan}
+use Rattle.calls.specs.Resets.{resetPlan}
+use Rattle.calls.specs.declared.InterruptType.{InterruptType}
+
+-- a step while waiting is refused by 2
+abbrev pub WaitsRefused : Type 0
+WaitsRefused = (mem : List ℕ) (m : Machine) (s : Settings) → length mem ≡ 65536 → m .wait ≢ Running → stepPlan mem m s ≡ refusedWith m Waiting
+
+-- a masked interrupt is answered 0: neither 8 nor 9 is judged, no register changes, and SYNC alone ends
+abbrev pub MaskedStays : Type 0
+MaskedStays =
+    (mem : List ℕ) (m : Machine) (s : Settings) (i : InterruptType) → length mem ≡ 65536 → isMasked i (m .regs .cc) ≡ true
+    → interruptPlan mem m s i ≡ accepted (withRegisters m (m .regs) (afterMasked (m .wait)))
+
+-- a reset is never refused: PC is the word at FFFE, whatever it leads to
+abbrev pub ResetAccepted : Type 0
+ResetAccepted =
+    (mem : List ℕ) (m : Machine) → length mem ≡ 65536
+    → resetPlan mem m ≡ accepted (withRegisters m (jumped afterReset (256 * byteAt mem 0xFFFE + byteAt mem 0xFFFF)) Running)

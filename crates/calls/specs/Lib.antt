@@ -1,0 +1,9 @@
+pub mod Plans
+pub mod Steps
+pub mod Interrupts
+pub mod Resets
+pub mod Calls
+pub mod Accepted
+pub mod Moves
+pub mod Room
+pub mod Parting

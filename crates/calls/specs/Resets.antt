@@ -1,0 +1,36 @@
+-- Reset (document 01, section "Interrupts, SWI, reset"): registers cleared, CC 50, PC from FFFE, no wait; counters and memory stay. No zero byte
+-- is looked for.
+-- Assumes nothing.
+use Prim.Native.Nat.{ℕ}
+use mathlib.Core.Bool.{cond}
+use mathlib.Core.List.{List}
+use lib.Dec.{eqb}
+use lib.ListN.{length}
+use Rattle.answers.specs.declared.Refusal.the-variants.{MemoryLength}
+use Rattle.registers.specs.RegisterSet.{afterReset}
+use Rattle.memory.specs.Map.{wordAt}
+use Rattle.memory.specs.declared.WordRead.{WordRead}
+use Rattle.memory.specs.declared.WordRead.the-variants.{Word, Refused}
+use Rattle.machine.specs.declared.Machine.{Machine}
+use Rattle.machine.specs.declared.Settings.{Settings}
+use Rattle.machine.specs.declared.Wait.the-variants.{Running}
+use Rattle.operations.specs.Branches.{jumped}
+use Rattle.vectors.specs.Table.{addressOf}
+use Rattle.vectors.specs.declared.table.Vector.the-variants.{Reset}
+use Rattle.calls.specs.Plans.{refusedWith, accepted, withRegisters, carriedOut, memoryWith}
+use Rattle.calls.specs.declared.Plan.{Plan}
+use Rattle.calls.specs.declared.Report.{Report}
+
+abbrev pub resetTo : Machine → WordRead → Plan
+resetTo m (Word pc) = accepted (withRegisters m (jumped afterReset pc) Running)
+resetTo m (Refused x) = refusedWith m x
+
+unfoldable pub resetPlan : List ℕ → Machine → Plan
+resetPlan mem m = cond (eqb (length mem) 65536) (resetTo m (wordAt mem (addressOf Reset))) (refusedWith m MemoryLength)
+
+-- the reset carried out
+abbrev pub resetOf : List ℕ → Machine → Settings → Report
+resetOf mem m s = carriedOut s (resetPlan mem m)
+
+abbrev pub memoryAfterReset : List ℕ → Machine → Settings → List ℕ
+memoryAfterReset mem m s = memoryWith s (resetPlan mem m) mem

@@ -1,0 +1,83 @@
+-- A step (document 01, "Numbers returned" gives the order of refusals): 1, 2, then decoding, the address, the operation.
+-- Assumes nothing.
+use Prim.Native.Nat.{ℕ, _+_, _%_, _^_}
+use mathlib.Core.Bool.{cond}
+use mathlib.Core.List.{List}
+use lib.Dec.{eqb}
+use lib.ListN.{length}
+use Rattle.answers.specs.declared.Answer.{Answer}
+use Rattle.answers.specs.declared.Answer.the-variants.{Done, Refused}
+use Rattle.answers.specs.declared.Refusal.the-variants.{MemoryLength, Waiting}
+use Rattle.registers.specs.declared.Set.{Set}
+use Rattle.machine.specs.declared.Effect.{Effect}
+use Rattle.machine.specs.declared.Machine.{Machine}
+use Rattle.machine.specs.declared.Settings.{Settings}
+use Rattle.machine.specs.declared.Wait.{Wait}
+use Rattle.machine.specs.declared.Wait.the-variants.{Running, Cwai, Sync}
+use Rattle.opcodes.specs.declared.Entry.{Entry}
+use Rattle.decode.specs.Decode.{decodedAt}
+use Rattle.decode.specs.declared.instruction.Decoded.{Decoded}
+use Rattle.decode.specs.declared.instruction.Decoded.the-variants.{Instruction, Refused as NotDecoded}
+use Rattle.addressing.specs.Address.{resolvedOf}
+use Rattle.addressing.specs.declared.Resolved.{Resolved}
+use Rattle.addressing.specs.declared.Resolved.the-variants.{At as Addressed, Refused as NoAddress}
+use Rattle.evaluate.specs.Evaluate.{evaluateOf}
+use Rattle.calls.specs.Plans.{refusedWith, carriedOut, memoryWith}
+use Rattle.calls.specs.declared.Plan.{Plan}
+use Rattle.calls.specs.declared.Report.{Report}
+use Rattle.calls.specs.declared.steps.Reached.{Reached}
+use Rattle.calls.specs.declared.steps.Reached.the-variants.{At, Refused as NotReached}
+
+-- ---- what stands before the operation
+
+abbrev pub addressed : Entry → Resolved → Reached
+addressed e (Addressed a) = At e (a .regs) (a .ea)
+addressed e (NoAddress x) = NotReached x
+
+abbrev pub ofDecoded : List ℕ → Set → Decoded → Reached
+ofDecoded mem r (Instruction i) = addressed (i .entry) (resolvedOf mem r (i .operand) (i .next))
+ofDecoded mem r (NotDecoded x) = NotReached x
+
+-- 4, 3, 4, 5, 4 by decoding, then 6, 4 by the address
+unfoldable pub decodedTo : List ℕ → Set → Reached
+decodedTo mem r = ofDecoded mem r (decodedAt mem (r .pc))
+
+abbrev pub unlessWaiting : Wait → List ℕ → Set → Reached
+unlessWaiting Running mem r = decodedTo mem r
+unlessWaiting Cwai mem r = NotReached Waiting
+unlessWaiting Sync mem r = NotReached Waiting
+
+-- 1 unless memory has 65,536 bytes, then 2 while waiting
+unfoldable pub reached : List ℕ → Machine → Reached
+reached mem m = cond (eqb (length mem) 65536) (unlessWaiting (m .wait) mem (m .regs)) (NotReached MemoryLength)
+
+-- ---- the operation
+
+-- an instruction that is carried out: instructions and 1, cycles and the table's figure, both wrapping
+abbrev pub after : Machine → ℕ → Set → Wait → Machine
+after m cycles r w =
+    record { cycles = (m .cycles + cycles) % 2 ^ 64; instructions = (m .instructions + 1) % 2 ^ 64; regs = r; wait = w }
+
+abbrev pub finishedAs : Answer → Machine → ℕ → Effect → Plan
+finishedAs Done m cycles e = record { writes = e .writes; machine = after m cycles (e .regs) (e .wait); answer = Done }
+finishedAs (Refused x) m cycles e = refusedWith m x
+
+unfoldable pub finished : Machine → ℕ → Effect → Plan
+finished m cycles e = finishedAs (e .answer) m cycles e
+
+abbrev pub operated : List ℕ → Machine → Settings → Entry → Set → ℕ → Plan
+operated mem m s e r ea = finished m (e .cycles) (evaluateOf (e .op) s mem r ea)
+
+abbrev pub planned : List ℕ → Machine → Settings → Reached → Plan
+planned mem m s (At e r ea) = operated mem m s e r ea
+planned mem m s (NotReached x) = refusedWith m x
+
+unfoldable pub stepPlan : List ℕ → Machine → Settings → Plan
+stepPlan mem m s = planned mem m s (reached mem m)
+
+-- the step carried out: what it returns, and memory
+abbrev pub stepOf : List ℕ → Machine → Settings → Report
+stepOf mem m s = carriedOut s (stepPlan mem m s)
+
+abbrev pub memoryAfterStep : List ℕ → Machine → Settings → List ℕ
+memoryAfterStep mem m s = memoryWith s (stepPlan mem m s) mem

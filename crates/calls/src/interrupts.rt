@@ -1,0 +1,111 @@
+// IRQ, FIRQ and NMI.
+ghost use mathlib.Core.Path.{_≡_};
+ghost use Rattle.calls.specs.Plans.{withRegisters};
+ghost use Rattle.calls.specs.Interrupts.{vectorOf, isMasked, taken, afterMasked, ofEffect, interruptPlan, interruptOf, memoryAfterInterrupt};
+use super::InterruptType;
+use super::Plan;
+use super::Report;
+use super::plans::accept;
+use super::plans::carry_out;
+use super::plans::refused;
+use super::plans::with_registers;
+use answers::Answer;
+use answers::Refusal;
+use machine::Effect;
+use machine::Machine;
+use machine::Settings;
+use machine::Wait;
+use registers::CCBit;
+use registers::CCBits;
+use registers::Set;
+use vectors::Vector;
+
+fn vector_of(which: InterruptType) -> Vector
+    ensures { λ r. ⌜ r ≡ vectorOf which ⌝ }
+{
+    match which {
+        InterruptType::Irq => Vector::Irq,
+        InterruptType::Firq => Vector::Firq,
+        InterruptType::Nmi => Vector::Nmi,
+    }
+}
+
+fn is_masked(which: InterruptType, cc: CCBits) -> bool
+    ensures { λ r. ⌜ r ≡ isMasked which cc ⌝ }
+{
+    match which {
+        InterruptType::Irq => cc.is_set(CCBit::I),
+        InterruptType::Firq => cc.is_set(CCBit::F),
+        InterruptType::Nmi => false,
+    }
+}
+
+// In CWAI the registers are stacked already: nothing is stacked again.
+fn take(mem: &[u8], settings: Settings, wait: Wait, regs: Set, vector: Vector) -> Effect
+    ensures { λ r. ⌜ r ≡ taken wait (now (mem .entry)) settings regs vector ⌝ }
+{
+    match wait {
+        Wait::Running => vectors::serve(mem, settings, regs, vector),
+        Wait::Sync => vectors::serve(mem, settings, regs, vector),
+        Wait::Cwai => vectors::take_vector(mem, settings, regs, Effect::changes(regs), vector),
+    }
+}
+
+fn after_masked(wait: Wait) -> Wait
+    ensures { λ r. ⌜ r ≡ afterMasked wait ⌝ }
+{
+    match wait {
+        Wait::Running => Wait::Running,
+        Wait::Cwai => Wait::Cwai,
+        Wait::Sync => Wait::Running,
+    }
+}
+
+fn finish(machine: Machine, effect: Effect) -> Plan
+    ensures { λ r. ⌜ r ≡ ofEffect machine effect (effect .answer) ⌝ }
+{
+    let answer = effect.answer;
+    let writes = effect.writes;
+    let regs = effect.regs;
+    match answer {
+        Answer::Refused(refusal) => refused(machine, refusal),
+        Answer::Done => Plan {
+            writes,
+            machine: with_registers(machine, regs, Wait::Running),
+            answer,
+        },
+    }
+}
+
+// What an interrupt will do: 1 by the memory's length; then, unless it is masked, 8 and 9 as they are met.
+pub fn plan_interrupt(
+    mem: &[u8],
+    machine: Machine,
+    settings: Settings,
+    which: InterruptType,
+) -> Plan
+    ensures { λ r. ⌜ r ≡ interruptPlan (now (mem .entry)) machine settings which ⌝ }
+{
+    if mem.len() != 65536 {
+        return refused(machine, Refusal::MemoryLength);
+    }
+    let regs = machine.regs;
+    let wait = machine.wait;
+    if is_masked(which, regs.cc) {
+        accept(with_registers(machine, regs, after_masked(wait)))
+    } else {
+        finish(machine, take(mem, settings, wait, regs, vector_of(which)))
+    }
+}
+
+pub fn interrupt(
+    mem: &mut [u8],
+    machine: Machine,
+    settings: Settings,
+    which: InterruptType,
+) -> Report
+    ensures { λ r. ⌜ (r ≡ interruptOf (now (mem .entry)) machine settings which) × (now (mem .exit) ≡ memoryAfterInterrupt (now (mem .entry)) machine settings which) ⌝ }
+{
+    let plan = plan_interrupt(mem, machine, settings, which);
+    carry_out(mem, settings, plan)
+}

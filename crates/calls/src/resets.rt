@@ -1,0 +1,38 @@
+// Reset. Neither a mask nor the byte that the vector leads to is looked at.
+ghost use mathlib.Core.Path.{_≡_};
+ghost use Rattle.calls.specs.Resets.{resetPlan, resetOf, memoryAfterReset};
+use super::Plan;
+use super::Report;
+use super::plans::accept;
+use super::plans::carry_out;
+use super::plans::refused;
+use super::plans::with_registers;
+use answers::Refusal;
+use machine::Machine;
+use machine::Settings;
+use machine::Wait;
+use memory::WordRead;
+use registers::Set;
+use vectors::Vector;
+
+pub fn plan_reset(mem: &[u8], machine: Machine) -> Plan
+    ensures { λ r. ⌜ r ≡ resetPlan (now (mem .entry)) machine ⌝ }
+{
+    if mem.len() != 65536 {
+        return refused(machine, Refusal::MemoryLength);
+    }
+    match memory::read_u16(mem, Vector::Reset.address()) {
+        WordRead::Word(pc) => {
+            let regs = operations::jump(Set::reset(), pc);
+            accept(with_registers(machine, regs, Wait::Running))
+        }
+        WordRead::Refused(refusal) => refused(machine, refusal),
+    }
+}
+
+pub fn reset(mem: &mut [u8], machine: Machine, settings: Settings) -> Report
+    ensures { λ r. ⌜ (r ≡ resetOf (now (mem .entry)) machine settings) × (now (mem .exit) ≡ memoryAfterReset (now (mem .entry)) machine settings) ⌝ }
+{
+    let plan = plan_reset(mem, machine);
+    carry_out(mem, settings, plan)
+}

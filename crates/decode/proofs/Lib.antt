@@ -1,0 +1,9 @@
+pub mod PostBytes
+pub mod Reaching
+pub mod Forms
+pub mod Refused
+pub mod Sizes
+pub mod Sound
+pub mod Laws
+pub mod Formless
+pub mod Unique

@@ -1,0 +1,4 @@
+pub mod PostByte
+pub mod Operand
+pub mod Decode
+pub mod Laws

@@ -1,4 +1,0 @@
-pub mod Laws
-pub mod Overwritten
-pub mod Unique
-pub mod Stacks

@@ -1,2 +1,0 @@
-pub mod Interrupts
-pub mod Small

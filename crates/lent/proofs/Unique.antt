@@ -1,0 +1,15 @@
+-- No second report, and no second twin, memory or journal at exit, fits the contract of `step` or of `undo`. Neither is covered by the borrow checker, so this is said of their `clauses`, in the program logic.
+-- Assumes nothing.
+use mathlib.Core.Path.{sym, _∙_}
+use Rattle.answers.proofs.Determined.{DeterminesIn, facts}
+use Rattle.lent.proofs
+
+pub step : DeterminesIn proofs.step.ended (λ M 𝓤 H A mem run. proofs.step.clauses 𝓤 H A mem run)
+step M 𝓤 H A mem run κs a g x y ws vs =
+    facts 𝓤 (λ p q.
+    (p .result ∙ sym (q .result), λ i. ((p .twin-is ∙ sym (q .twin-is)) i, ((p .memory-is ∙ sym (q .memory-is)) i, ((p .journal-is ∙ sym (q .journal-is)) i, (tt, tt))))))
+
+-- the journal is lent to be read only
+pub undo : DeterminesIn proofs.undo.ended (λ M 𝓤 H A mem run. proofs.undo.clauses 𝓤 H A mem run)
+undo M 𝓤 H A mem run κs a g x y ws vs =
+    facts 𝓤 (λ p q. (p .result ∙ sym (q .result), λ i. ((p .twin-is ∙ sym (q .twin-is)) i, ((p .memory-is ∙ sym (q .memory-is)) i, (tt, tt)))))

@@ -1,0 +1,156 @@
+// The machine as it stands at the front of a journal's record: its fields in the record's order, numbers high byte first.
+ghost use mathlib.Core.Path.{_≡_};
+ghost use Prim.Native.Nat.{_+_, _^_, _≤_, _<_};
+ghost use lib.ListN.{getD};
+ghost use Rattle.machine.specs.Record.{bytes, numberAt, waitByte, waitOf, header, machineOf};
+use super::Machine;
+use super::Wait;
+use registers::CCBits;
+use registers::Set;
+
+// Where each field stands, after those before it.
+const A: usize = 0;
+
+const B: usize = A + 1;
+
+const X: usize = B + 1;
+
+const Y: usize = X + 2;
+
+const U: usize = Y + 2;
+
+const S: usize = U + 2;
+
+const PC: usize = S + 2;
+
+const DP: usize = PC + 2;
+
+const CC: usize = DP + 1;
+
+pub const WAIT: usize = CC + 1;
+
+const CYCLES: usize = WAIT + 1;
+
+const INSTRUCTIONS: usize = CYCLES + 8;
+
+// How many bytes the fields take.
+pub const HEADER: usize = INSTRUCTIONS + 8;
+
+fn wait_byte(wait: Wait) -> u8
+    ensures { λ r. ⌜ r ≡ waitByte wait ⌝ }
+{
+    match wait {
+        Wait::Running => 0,
+        Wait::Cwai => 1,
+        Wait::Sync => 2,
+    }
+}
+
+pub fn header_of(machine: Machine) -> [u8; HEADER]
+    ensures { λ r. ⌜ r ≡ header machine ⌝ }
+{
+    let wait = machine.wait;
+    let w = wait_byte(wait);
+    let regs = machine.regs;
+    let cc = regs.cc.get_as_byte();
+    let c = machine.cycles;
+    let i = machine.instructions;
+    [
+        regs.a,
+        regs.b,
+        (regs.x / 256) as u8,
+        (regs.x % 256) as u8,
+        (regs.y / 256) as u8,
+        (regs.y % 256) as u8,
+        (regs.u / 256) as u8,
+        (regs.u % 256) as u8,
+        (regs.s / 256) as u8,
+        (regs.s % 256) as u8,
+        (regs.pc / 256) as u8,
+        (regs.pc % 256) as u8,
+        regs.dp,
+        cc,
+        w,
+        (c / 0x100_0000_0000_0000 % 256) as u8,
+        (c / 0x1_0000_0000_0000 % 256) as u8,
+        (c / 0x100_0000_0000 % 256) as u8,
+        (c / 0x1_0000_0000 % 256) as u8,
+        (c / 0x100_0000 % 256) as u8,
+        (c / 0x1_0000 % 256) as u8,
+        (c / 0x100 % 256) as u8,
+        (c % 256) as u8,
+        (i / 0x100_0000_0000_0000 % 256) as u8,
+        (i / 0x1_0000_0000_0000 % 256) as u8,
+        (i / 0x100_0000_0000 % 256) as u8,
+        (i / 0x1_0000_0000 % 256) as u8,
+        (i / 0x100_0000 % 256) as u8,
+        (i / 0x1_0000 % 256) as u8,
+        (i / 0x100 % 256) as u8,
+        (i % 256) as u8,
+    ]
+}
+
+// A byte past the end reads as 0.
+fn byte_at(r: &[u8], at: usize) -> u8
+    ensures { λ b. ⌜ b ≡ getD (now (r .entry)) at 0 ⌝ }
+{
+    if at < r.len() { r[at] } else { 0 }
+}
+
+// The number that n bytes stand for.
+fn number_at(r: &[u8], at: usize, n: usize) -> u64
+    requires { ⌜ (at ≤ 0x100) × (n ≤ 8) ⌝ }
+    ensures { λ v. ⌜ (v ≡ numberAt (now (r .entry)) at n) × (v < 256 ^ n) ⌝ }
+{
+    let mut v: u64 = 0;
+    let mut i: usize = 0;
+    while i < n {
+        v = v * 256 + byte_at(r, at + i) as u64;
+        i += 1;
+    }
+    v
+}
+
+fn wait_of(b: u8) -> Wait
+    ensures { λ r. ⌜ r ≡ waitOf b ⌝ }
+{
+    if b == 0 {
+        return Wait::Running;
+    }
+    if b == 1 {
+        return Wait::Cwai;
+    }
+    Wait::Sync
+}
+
+// The machine that a record holds.
+pub fn machine_of(r: &[u8]) -> Machine
+    ensures { λ m. ⌜ m ≡ machineOf (now (r .entry)) ⌝ }
+{
+    let x = number_at(r, X, 2) as u16;
+    let y = number_at(r, Y, 2) as u16;
+    let u = number_at(r, U, 2) as u16;
+    let s = number_at(r, S, 2) as u16;
+    let pc = number_at(r, PC, 2) as u16;
+    let wait = wait_of(byte_at(r, WAIT));
+    let cycles = number_at(r, CYCLES, 8);
+    let instructions = number_at(r, INSTRUCTIONS, 8);
+    Machine {
+        cycles,
+        instructions,
+        regs: Set {
+            x,
+            y,
+            u,
+            s,
+            pc,
+            a: byte_at(r, A),
+            b: byte_at(r, B),
+            dp: byte_at(r, DP),
+            cc: CCBits {
+                reg: byte_at(r, CC),
+            },
+        },
+        wait,
+    }
+}

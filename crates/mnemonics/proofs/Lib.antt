@@ -1,0 +1,3 @@
+pub mod Stems
+pub mod Laws
+pub mod Unique

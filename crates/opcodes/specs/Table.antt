@@ -1,0 +1,37 @@
+-- The opcode table: three pages of 256 places, plain, after 10 and after 11, each place as the manual's rows have it.
+-- Assumes nothing.
+use Prim.Native.Nat.{ℕ, zero, suc, _*_, _<_}
+use mathlib.Core.Path.{_≡_}
+use mathlib.Core.List.{List, [], _∷_}
+use lib.ListN.{getD}
+use Rattle.opcodes.specs.Manual.{entryOf}
+use Rattle.opcodes.specs.declared.Page.{Page}
+use Rattle.opcodes.specs.declared.Page.the-variants.{Plain, Ten, Eleven}
+use Rattle.opcodes.specs.declared.Place.{Place}
+use Rattle.opcodes.specs.declared.Place.the-variants.{None}
+
+-- the values of f at n places from i on
+abbrev pub values : {A : Type 0} → (ℕ → A) → ℕ → ℕ → List A
+values f i zero = []
+values f i (suc n) = f i ∷ values f (suc i) n
+
+-- the sixteen places of a high digit
+unfoldable pub rowOf : Page → ℕ → List Place
+rowOf page high = values (entryOf page) (16 * high) 16
+
+-- a page's 256 places
+unfoldable pub placesOf : Page → List Place
+placesOf page = values (entryOf page) 0 256
+
+abbrev pub tableOf : List (List Place)
+tableOf = placesOf Plain ∷ placesOf Ten ∷ placesOf Eleven ∷ []
+
+-- where a page stands in the table
+abbrev pub indexOf : Page → ℕ
+indexOf Plain = 0
+indexOf Ten = 1
+indexOf Eleven = 2
+
+-- the table, read at a page and a byte, has what `lookup` answers
+abbrev pub InTable : Type 0
+InTable = (page : Page) (code : ℕ) → code < 256 → getD (getD tableOf (indexOf page) []) code None ≡ entryOf page code

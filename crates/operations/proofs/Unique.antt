@@ -1,0 +1,33 @@
+-- No second answer fits a public function's contract.
+-- Assumes nothing.
+use mathlib.Core.Path.{refl, sym, _∙_}
+use Rattle.answers.proofs.Determined.{Determines}
+use Rattle.operations.proofs
+use Rattle.operations.proofs.branches
+use Rattle.operations.proofs.bytes
+use Rattle.operations.proofs.codes
+use Rattle.operations.proofs.words
+
+pub change : Determines 1 proofs.change.Kinds.ps proofs.change.Kinds.r proofs.change.Reads.Post
+change κs a x y ws vs p q = (p ∙ sym q, refl)
+
+pub jump : Determines 0 branches.jump.Kinds.ps branches.jump.Kinds.r branches.jump.Reads.Post
+jump κs a x y ws vs p q = (p ∙ sym q, refl)
+
+pub on-memory : Determines 1 bytes.on_memory.Kinds.ps bytes.on_memory.Kinds.r bytes.on_memory.Reads.Post
+on-memory κs a x y ws vs p q = (p ∙ sym q, refl)
+
+pub store8 : Determines 0 bytes.store8.Kinds.ps bytes.store8.Kinds.r bytes.store8.Reads.Post
+store8 κs a x y ws vs p q = (p ∙ sym q, refl)
+
+pub and-codes : Determines 0 codes.and_codes.Kinds.ps codes.and_codes.Kinds.r codes.and_codes.Reads.Post
+and-codes κs a x y ws vs p q = (p ∙ sym q, refl)
+
+pub or-codes : Determines 0 codes.or_codes.Kinds.ps codes.or_codes.Kinds.r codes.or_codes.Reads.Post
+or-codes κs a x y ws vs p q = (p ∙ sym q, refl)
+
+pub with-codes : Determines 0 codes.with_codes.Kinds.ps codes.with_codes.Kinds.r codes.with_codes.Reads.Post
+with-codes κs a x y ws vs p q = (p ∙ sym q, refl)
+
+pub store16 : Determines 0 words.store16.Kinds.ps words.store16.Kinds.r words.store16.Reads.Post
+store16 κs a x y ws vs p q = (p ∙ sym q, refl)

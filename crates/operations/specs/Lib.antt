@@ -1,0 +1,10 @@
+pub mod Codes
+pub mod Branches
+pub mod Bytes
+pub mod Words
+pub mod Transfers
+pub mod Inherent
+pub mod Change
+pub mod Sound
+pub mod Parting
+pub mod Refusals

@@ -1,0 +1,75 @@
+-- What an operation on registers refuses: 6 where it reads a word at FFFF, 7 where the post-byte of TFR or EXG names no two registers of
+-- one size.
+-- Assumes nothing.
+use Prim.Native.Nat.{ℕ}
+use mathlib.Core.Bool.{Bool, true, false, not, cond, _&&_}
+use mathlib.Core.List.{List}
+use mathlib.Core.Path.{_≡_}
+use Rattle.answers.specs.Numbers.{numberOf}
+use Rattle.registers.specs.declared.Flags.{Flags}
+use Rattle.registers.specs.declared.Set.{Set}
+use Rattle.memory.specs.Map.{byteAt, wordFits}
+use Rattle.opcodes.specs.declared.RegisterOp.{RegisterOp}
+use Rattle.opcodes.specs.declared.RegisterOp.the-variants.{Alu, OnAcc, TestAcc, TestMemory, Addd, Subd, Load16, Cmp16, Lea, Branch, Jmp, Nop, Daa, Sex, Mul, Abx, Andcc, Orcc, Exg, Tfr}
+use Rattle.operations.specs.Change.{changedOf}
+use Rattle.operations.specs.Transfers.{transferable}
+use Rattle.operations.specs.declared.Changed.{Changed}
+use Rattle.operations.specs.declared.Changed.the-variants.{After, Refused}
+
+abbrev pub numberOfChanged : Changed → ℕ
+numberOfChanged (After r) = 0
+numberOfChanged (Refused x) = numberOf x
+
+abbrev pub readsWord : RegisterOp → Bool
+readsWord (Alu op acc) = false
+readsWord (OnAcc op acc) = false
+readsWord (TestAcc acc) = false
+readsWord TestMemory = false
+readsWord Addd = true
+readsWord Subd = true
+readsWord (Load16 word) = true
+readsWord (Cmp16 word) = true
+readsWord (Lea index) = false
+readsWord (Branch c) = false
+readsWord Jmp = false
+readsWord Nop = false
+readsWord Daa = false
+readsWord Sex = false
+readsWord Mul = false
+readsWord Abx = false
+readsWord Andcc = false
+readsWord Orcc = false
+readsWord Exg = false
+readsWord Tfr = false
+
+abbrev pub namesTwo : RegisterOp → Bool
+namesTwo (Alu op acc) = false
+namesTwo (OnAcc op acc) = false
+namesTwo (TestAcc acc) = false
+namesTwo TestMemory = false
+namesTwo Addd = false
+namesTwo Subd = false
+namesTwo (Load16 word) = false
+namesTwo (Cmp16 word) = false
+namesTwo (Lea index) = false
+namesTwo (Branch c) = false
+namesTwo Jmp = false
+namesTwo Nop = false
+namesTwo Daa = false
+namesTwo Sex = false
+namesTwo Mul = false
+namesTwo Abx = false
+namesTwo Andcc = false
+namesTwo Orcc = false
+namesTwo Exg = true
+namesTwo Tfr = true
+
+-- m is the byte at the effective address, which for TFR and EXG is the post-byte
+abbrev pub refusalNumber : RegisterOp → ℕ → ℕ → ℕ
+refusalNumber op m ea = cond (readsWord op && not (wordFits ea)) 6 (cond (namesTwo op && not (transferable m)) 7 0)
+
+-- the law
+abbrev pub ChangeRefusesExactly : Type 0
+ChangeRefusesExactly =
+    (op : RegisterOp) (s : Flags) (mem : List ℕ) (r : Set) (ea : ℕ)
+    → numberOfChanged (changedOf op s mem r ea) ≡ refusalNumber op (byteAt mem ea) ea

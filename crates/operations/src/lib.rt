@@ -1,0 +1,63 @@
+// What each operation does to the registers, by subject: the manual's instruction pages.
+// The registers come with PC at the next instruction and the index register changed; `ea` is the effective address.
+mod branches;
+mod bytes;
+mod codes;
+mod inherent;
+mod transfers;
+mod words;
+
+ghost use mathlib.Core.Path.{_≡_};
+ghost use Rattle.operations.specs.Change.{changedOf};
+use answers::Refusal;
+pub use branches::jump;
+pub use bytes::on_memory;
+pub use bytes::store8;
+pub use codes::and_codes;
+pub use codes::or_codes;
+pub use codes::with_codes;
+use opcodes::RegisterOp;
+use registers::Flags;
+use registers::Set;
+pub use words::store16;
+
+// Result of an instruction that only changes registers.
+pub enum Changed {
+    After(Set),
+    Refused(Refusal),
+}
+
+pub fn change(op: RegisterOp, flags: Flags, mem: &[u8], regs: Set, ea: u16) -> Changed
+    ensures { λ r. ⌜ r ≡ changedOf op flags (now (mem .entry)) regs ea ⌝ }
+{
+    match op {
+        RegisterOp::Alu(alu, acc) => {
+            let m = memory::read_u8(mem, ea);
+            Changed::After(bytes::with_operand(flags, alu, acc, regs, m))
+        }
+        RegisterOp::OnAcc(unary, acc) => {
+            Changed::After(bytes::on_accumulator(flags, unary, acc, regs))
+        }
+        RegisterOp::TestAcc(acc) => Changed::After(bytes::test(
+            regs,
+            bytes::accumulator(regs, acc),
+        )),
+        RegisterOp::TestMemory => Changed::After(bytes::test(regs, memory::read_u8(mem, ea))),
+        RegisterOp::Addd => words::add_d(mem, regs, ea),
+        RegisterOp::Subd => words::subtract_d(mem, regs, ea),
+        RegisterOp::Load16(word) => words::load16(mem, regs, word, ea),
+        RegisterOp::Cmp16(word) => words::compare16(mem, regs, word, ea),
+        RegisterOp::Lea(index) => Changed::After(words::load_address(regs, index, ea)),
+        RegisterOp::Branch(cond) => Changed::After(branches::branch(regs, cond, ea)),
+        RegisterOp::Jmp => Changed::After(jump(regs, ea)),
+        RegisterOp::Nop => Changed::After(regs),
+        RegisterOp::Daa => Changed::After(inherent::decimal_adjust(regs)),
+        RegisterOp::Sex => Changed::After(inherent::sign_extend(regs)),
+        RegisterOp::Mul => Changed::After(inherent::multiply(regs)),
+        RegisterOp::Abx => Changed::After(inherent::add_b_to_x(regs)),
+        RegisterOp::Andcc => Changed::After(and_codes(regs, memory::read_u8(mem, ea))),
+        RegisterOp::Orcc => Changed::After(or_codes(regs, memory::read_u8(mem, ea))),
+        RegisterOp::Exg => transfers::exchange(regs, memory::read_u8(mem, ea)),
+        RegisterOp::Tfr => transfers::transfer(regs, memory::read_u8(mem, ea)),
+    }
+}

@@ -1,0 +1,65 @@
+-- What the run program prints of a run file (document 01, section "The run program").
+-- Assumes nothing.
+use Prim.Native.Nat.{ℕ, _*_, _≤_}
+use mathlib.Core.List.{List, [], _∷_, _++_}
+use lib.ListN.{length, replicate}
+use Rattle.answers.specs.Numbers.{numberOf, numberOfAnswer}
+use Rattle.answers.specs.declared.Answer.{Answer}
+use Rattle.answers.specs.declared.Refusal.{Refusal}
+use Rattle.answers.specs.declared.Refusal.the-variants.{Malformed}
+use Rattle.text.specs.Lines.{line, alone}
+use Rattle.machine.specs.declared.Machine.{Machine}
+use Rattle.machine.specs.declared.Settings.{Settings}
+use Rattle.calls.specs.declared.InterruptType.the-variants.{Irq as IRQ, Firq as FIRQ, Nmi as NMI}
+use Rattle.journal.specs.Record.{recordLength}
+use Rattle.journal.specs.Recorded.{State, Ended, freshTwin, inHand, stepped, interrupted, wasReset}
+use Rattle.journal.specs.Undos.{undone}
+use Rattle.runfile.specs.Format.{Parsed, says, malformed, parsed, placed}
+use Rattle.runfile.specs.declared.Operation.{Operation}
+use Rattle.runfile.specs.declared.Operation.the-variants.{Step, Irq, Firq, Nmi, Reset, Undo}
+
+-- each operation is a recorded call
+abbrev pub acted : Settings → Operation → State → Ended
+acted t Step s = stepped t s
+acted t Irq s = interrupted t IRQ s
+acted t Firq s = interrupted t FIRQ s
+acted t Nmi s = interrupted t NMI s
+acted t Reset s = wasReset t s
+acted t Undo s = undone s
+
+-- the line of a call that was answered so and left this machine
+abbrev pub lineOf : Answer → Machine → List ℕ
+lineOf a m = line (numberOfAnswer a) (m .regs .pc) (m .regs .cc .reg) (m .cycles)
+
+-- the one line of a refused input
+abbrev pub refusalLine : Refusal → List ℕ
+refusalLine x = alone (numberOf x)
+
+-- the line of an operation that ended so
+abbrev pub lineFor : Ended → List ℕ
+lineFor e = lineOf (e .answer) (e .state .twin .machine)
+
+-- a line for each operation, in order
+unfoldable pub lines : Settings → List Operation → State → List ℕ
+lines t [] s = []
+lines t (o ∷ os) s = lineFor (acted t o s) ++ lines t os (acted t o s .state)
+
+-- with this in hand at the start, a sound file's operations are played; a malformed one prints its number, 16
+abbrev pub played : Parsed → State → List ℕ
+played (says f) s = lines (f .settings) (f .operations) s
+played malformed s = refusalLine Malformed
+
+unfoldable pub zeros : ℕ → List ℕ
+zeros n = replicate n 0
+
+-- 960 records
+abbrev pub journalLength : ℕ
+journalLength = 960 * recordLength
+
+-- memory is zeroed before the pieces are laid
+unfoldable pub printed : List ℕ → List ℕ
+printed file = played (parsed file) (inHand (placed (parsed file) (zeros 65536)) (zeros journalLength) freshTwin)
+
+-- the law: a line has at most 33 bytes, and a file no more operations than its 32,768 bytes
+abbrev pub PlayFits : Type 0
+PlayFits = (file : List ℕ) → length (printed file) ≤ 33 * 32768

@@ -1,0 +1,118 @@
+-- What is still to be pulled, register by register from the end of the order of pushing.
+-- Assumes nothing.
+use Prim.Native.Nat.{ℕ, zero, suc, _+_, _%_, _<_}
+use mathlib.Core.Path.{_≡_, refl, sym, ap, _∙_}
+use mathlib.Core.Bool.{true, false, cond}
+use mathlib.Core.List.{List, [], _∷_, reverse}
+use native.Mathlib.Numerals.{add-one}
+use native.Mathlib.Omega.{arith}
+use lib.ListN.{getD, drop}
+use lib.Seq.{drop-cons}
+use Rattle.u8oru16.specs.declared.u8u16.the-variants.{u8, u16}
+use Rattle.answers.specs.declared.Refusal.{Refusal}
+use Rattle.registers.specs.ConditionCodes.{bitAt}
+use Rattle.registers.specs.RegisterSet.{written}
+use Rattle.registers.specs.declared.Name.{Name}
+use Rattle.registers.specs.declared.Name.the-variants.{CC}
+use Rattle.registers.specs.declared.Set.{Set}
+use Rattle.registers.specs.declared.Stack.{Stack}
+use Rattle.registers.specs.declared.Stack.the-variants.{S, U}
+use Rattle.memory.specs.Map.{byteAt, wordAt, valueAt}
+use Rattle.memory.specs.declared.WordRead.the-variants.{Word, Refused as NotRead}
+use Rattle.stack.specs.Pushing.{order, chosen}
+use Rattle.stack.specs.Pulling.{pulledInto, pulls}
+use Rattle.stack.specs.declared.pulling.Pulled.{Pulled}
+use Rattle.stack.specs.declared.pulling.Pulled.the-variants.{To, Refused}
+
+abbrev nameAt : Stack → ℕ → Name
+nameAt stack k = getD (reverse (order stack)) k (0, CC) .1
+
+-- bit k names the register at place k
+bit-of : (stack : Stack) (k : ℕ) → k < 8 → getD (reverse (order stack)) k (0, CC) .0 ≡ k
+bit-of stack zero h = refl
+bit-of stack (suc zero) h = refl
+bit-of stack (suc (suc zero)) h = refl
+bit-of stack (suc (suc (suc zero))) h = refl
+bit-of stack (suc (suc (suc (suc zero)))) h = refl
+bit-of stack (suc (suc (suc (suc (suc zero))))) h = refl
+bit-of stack (suc (suc (suc (suc (suc (suc zero)))))) h = refl
+bit-of stack (suc (suc (suc (suc (suc (suc (suc zero))))))) h = refl
+bit-of stack (suc (suc (suc (suc (suc (suc (suc (suc k)))))))) h = absurd (omega arith)
+
+module _ (mem : List ℕ) (r : Set) (at : ℕ) where
+  -- the first four are bytes
+  byte-into : (stack : Stack) (k : ℕ) → k < 4 → pulledInto mem (nameAt stack k) (To r at) ≡ To (written r (nameAt stack k) (u8 (byteAt mem at))) ((at + 1) % 65536)
+  unfolding valueAt
+  byte-into stack zero h = refl
+  byte-into stack (suc zero) h = refl
+  byte-into stack (suc (suc zero)) h = refl
+  byte-into stack (suc (suc (suc zero))) h = refl
+  byte-into stack (suc (suc (suc (suc k)))) h = absurd (omega arith)
+
+  -- the last four are words
+  word-into : (stack : Stack) (k w : ℕ) → 3 < k → k < 8 → wordAt mem at ≡ Word w → pulledInto mem (nameAt stack k) (To r at) ≡ To (written r (nameAt stack k) (u16 w)) ((at + 2) % 65536)
+  unfolding valueAt
+  word-into stack (suc (suc (suc (suc zero)))) w g h e = rw e
+  word-into stack (suc (suc (suc (suc (suc zero))))) w g h e = rw e
+  word-into S (suc (suc (suc (suc (suc (suc zero)))))) w g h e = rw e
+  word-into U (suc (suc (suc (suc (suc (suc zero)))))) w g h e = rw e
+  word-into stack (suc (suc (suc (suc (suc (suc (suc zero))))))) w g h e = rw e
+  word-into stack (suc (suc (suc (suc (suc (suc (suc (suc k)))))))) w g h e = absurd (omega arith)
+  word-into stack zero w g h e = absurd (omega arith)
+  word-into stack (suc zero) w g h e = absurd (omega arith)
+  word-into stack (suc (suc zero)) w g h e = absurd (omega arith)
+  word-into stack (suc (suc (suc zero))) w g h e = absurd (omega arith)
+
+  none-into : (stack : Stack) (k : ℕ) (x : Refusal) → 3 < k → k < 8 → wordAt mem at ≡ NotRead x → pulledInto mem (nameAt stack k) (To r at) ≡ Refused x
+  unfolding valueAt
+  none-into stack (suc (suc (suc (suc zero)))) x g h e = rw e
+  none-into stack (suc (suc (suc (suc (suc zero))))) x g h e = rw e
+  none-into S (suc (suc (suc (suc (suc (suc zero)))))) x g h e = rw e
+  none-into U (suc (suc (suc (suc (suc (suc zero)))))) x g h e = rw e
+  none-into stack (suc (suc (suc (suc (suc (suc (suc zero))))))) x g h e = rw e
+  none-into stack (suc (suc (suc (suc (suc (suc (suc (suc k)))))))) x g h e = absurd (omega arith)
+  none-into stack zero x g h e = absurd (omega arith)
+  none-into stack (suc zero) x g h e = absurd (omega arith)
+  none-into stack (suc (suc zero)) x g h e = absurd (omega arith)
+  none-into stack (suc (suc (suc zero))) x g h e = absurd (omega arith)
+
+-- after a refusal nothing more is pulled
+pub ended : (mem : List ℕ) (l : List Name) (x : Refusal) → pulls mem l (Refused x) ≡ Refused x
+unfolding pulls
+ended mem [] x = refl
+ended mem (n ∷ l) x = ended mem l x
+
+module _ (mem : List ℕ) (stack : Stack) (mask : ℕ) where
+  -- the pull from bit k on
+  abbrev pub from : ℕ → Pulled → Pulled
+  from k p = pulls mem (chosen mask (drop k (reverse (order stack)))) p
+
+  pub all-pulled : (p : Pulled) → p ≡ from 8 p
+  unfolding chosen pulls
+  all-pulled p = refl
+
+  -- a turn of the loops: bit k
+  module _ (k : ℕ) (h : k < 8) where
+    split : drop k (reverse (order stack)) ≡ getD (reverse (order stack)) k (0, CC) ∷ drop (k + 1) (reverse (order stack))
+    split = rw add-one (drop-cons (reverse (order stack)) k (0, CC) h)
+
+    one : (p : Pulled) → from k p ≡ pulls mem (cond (bitAt k mask) (nameAt stack k ∷ chosen mask (drop (k + 1) (reverse (order stack)))) (chosen mask (drop (k + 1) (reverse (order stack))))) p
+    unfolding chosen
+    one p = rw (split, bit-of stack k h)
+
+    pub turn-off : bitAt k mask ≡ false → (p : Pulled) → from (k + 1) p ≡ from k p
+    turn-off b p = sym (one p ∙ rw b)
+
+    turn-on : bitAt k mask ≡ true → (p : Pulled) → from (k + 1) (pulledInto mem (nameAt stack k) p) ≡ from k p
+    unfolding pulls
+    turn-on b p = sym (one p ∙ rw b)
+
+    module _ (r : Set) (at : ℕ) (b : bitAt k mask ≡ true) where
+      pub turn-byte : k < 4 → (v : ℕ) (q : Set) (to : ℕ) → v ≡ byteAt mem at → q ≡ written r (nameAt stack k) (u8 v) → to ≡ (at + 1) % 65536 → from (k + 1) (To q to) ≡ from k (To r at)
+      turn-byte g v q to ev eq et = rw (et, eq, ev) (ap (from (k + 1)) (sym (byte-into mem r at stack k g)) ∙ turn-on b (To r at))
+
+      pub turn-word : 3 < k → (w : ℕ) (q : Set) (to : ℕ) → wordAt mem at ≡ Word w → q ≡ written r (nameAt stack k) (u16 w) → to ≡ (at + 2) % 65536 → from (k + 1) (To q to) ≡ from k (To r at)
+      turn-word g w q to ew eq et = rw (et, eq) (ap (from (k + 1)) (sym (word-into mem r at stack k w g h ew)) ∙ turn-on b (To r at))
+
+      pub turn-refused : 3 < k → (x : Refusal) → wordAt mem at ≡ NotRead x → Refused x ≡ from k (To r at)
+      turn-refused g x e = sym (ended mem _ x) ∙ (ap (from (k + 1)) (sym (none-into mem r at stack k x g h e)) ∙ turn-on b (To r at))

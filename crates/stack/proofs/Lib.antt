@@ -1,0 +1,5 @@
+pub mod Filling
+pub mod Emptying
+pub mod Laws
+pub mod Sound
+pub mod Unique

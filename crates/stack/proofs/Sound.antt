@@ -1,0 +1,183 @@
+-- Pushes and pulls are sound.
+-- Assumes nothing.
+use Prim.Native.Nat.{ℕ, zero, suc, _-_, _≤_, _<_}
+use mathlib.Core.Bool.{Bool, true, false}
+use mathlib.Core.List.{List, [], _∷_, _++_, reverse}
+use mathlib.Core.Path.{_≡_, refl, ap}
+use native.Mathlib.Nat.{mod-lt}
+use native.Mathlib.Omega.{arith}
+use lib.Dec.{eqb, ltb, lit<}
+use lib.ListN.{length, replicate, length-append}
+use Rattle.u8oru16.specs.declared.u8u16.{u8u16}
+use Rattle.u8oru16.specs.declared.u8u16.the-variants.{u8, u16}
+use Rattle.answers.specs.declared.Answer.{Answer}
+use Rattle.answers.specs.declared.Answer.the-variants.{Done, Refused as NotDone}
+use Rattle.answers.specs.declared.Refusal.the-variants.{StackTooSmall}
+use Rattle.registers.specs.ConditionCodes.{coded, flag, put}
+use Rattle.registers.specs.Fits.{Fits, InWidth}
+use Rattle.registers.specs.RegisterSet.{sizeOf, stackWord, read, wordOf, withWord}
+use Rattle.registers.specs.declared.CCBit.the-variants.{E}
+use Rattle.registers.specs.declared.Name.{Name}
+use Rattle.registers.specs.declared.Set.{Set}
+use Rattle.registers.specs.declared.Stack.{Stack}
+use Rattle.registers.specs.declared.Stack.the-variants.{S}
+use Rattle.registers.proofs.Fits.{put-fits, read-fits, written-fits}
+use Rattle.memory.specs.Fits.{Bytes, AllFit}
+use Rattle.memory.specs.Map.{byteAt, wordAt, valueAt}
+use Rattle.memory.specs.Writes.{twelve, writesOf, valueWrites}
+use Rattle.memory.specs.declared.ValueRead.{ValueRead}
+use Rattle.memory.specs.declared.ValueRead.the-variants.{Value, Refused as NotRead}
+use Rattle.memory.specs.declared.WordRead.{WordRead}
+use Rattle.memory.specs.declared.WordRead.the-variants.{Word, Refused as NoWord}
+use Rattle.memory.specs.declared.Write.{Write}
+use Rattle.memory.proofs.Fits.{byte-fits, WordIn, word-fits, word-writes-fit}
+use Rattle.memory.proofs.Twelve.{Full}
+use Rattle.machine.specs.Effect.{stores}
+use Rattle.machine.specs.declared.Effect.{Effect}
+use Rattle.machine.specs.declared.Wait.{Wait}
+use Rattle.machine.specs.declared.Wait.the-variants.{Running}
+use Rattle.operations.specs.Branches.{jumped}
+use Rattle.operations.specs.Codes.{withCodes}
+use Rattle.operations.specs.Sound.{Sound, Given}
+use Rattle.operations.proofs.Sound.{done-sound, changed-sound, stored-sound, refused-sound, either-sound}
+use Rattle.operations.proofs.Widths.{word-in, word-written, jumped-fits, codes-fits}
+use Rattle.stack.specs.Pushing.{order, chosen, named, bytesOf, pushes, pushed, oncePushed, called}
+use Rattle.stack.specs.Frames.{stackedBy, framed}
+use Rattle.stack.specs.Pulling.{loaded, pulledInto, pulls, ofPulled, pulled, returned}
+use Rattle.stack.specs.Laws.{StackSound}
+use Rattle.stack.specs.declared.pulling.Pulled.{Pulled}
+use Rattle.stack.specs.declared.pulling.Pulled.the-variants.{To, Refused}
+use Rattle.stack.proofs.Laws.{none-dropped}
+
+-- ---- widths of writes
+
+append-fits : (l m : List Write) → AllFit l → AllFit m → AllFit (l ++ m)
+append-fits [] m f g = g
+append-fits (w ∷ l) m f g = (f .0, append-fits l m (f .1) g)
+
+zeros-fit : (n : ℕ) → AllFit (replicate n (record { at = 0; byte = 0; system = false }))
+zeros-fit zero = tt
+zeros-fit (suc n) = (record { address = lit< tt; value = lit< tt }, zeros-fit n)
+
+twelve-fit : (l : List Write) → AllFit l → AllFit (twelve l)
+unfolding twelve
+twelve-fit l f = append-fits l _ f (zeros-fit (12 - length l))
+
+zeros-length : (n : ℕ) (w : Write) → length (replicate n w) ≡ n
+zeros-length zero w = refl
+zeros-length (suc n) w = ap suc (zeros-length n w)
+
+twelve-full : (l : List Write) → length l ≤ 12 → Full (writesOf l)
+unfolding twelve
+twelve-full l h =
+    let n : Write = record { at = 0; byte = 0; system = false } in
+    record { places = omega (arith, length-append l (replicate (12 - length l) n), zeros-length (12 - length l) n) }
+
+value-fits : (at : ℕ) (v : u8u16) (system : Bool) → at < 65536 → InWidth v → AllFit (valueWrites at v system)
+value-fits at (u8 b) system h k = (record { address = h; value = k }, tt)
+value-fits at (u16 w) system h k = word-writes-fit at w system h k
+
+module _ (r : Set) (f : Fits r) (system : Bool) where
+  pushes-fit : (pointer : ℕ) (l : List Name) → pointer < 65536 → AllFit (pushes r system pointer l)
+  unfolding pushes
+  pushes-fit pointer [] h = tt
+  pushes-fit pointer (n ∷ l) h =
+      let at : pointer - sizeOf n < 65536 = omega arith in
+      append-fits (valueWrites (pointer - sizeOf n) (read r n) system) (pushes r system (pointer - sizeOf n) l)
+      (value-fits (pointer - sizeOf n) (read r n) system at (read-fits r f n)) (pushes-fit (pointer - sizeOf n) l at)
+
+-- ---- what follows a push
+
+module _ {P : Type 0} (r : Set) (h : P → Fits r) where
+  pub once-sound : {w : Wait} (a : Answer) (e : Effect) → Sound P r w e → Sound P r w (oncePushed r a e)
+  once-sound Done e s = s
+  once-sound (NotDone x) e s = refused-sound r h x
+
+  -- a push of other registers q, handed on
+  pub handed-on : {Q : Type 0} (q : Set) {w : Wait} (p : Effect) → (P → Q) → Sound Q q w p → Sound P r w (oncePushed r (p .answer) p)
+  handed-on q {w} p k s = go (p .answer) refl
+    where
+      go : (a : Answer) → p .answer ≡ a → Sound P r w (oncePushed r a p)
+      go Done e = done-sound r p e (s .waits e) (record { places = s .few }) (λ g. s .registers (k g)) (λ g. s .widths (k g))
+      go (NotDone x) e = refused-sound r h x
+
+-- ---- pulls
+
+abbrev PulledFits : Pulled → Type 0
+PulledFits (To r pointer) = Fits r × (pointer < 65536)
+PulledFits (Refused x) = Unit {0}
+
+-- a value that was read
+abbrev ValueIn : ValueRead → Type 0
+ValueIn (Value v) = InWidth v
+ValueIn (NotRead x) = Unit {0}
+
+module _ (mem : List ℕ) (bytes : Bytes mem) where
+  value-in : (at : ℕ) (wide : Bool) → ValueIn (valueAt mem at wide)
+  unfolding valueAt
+  value-in at false = byte-fits mem bytes at
+  value-in at true = go (wordAt mem at) refl (word-fits mem bytes at)
+    where
+      go : (w : WordRead) → wordAt mem at ≡ w → WordIn w → ValueIn (valueAt mem at true)
+      go (Word w) e i = rw e i
+      go (NoWord x) e i = rw e tt
+
+  into-fits : (n : Name) (p : Pulled) → PulledFits p → PulledFits (pulledInto mem n p)
+  into-fits n (To r pointer) f = go (valueAt mem pointer (eqb (sizeOf n) 2)) (value-in pointer (eqb (sizeOf n) 2))
+    where
+      go : (v : ValueRead) → ValueIn v → PulledFits (loaded n r pointer v)
+      go (Value v) i = (written-fits r (f .0) n v i, mod-lt _ (lit< tt))
+      go (NotRead x) i = tt
+  into-fits n (Refused x) f = tt
+
+  pulls-fit : (l : List Name) (p : Pulled) → PulledFits p → PulledFits (pulls mem l p)
+  unfolding pulls
+  pulls-fit [] p f = f
+  pulls-fit (n ∷ l) p f = pulls-fit l (pulledInto mem n p) (into-fits n p f)
+
+-- ---- the laws
+
+module _ (mem : List ℕ) (r : Set) (ea : ℕ) where
+  push-sound : (stack : Stack) (mask : ℕ) (system : Bool) → Sound (Given mem r ea) r Running (pushed r stack mask system)
+  unfolding pushed
+  push-sound stack mask system =
+      let own = stackWord stack in
+      let pointer = wordOf r own in
+      let l = pushes r system pointer (named stack mask) in
+      let few : length l ≤ 12 = omega (arith, none-dropped .bytes r stack mask pointer system, none-dropped .few mask) in
+      either-sound r (ltb pointer (bytesOf mask)) _ _ (refused-sound r (λ g. g .registers) StackTooSmall)
+      (stored-sound r (withWord r own (pointer - bytesOf mask)) (writesOf l) (twelve-full l few)
+      (λ g. word-written r (g .registers) own (pointer - bytesOf mask) (omega (arith, word-in r (g .registers) own)))
+      (λ g. twelve-fit l (pushes-fit r (g .registers) system pointer (named stack mask) (word-in r (g .registers) own))))
+
+  pull-sound : (stack : Stack) (mask : ℕ) → Sound (Given mem r ea) r Running (pulled mem r stack mask)
+  unfolding pulled
+  pull-sound stack mask =
+      let own = stackWord stack in
+      let p = pulls mem (chosen mask (reverse (order stack))) (To r (wordOf r own)) in
+      go p (λ g. pulls-fit mem (g .bytes) (chosen mask (reverse (order stack))) (To r (wordOf r own)) (g .registers, word-in r (g .registers) own))
+    where
+      go : (p : Pulled) → (Given mem r ea → PulledFits p) → Sound (Given mem r ea) r Running (ofPulled r stack p)
+      go (To q pointer) f = changed-sound r (withWord q (stackWord stack) pointer) (λ g. word-written q (f g .0) (stackWord stack) pointer (f g .1))
+      go (Refused x) f = refused-sound r (λ g. g .registers) x
+
+  call-sound : Sound (Given mem r ea) r Running (called r ea)
+  unfolding called
+  call-sound =
+      let p = pushed r S 0x80 false in
+      let s = push-sound S 0x80 false in
+      once-sound r (λ g. g .registers) (p .answer) (stores (jumped (p .regs) ea) (p .writes))
+      (stored-sound r (jumped (p .regs) ea) (p .writes) (record { places = s .few }) (λ g. jumped-fits (p .regs) (s .registers g) ea (g .address)) (s .widths))
+
+pub stack-sound : (mem : List ℕ) (r : Set) (ea : ℕ) → StackSound mem r ea
+unfolding framed returned
+stack-sound mem r ea = record {
+  push = push-sound mem r ea;
+  call = call-sound mem r ea;
+  frame = λ entire.
+      let q = withCodes r (put E entire (r .cc)) in
+      handed-on r (λ g. g .registers) q _ (λ g. record { registers = codes-fits r (g .registers) (put E entire (r .cc)) (put-fits E entire (r .cc) (g .registers .cc)); bytes = g .bytes; address = g .address })
+      (push-sound mem q ea S (stackedBy entire) true);
+  pull = pull-sound mem r ea;
+  rti = pull-sound mem r ea S (stackedBy (flag E (coded (byteAt mem (r .s)))));
+}

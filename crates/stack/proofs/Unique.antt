@@ -1,0 +1,22 @@
+-- No second answer fits a public function's contract.
+-- Assumes nothing.
+use mathlib.Core.Path.{refl, sym, _∙_}
+use Rattle.answers.proofs.Determined.{Determines}
+use Rattle.stack.proofs.frames
+use Rattle.stack.proofs.pulling
+use Rattle.stack.proofs.pushing
+
+pub push : Determines 0 pushing.push.Kinds.ps pushing.push.Kinds.r pushing.push.Reads.Post
+push κs a x y ws vs p q = (p ∙ sym q, refl)
+
+pub call : Determines 0 pushing.call.Kinds.ps pushing.call.Kinds.r pushing.call.Reads.Post
+call κs a x y ws vs p q = (p ∙ sym q, refl)
+
+pub pull : Determines 1 pulling.pull.Kinds.ps pulling.pull.Kinds.r pulling.pull.Reads.Post
+pull κs a x y ws vs p q = (p ∙ sym q, refl)
+
+pub return-from-interrupt : Determines 1 pulling.return_from_interrupt.Kinds.ps pulling.return_from_interrupt.Kinds.r pulling.return_from_interrupt.Reads.Post
+return-from-interrupt κs a x y ws vs p q = (p ∙ sym q, refl)
+
+pub frame : Determines 0 frames.frame.Kinds.ps frames.frame.Kinds.r frames.frame.Reads.Post
+frame κs a x y ws vs p q = (p ∙ sym q, refl)

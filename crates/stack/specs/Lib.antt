@@ -1,0 +1,4 @@
+pub mod Pushing
+pub mod Pulling
+pub mod Frames
+pub mod Laws

@@ -1,4 +1,0 @@
-pub mod Laws
-pub mod Parting
-pub mod Stacks
-pub mod Unique

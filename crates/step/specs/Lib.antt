@@ -1,4 +1,0 @@
-pub mod Parting
-pub mod Small
-pub mod Step
-pub mod Laws

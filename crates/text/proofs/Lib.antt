@@ -1,0 +1,5 @@
+pub mod Digits
+pub mod Stores
+pub mod Decimals
+pub mod Texts
+pub mod Unique

@@ -1,0 +1,23 @@
+-- Bytes stored from a place on, part by part.
+-- Assumes nothing.
+use Prim.Native.Nat.{ℕ, suc, _+_, _≤_, _<_}
+use mathlib.Core.Path.{_≡_, refl, _∙_}
+use mathlib.Core.List.{List, [], _∷_, _++_}
+use native.Mathlib.Omega.{arith}
+use native.Mathlib.Numerals.{add-one}
+use lib.ListN.{length, getD, set, take}
+use lib.Seq.{sets, set-out, take-suc, length-take-le}
+
+pub sets-append : (l xs ys : List ℕ) (i : ℕ) → sets l i (xs ++ ys) ≡ sets (sets l i xs) (i + length xs) ys
+sets-append l [] ys i = let e : i + 0 ≡ i = omega arith in rw e
+sets-append l (x ∷ xs) ys i = sets-append (set l i x) xs ys (suc i) ∙ (let e : suc i + length xs ≡ i + suc (length xs) = omega arith in rw e)
+
+-- past the end nothing is stored
+pub sets-out : (l vs : List ℕ) (i : ℕ) → length l ≤ i → sets l i vs ≡ l
+sets-out l [] i h = refl
+sets-out l (v ∷ vs) i h = rw (set-out l i v h) (sets-out l vs (suc i) (omega arith))
+
+pub one-more : (l vs : List ℕ) (at i : ℕ) → i < length vs → set (sets l at (take i vs)) (at + i) (getD vs i 0) ≡ sets l at (take (i + 1) vs)
+one-more l vs at i h =
+    let e : length (take i vs) ≡ i = length-take-le i vs (omega arith) in
+    rw (add-one, take-suc vs i 0 h, sets-append l (take i vs) (getD vs i 0 ∷ []) at, e)

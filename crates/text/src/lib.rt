@@ -1,0 +1,33 @@
+// Text in ASCII: hexadecimal digits and what they stand for, decimal numbers, and the lines that are printed.
+mod hex;
+mod lines;
+
+ghost use mathlib.Core.Path.{_≡_};
+ghost use lib.Seq.{sets};
+pub use hex::byte;
+pub use hex::hex2;
+pub use hex::hex4;
+pub use hex::is_digit;
+pub use hex::value;
+pub use lines::Text;
+pub use lines::alone;
+pub use lines::decimal;
+pub use lines::line;
+
+// Writes a part at a place. What would lie past the end is left out.
+pub fn put(out: &mut [u8], at: usize, part: &[u8])
+    ensures { λ _. ⌜ now (out .exit) ≡ sets (now (out .entry)) at (now (part .entry)) ⌝ }
+{
+    let size = out.len();
+    if size < at {
+        return;
+    }
+    let room = size - at;
+    let mut i = 0;
+    while i < part.len() {
+        if i < room {
+            out[at + i] = part[i];
+        }
+        i += 1;
+    }
+}

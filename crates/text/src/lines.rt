@@ -1,0 +1,97 @@
+// Decimal numbers and the lines that are printed, as values.
+ghost use mathlib.Core.Path.{_≡_};
+ghost use mathlib.Core.List.{List, [], _∷_, _++_};
+ghost use Prim.Native.Nat.{ℕ};
+ghost use lib.ListN.{length};
+ghost use lib.Seq.{sets};
+ghost use Rattle.text.specs.Hex.{hex2 as Hex·hex2};
+ghost use Rattle.text.specs.Lines.{decimal as Lines·decimal, line as Lines·line, alone as Lines·alone, textOf, said};
+use crate::hex2;
+use crate::put;
+
+// The longest line: an answer of three digits, PC, CC, a counter of twenty digits.
+const ROOM: usize = 33;
+
+// A text of at most 33 bytes: `len` of them are used, the others are 0.
+pub struct Text {
+    pub bytes: [u8; ROOM],
+    pub len: usize,
+}
+
+impl Text {
+    // Writes the text at a place, and returns its length. What would lie past the end is left out.
+    pub fn put(self, out: &mut [u8], at: usize) -> usize
+        ensures { λ r. ⌜ (r ≡ length (said self)) × (now (out .exit) ≡ sets (now (out .entry)) at (said self)) ⌝ }
+    {
+        let bytes = self.bytes;
+        let len = self.len;
+        if len < ROOM {
+            put(out, at, &bytes[..len]);
+            return len;
+        }
+        put(out, at, &bytes);
+        ROOM
+    }
+}
+
+fn empty() -> Text
+    ensures { λ r. ⌜ r ≡ textOf [] ⌝ }
+{
+    Text {
+        bytes: [0; ROOM],
+        len: 0,
+    }
+}
+
+// A text with one byte more, if there is room.
+fn with_byte(text: Text, b: u8) -> Text
+    ensures { λ r. ⌜ ((l : List ℕ) → text ≡ textOf l → r ≡ textOf (l ++ (b ∷ []))) ⌝ }
+{
+    let at = text.len;
+    let mut bytes = text.bytes;
+    if at < ROOM {
+        bytes[at] = b;
+        return Text { bytes, len: at + 1 };
+    }
+    text
+}
+
+fn with_hex(text: Text, b: u8) -> Text
+    ensures { λ r. ⌜ ((l : List ℕ) → text ≡ textOf l → r ≡ textOf (l ++ Hex·hex2 b)) ⌝ }
+{
+    let digits = hex2(b);
+    with_byte(with_byte(text, digits[0]), digits[1])
+}
+
+fn with_decimal(text: Text, n: u64) -> Text
+    ensures { λ r. ⌜ ((l : List ℕ) → text ≡ textOf l → r ≡ textOf (l ++ Lines·decimal n)) ⌝ }
+{
+    if n < 10 {
+        return with_byte(text, b'0' + n as u8);
+    }
+    with_byte(with_decimal(text, n / 10), b'0' + (n % 10) as u8)
+}
+
+pub fn decimal(n: u64) -> Text
+    ensures { λ r. ⌜ r ≡ textOf (Lines·decimal n) ⌝ }
+{
+    with_decimal(empty(), n)
+}
+
+// A number in a line of its own.
+pub fn alone(n: u8) -> Text
+    ensures { λ r. ⌜ r ≡ textOf (Lines·alone n) ⌝ }
+{
+    with_byte(decimal(n as u64), b'\n')
+}
+
+// The line of a call.
+pub fn line(answer: u8, pc: u16, cc: u8, cycles: u64) -> Text
+    ensures { λ r. ⌜ r ≡ textOf (Lines·line answer pc cc cycles) ⌝ }
+{
+    let number = with_byte(decimal(answer as u64), b' ');
+    let high = with_hex(number, (pc / 256) as u8);
+    let word = with_byte(with_hex(high, (pc % 256) as u8), b' ');
+    let codes = with_byte(with_hex(word, cc), b' ');
+    with_byte(with_decimal(codes, cycles), b'\n')
+}

@@ -1,0 +1,4 @@
+pub mod Laws
+pub mod Sound
+pub mod Overwritten
+pub mod Unique

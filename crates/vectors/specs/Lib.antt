@@ -1,0 +1,4 @@
+pub mod Table
+pub mod Service
+pub mod Waits
+pub mod Laws

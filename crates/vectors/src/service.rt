@@ -1,0 +1,57 @@
+// An interrupt that is served: its frame is stacked, its masks are set, its vector is taken.
+ghost use mathlib.Core.Path.{_≡_};
+ghost use Rattle.memory.specs.Writes.{listed, stored};
+ghost use Rattle.vectors.specs.Table.{addressOf};
+ghost use Rattle.vectors.specs.Service.{wordIn, vectored, served};
+use super::table::Vector;
+use answers::Answer;
+use answers::Refusal;
+use machine::Effect;
+use machine::Settings;
+use memory::Writes;
+use registers::Set;
+
+// The word at the vector, as it is once the writes are made.
+fn word_at(mem: &[u8], ram_top: u16, writes: Writes, vector: Vector) -> u16
+    ensures { λ r. ⌜ r ≡ wordIn (stored «ram_top» (listed writes) (now (mem .entry))) (addressOf vector) ⌝ }
+{
+    let at = vector.address();
+    let high = memory::read_u8_after(mem, ram_top, writes, at);
+    let low = memory::read_u8_after(mem, ram_top, writes, at + 1);
+    256 * high as u16 + low as u16
+}
+
+// After a frame; with nothing stacked it is an interrupt in CWAI. A refusal hands back the registers from before the frame.
+pub fn take_vector(
+    mem: &[u8],
+    settings: Settings,
+    before: Set,
+    frame: Effect,
+    vector: Vector,
+) -> Effect
+    ensures { λ r. ⌜ r ≡ vectored (now (mem .entry)) settings before frame vector ⌝ }
+{
+    let answer = frame.answer;
+    let writes = frame.writes;
+    let stacked = frame.regs;
+    let ram_top = settings.ram_top;
+    match answer {
+        Answer::Refused(refusal) => Effect::refuses(before, refusal),
+        Answer::Done => {
+            let pc = word_at(mem, ram_top, writes, vector);
+            if memory::read_u8_after(mem, ram_top, writes, pc) == 0 {
+                Effect::refuses(before, Refusal::ZeroAtVector)
+            } else {
+                let masked = operations::or_codes(stacked, vector.masks());
+                Effect::stores(operations::jump(masked, pc), writes)
+            }
+        }
+    }
+}
+
+pub fn serve(mem: &[u8], settings: Settings, regs: Set, vector: Vector) -> Effect
+    ensures { λ r. ⌜ r ≡ served (now (mem .entry)) settings regs vector ⌝ }
+{
+    let frame = stack::frame(regs, vector.is_entire());
+    take_vector(mem, settings, regs, frame, vector)
+}
