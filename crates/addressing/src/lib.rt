@@ -134,8 +134,20 @@ fn advance(found: Addressed, next: u32) -> Resolved
     ensures { λ r. ⌜ r ≡ advanced found next ⌝ }
 {
     if next <= 0xFFFF {
-        let mut regs = found.regs;
-        regs.pc = next as u16;
+        // The whole set, not PC alone: then the compiler keeps each register by itself (docs/PERFORMANCE.md).
+        let before = found.regs;
+        let cc = before.cc;
+        let regs = Set {
+            x: before.x,
+            y: before.y,
+            u: before.u,
+            s: before.s,
+            pc: next as u16,
+            a: before.a,
+            b: before.b,
+            dp: before.dp,
+            cc,
+        };
         Resolved::At(Addressed { regs, ea: found.ea })
     } else {
         Resolved::Refused(Refusal::PastEnd)

@@ -36,11 +36,22 @@ fn condition(cc: CCBits, cond: Cond) -> bool
     }
 }
 
-pub fn jump(mut regs: Set, ea: u16) -> Set
+pub fn jump(regs: Set, ea: u16) -> Set
     ensures { λ r. ⌜ r ≡ jumped regs ea ⌝ }
 {
-    regs.pc = ea;
-    regs
+    // As `advance` of `addressing` does it: the whole set, not PC alone.
+    let cc = regs.cc;
+    Set {
+        x: regs.x,
+        y: regs.y,
+        u: regs.u,
+        s: regs.s,
+        pc: ea,
+        a: regs.a,
+        b: regs.b,
+        dp: regs.dp,
+        cc,
+    }
 }
 
 pub fn branch(regs: Set, cond: Cond, ea: u16) -> Set
