@@ -13,8 +13,8 @@ use Rattle.memory.specs.declared.Landing.{Landing}
 use Rattle.memory.specs.declared.Landing.the-variants.{Stored, Device, Ignored}
 use Rattle.memory.specs.declared.Write.{Write}
 use Rattle.machine.specs.declared.Machine.{Machine}
-use Rattle.machine.specs.Record.{bytes, header, headerLength}
-use Rattle.machine.proofs.Header.{length-header}
+use Rattle.machine.specs.Record.{Cycles, Instructions, bytes, front, counter, offset, header, headerLength}
+use Rattle.machine.proofs.Header.{header-in-parts, length-front, length-counter, length-header}
 use Rattle.journal.specs.Record.{Saved, recordLength, entries, encode}
 use Rattle.journal.specs.Recorded.{savedAt, savedFor}
 
@@ -28,14 +28,23 @@ sets-more d (v ∷ p) q k n e = sets-more (set d k v) p q (suc k) n (omega arith
 -- ---- the header, and zeros after it
 
 pub header-laid : (m : Machine) (d : List ℕ) → recordLength ≤ length d
-    → sets (sets d 0 (header m)) headerLength (replicate (recordLength - headerLength) 0) ≡ header m ++ (replicate (recordLength - headerLength) 0 ++ drop recordLength d)
+    → let z : List ℕ = replicate (recordLength - headerLength) 0 in
+    sets (sets (sets (sets d 0 (front m)) (offset Cycles) (counter (m .cycles))) (offset Instructions) (counter (m .instructions))) headerLength z
+    ≡ header m ++ (z ++ drop recordLength d)
 header-laid m d h =
     let l = length-header m in
+    let lf = length-front m in
+    let lc = length-counter (m .cycles) in
+    let la = length-append (front m) (counter (m .cycles)) in
     let z : List ℕ = replicate (recordLength - headerLength) 0 in
     let w : length (header m ++ z) ≡ recordLength = simp length-append (omega (arith, l)) in
-    sets-more d (header m) z 0 headerLength (omega (arith, l))
-    ∙ sets-eq (header m ++ z) d 0 (omega arith)
-    ∙ rw w (append-assoc (header m) z (drop recordLength d))
+    rw (
+      sets-more d (front m) (counter (m .cycles)) 0 (offset Cycles) (omega arith),
+      sets-more d (front m ++ counter (m .cycles)) (counter (m .instructions)) 0 (offset Instructions) (omega arith),
+      header-in-parts m,
+      sets-more d (header m) z 0 headerLength (omega (arith, l)),
+    )
+    (sets-eq (header m ++ z) d 0 (omega arith) ∙ rw w (append-assoc (header m) z (drop recordLength d)))
 
 -- ---- the entries
 

@@ -20,7 +20,9 @@ use answers::Answer;
 use answers::Refusal;
 use calls::InterruptType;
 use calls::Plan;
+use machine::CYCLES;
 use machine::HEADER;
+use machine::INSTRUCTIONS;
 use machine::Machine;
 use machine::Settings;
 use machine::Wait;
@@ -55,9 +57,13 @@ fn write_header(rest: &mut [u8], machine: Machine)
     requires { ⌜ recordLength ≤ length (now rest) ⌝ }
     ensures { λ _. ⌜ now (rest .exit) ≡ header machine ++ (replicate (recordLength - headerLength) 0 ++ drop recordLength (now (rest .entry))) ⌝ }
 {
-    let first = machine::header_of(machine);
+    let front = machine::front_of(machine);
+    let cycles = machine::counter_of(machine.cycles);
+    let instructions = machine::counter_of(machine.instructions);
     let unused = [0u8; RECORD - HEADER];
-    lay(rest, 0, &first);
+    lay(rest, 0, &front);
+    lay(rest, CYCLES, &cycles);
+    lay(rest, INSTRUCTIONS, &instructions);
     lay(rest, COUNT, &unused);
 }
 

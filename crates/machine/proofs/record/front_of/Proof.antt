@@ -5,8 +5,8 @@ use native.Mathlib.Omega.{arith}
 use borrow.Author.Needs.{needs}
 use Rattle.registers.specs.Fits.{Fits}
 use Rattle.machine.proofs.Header.{spelled}
-use Rattle.machine.proofs.record.header_of.Statement.{statement}
-use Rattle.machine.proofs.record.header_of.Tie as tie
+use Rattle.machine.proofs.record.front_of.Statement.{statement}
+use Rattle.machine.proofs.record.front_of.Tie as tie
 
 returns : tie.Need-returns
 returns c =
@@ -25,5 +25,5 @@ returns c =
     } in
     rw (c .before .before .before .before .before .before .before .before .before .before .before .before .wait-byte .ensures, c .before .before .before .before .before .before .before .before .before .before .get-as-byte .ensures) (sym (spelled m f))
 
-pub header-of-spec : {M : Type 1} → statement M
-header-of-spec = tie.close (tie.spec (search needs) (search needs) (search needs) (search needs) (search needs) (search needs) (search needs) (search needs) (search needs) (search needs) (search needs) (search needs) (search needs) (search needs) (search needs) (search needs) (search needs) (search needs) (search needs) (search needs) (search needs) (search needs) (search needs) (search needs) (search needs) (search needs) (search needs) (search needs) returns)
+pub front-of-spec : {M : Type 1} → statement M
+front-of-spec = tie.close (tie.spec (search needs) (search needs) (search needs) (search needs) (search needs) (search needs) (search needs) (search needs) (search needs) (search needs) (search needs) (search needs) returns)
