@@ -26,7 +26,7 @@ use Rattle.machine.specs.declared.Machine.{Machine}
 use Rattle.calls.specs.Calls.{Call, step, interrupt, reset, settingsIn, planOf}
 use Rattle.calls.proofs.Laws.{few-writes, call-fits}
 use Rattle.machine.specs.Record.{machineOf}
-use Rattle.journal.specs.Record.{encode, waitAt, countOf, entriesOf}
+use Rattle.journal.specs.Record.{encode, waitAt, countOf, entriesOf, most, recordLength}
 use Rattle.journal.specs.Recorded.{State, ending, need, recordAt, withRecord, savedFor, admitted, callAnswer, recorded, concluded, called, whileWaiting}
 use Rattle.journal.specs.Undos.{newestIn, undoAnswer, putBack, restored, undone}
 use Rattle.journal.specs.Sequence.{All, Window, Event, forward, back, host, Legal, Snap, World, push, pop, hostWrites, call, next, run, start, BringsBack, Undoes, Unchanged, Demand3}
@@ -64,10 +64,10 @@ module _ (s : State) (t : Snap) (ss : List Snap) (v : Inv s (t ∷ ss)) where
   undo-taken =
       rw (
         eq-eqb (length (s .memory)) 65536 (v .size (omega arith)),
-        le-leb (s .twin .used * 68) (length (s .journal)) (v .room),
+        le-leb (s .twin .used * recordLength) (length (s .journal)) (v .room),
         lt-ltb 0 (s .twin .used) (omega (arith, v .count)),
         le-leb (waitAt (newestIn s)) 2 (rw newest-is (wait-at (t .machine) (lead .saved))),
-        le-leb (countOf (newestIn s)) 12 (rw count-is (lead .few)),
+        le-leb (countOf (newestIn s)) most (rw count-is (lead .few)),
       )
 
   restored-inv : Inv (restored s) ss
@@ -85,7 +85,7 @@ module _ (s : State) (t : Snap) (ss : List Snap) (v : Inv s (t ∷ ss)) where
 
 undo-empty : (s : State) → Inv s [] → undoAnswer s ≡ need (eqb (length (s .memory)) 65536) MemoryLength (Refused NoRecord)
 unfolding undoAnswer
-undo-empty s v = rw (le-leb (s .twin .used * 68) (length (s .journal)) (v .room), le-ltb 0 (s .twin .used) (omega (arith, v .count)))
+undo-empty s v = rw (le-leb (s .twin .used * recordLength) (length (s .journal)) (v .room), le-ltb 0 (s .twin .used) (omega (arith, v .count)))
 
 one-or-eleven : (b : Bool) → need b MemoryLength (Refused NoRecord) ≢ Done
 one-or-eleven true e = not-refused e
@@ -163,8 +163,8 @@ undoes s (t ∷ ts) v = record {
 -- what an accepted call has shown
 record Taken (s : State) (f : Plan) : Type 0 where
   size : length (s .memory) ≡ 65536
-  space : s .twin .used * 68 + 68 ≤ length (s .journal)
-  few : length (listed (f .writes)) ≤ 12
+  space : s .twin .used * recordLength + recordLength ≤ length (s .journal)
+  few : length (listed (f .writes)) ≤ most
   lawful : PlanFits f
 
 recorded-inv : (set : Settings) (s : State) (past : List Snap) (f : Plan) → Taken s f → Inv s past → Inv (recorded set f s) (push Done s past)
@@ -192,13 +192,13 @@ recorded-inv set s past f t v =
     ws : List Write
     ws = listed (f .writes)
 
-    few : length (savedFor (set .«ram_top») ws (s .memory)) ≤ 12
+    few : length (savedFor (set .«ram_top») ws (s .memory)) ≤ most
     few = omega (arith, saved-few (set .«ram_top») ws (s .memory), t .few)
 
     entry : List ℕ
     entry = encode (s .twin .machine) (savedFor (set .«ram_top») ws (s .memory))
 
-    whole : length entry ≡ 68
+    whole : length entry ≡ recordLength
     whole = length-encode (s .twin .machine) (savedFor (set .«ram_top») ws (s .memory)) few
 
     after : List ℕ
