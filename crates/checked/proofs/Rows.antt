@@ -9,7 +9,7 @@ use borrow.Author.Tests.{eqb-true, eqb-false, ltb-true}
 use lib.Dec.{T, eqb, eqb→eq, leb, leb→le, ltb, ltb→lt}
 use Rattle.u8oru16.specs.Signed.{signed, outside, sumOut, diffOut}
 use Rattle.registers.specs.ConditionCodes.{place, bitAt, coded, flag}
-use Rattle.registers.specs.Page.{Operation, Line, _:=_, Page, codes}
+use Rattle.registers.specs.Arithmetic.{Operation, Line, _:=_, Page, codes}
 use Rattle.registers.specs.Settings.{by}
 use Rattle.registers.specs.declared.CCBit.{CCBit}
 use Rattle.registers.specs.declared.CCBit.the-variants.{C}

@@ -7,7 +7,8 @@ use mathlib.Core.List.{List}
 use mathlib.Core.Path.{_≡_}
 use lib.Dec.{eqb, ltb}
 use Rattle.answers.specs.Numbers.{numberOfAnswer}
-use Rattle.registers.specs.RegisterSet.{stackWord, wordOf}
+use Rattle.registers.specs.Names.{stackWord}
+use Rattle.registers.specs.RegisterSet.{wordOf}
 use Rattle.registers.specs.declared.Set.{Set}
 use Rattle.memory.specs.Map.{byteAt}
 use Rattle.machine.specs.declared.Settings.{Settings}

@@ -14,8 +14,8 @@ use Rattle.answers.specs.declared.Answer.{Answer}
 use Rattle.answers.specs.declared.Answer.the-variants.{Done, Refused}
 use Rattle.answers.specs.declared.Refusal.{Refusal}
 use Rattle.answers.specs.declared.Refusal.the-variants.{MemoryLength, JournalFull, NoRecord, JournalLength}
-use Rattle.memory.specs.declared.Write.{Write}
-use Rattle.memory.specs.declared.Writes.{Writes}
+use Rattle.memory.specs.declared.writes.Write.{Write}
+use Rattle.memory.specs.declared.writes.Writes.{Writes}
 use Rattle.machine.specs.declared.Settings.{Settings}
 use Rattle.calls.specs.declared.Plan.{Plan}
 use Rattle.machine.specs.declared.Machine.{Machine}

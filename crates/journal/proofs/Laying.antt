@@ -11,7 +11,7 @@ use lib.Seq.{sets, sets-eq, take-suc, drop-drop, length-take-le}
 use Rattle.memory.specs.Map.{landingOf}
 use Rattle.memory.specs.declared.Landing.{Landing}
 use Rattle.memory.specs.declared.Landing.the-variants.{Stored, Device, Ignored}
-use Rattle.memory.specs.declared.Write.{Write}
+use Rattle.memory.specs.declared.writes.Write.{Write}
 use Rattle.machine.specs.declared.Machine.{Machine}
 use Rattle.machine.specs.Record.{Cycles, Instructions, bytes, front, counter, offset, header, headerLength}
 use Rattle.machine.proofs.Header.{header-in-parts, length-front, length-counter, length-header}

@@ -15,7 +15,7 @@ use Rattle.answers.specs.declared.Answer.{Answer}
 use Rattle.answers.specs.declared.Answer.the-variants.{Done, Refused}
 use Rattle.answers.specs.declared.Refusal.{Refusal}
 use Rattle.answers.specs.declared.Refusal.the-variants.{MemoryLength, NoRecord}
-use Rattle.memory.specs.declared.Write.{Write}
+use Rattle.memory.specs.declared.writes.Write.{Write}
 use Rattle.memory.proofs.Fits.{bytes-set, bytes-stored}
 use Rattle.memory.proofs.Folds.{length-stored}
 use Rattle.machine.specs.Machine.{MachineFits}

@@ -15,8 +15,8 @@ use Rattle.memory.specs.declared.Landing.{Landing}
 use Rattle.memory.specs.declared.Landing.the-variants.{Stored, Device, Ignored}
 use Rattle.answers.specs.declared.Refusal.{Refusal}
 use Rattle.answers.specs.declared.Refusal.the-variants.{MemoryLength, Waiting, JournalFull, NoRecord, JournalLength}
-use Rattle.memory.specs.declared.Write.{Write}
-use Rattle.memory.specs.declared.Writes.{Writes}
+use Rattle.memory.specs.declared.writes.Write.{Write}
+use Rattle.memory.specs.declared.writes.Writes.{Writes}
 use Rattle.machine.specs.declared.Wait.{Wait}
 use Rattle.machine.specs.declared.Wait.the-variants.{Running, Cwai, Sync}
 use Rattle.calls.specs.Steps.{stepPlan}

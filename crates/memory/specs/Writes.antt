@@ -10,8 +10,8 @@ use Rattle.u8oru16.specs.declared.u8u16.{u8u16}
 use Rattle.u8oru16.specs.declared.u8u16.the-variants.{u8, u16}
 use Rattle.memory.specs.declared.Landing.{Landing}
 use Rattle.memory.specs.declared.Landing.the-variants.{Stored, Device, Ignored}
-use Rattle.memory.specs.declared.Write.{Write}
-use Rattle.memory.specs.declared.Writes.{Writes}
+use Rattle.memory.specs.declared.writes.Write.{Write}
+use Rattle.memory.specs.declared.writes.Writes.{Writes}
 
 -- memory after a byte that lands so
 abbrev pub putAt : Landing → ℕ → List ℕ → List ℕ

@@ -5,8 +5,7 @@ use mathlib.Core.Path.{_≡_, refl, ap}
 use mathlib.Core.Logic.{_≢_, _↔_}
 use native.Mathlib.Omega.{arith}
 use Rattle.registers.specs.ConditionCodes.{flag}
-use Rattle.registers.specs.Page.{Operation, ADD, ADC, SUB, SBC, DEC, INC, top, out8}
-use Rattle.registers.specs.Manual.{manual}
+use Rattle.registers.specs.Arithmetic.{Operation, ADD, ADC, SUB, SBC, DEC, INC, top, out8, manual}
 use Rattle.registers.specs.Bought.{bought}
 use Rattle.registers.specs.Settings.{Parts}
 use Rattle.registers.specs.declared.CCBit.{CCBit}

@@ -14,9 +14,9 @@ use Rattle.u8oru16.specs.Value.{valueOf}
 use Rattle.u8oru16.specs.declared.u8u16.{u8u16}
 use Rattle.u8oru16.specs.declared.u8u16.the-variants.{u8, u16}
 use Rattle.registers.specs.Fits.{Fits, InWidth}
-use Rattle.registers.specs.Manual.{manual, logical}
-use Rattle.registers.specs.Page.{Operation, ADD, ADC, ADDD, SUB, SBC, SUBD, DEC, INC, AND, OR, EOR, COM, NEG, ASL, LSR, ASR, ROL, ROR, MUL, Line, _:=_, Page, out8, codes}
-use Rattle.registers.specs.RegisterSet.{read, wordName, wordOf, withWord}
+use Rattle.registers.specs.Arithmetic.{manual, logical, Operation, ADD, ADC, ADDD, SUB, SBC, SUBD, DEC, INC, AND, OR, EOR, COM, NEG, ASL, LSR, ASR, ROL, ROR, MUL, Line, _:=_, Page, out8, codes}
+use Rattle.registers.specs.Names.{wordName}
+use Rattle.registers.specs.RegisterSet.{read, wordOf, withWord}
 use Rattle.registers.specs.Settings.{by}
 use Rattle.registers.specs.declared.CCBit.the-variants.{C, «V», Z, N}
 use Rattle.registers.specs.declared.CCBits.{CCBits}

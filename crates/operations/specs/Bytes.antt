@@ -3,8 +3,7 @@
 use Prim.Native.Nat.{ℕ}
 use mathlib.Core.Bool.{true, false}
 use mathlib.Core.List.{List, [], _∷_}
-use Rattle.registers.specs.Page.{ADD, ADC, SUB, SBC, DEC, INC, AND, OR, EOR, COM, NEG, ASL, LSR, ASR, ROL, ROR, _:=_, out8, codes}
-use Rattle.registers.specs.Manual.{logical, manual}
+use Rattle.registers.specs.Arithmetic.{ADD, ADC, SUB, SBC, DEC, INC, AND, OR, EOR, COM, NEG, ASL, LSR, ASR, ROL, ROR, _:=_, out8, codes, logical, manual}
 use Rattle.registers.specs.Settings.{by}
 use Rattle.registers.specs.declared.CCBit.the-variants.{C, «V», Z, N}
 use Rattle.registers.specs.declared.CCBits.{CCBits}
@@ -13,7 +12,7 @@ use Rattle.registers.specs.declared.Out8.{Out8}
 use Rattle.registers.specs.declared.Set.{Set}
 use Rattle.memory.specs.Map.{byteAt}
 use Rattle.memory.specs.Writes.{writesOf, added}
-use Rattle.memory.specs.declared.Writes.{Writes}
+use Rattle.memory.specs.declared.writes.Writes.{Writes}
 use Rattle.opcodes.specs.declared.Acc.{Acc}
 use Rattle.opcodes.specs.declared.Acc.the-variants.{A, B}
 use Rattle.opcodes.specs.declared.Alu.{Alu}

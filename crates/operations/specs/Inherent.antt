@@ -8,8 +8,7 @@ use Rattle.u8oru16.specs.Negated.{extended}
 use Rattle.u8oru16.specs.Value.{valueOf}
 use Rattle.u8oru16.specs.declared.u8u16.the-variants.{u8}
 use Rattle.registers.specs.ConditionCodes.{flag}
-use Rattle.registers.specs.Page.{MUL, Line, _:=_, codes}
-use Rattle.registers.specs.Manual.{manual}
+use Rattle.registers.specs.Arithmetic.{MUL, Line, _:=_, codes, manual}
 use Rattle.registers.specs.RegisterSet.{withWord}
 use Rattle.registers.specs.declared.CCBit.the-variants.{C, Z, N, H}
 use Rattle.registers.specs.declared.CCBits.{CCBits}

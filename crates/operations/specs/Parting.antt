@@ -6,7 +6,7 @@ use mathlib.Core.List.{List}
 use mathlib.Core.Logic.{_≢_, _↔_}
 use Rattle.answers.specs.declared.Refusal.{Refusal}
 use Rattle.registers.specs.ConditionCodes.{flag}
-use Rattle.registers.specs.Page.{ADC, SBC, DEC, INC}
+use Rattle.registers.specs.Arithmetic.{ADC, SBC, DEC, INC}
 use Rattle.registers.specs.Settings.{Parts}
 use Rattle.registers.specs.declared.CCBit.{CCBit}
 use Rattle.registers.specs.declared.CCBit.the-variants.{«V»}

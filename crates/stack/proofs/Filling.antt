@@ -10,14 +10,15 @@ use lib.ListN.{length, getD, set, take, drop, length-append, take-append-drop}
 use lib.Seq.{take-suc}
 use Rattle.u8oru16.specs.Value.{valueOf}
 use Rattle.registers.specs.ConditionCodes.{bitAt}
-use Rattle.registers.specs.RegisterSet.{sizeOf, read}
+use Rattle.registers.specs.Names.{sizeOf}
+use Rattle.registers.specs.RegisterSet.{read}
 use Rattle.registers.specs.declared.Name.{Name}
 use Rattle.registers.specs.declared.Name.the-variants.{A, B, D, X, Y, U, S, PC, DP, CC}
 use Rattle.registers.specs.declared.Set.{Set}
 use Rattle.registers.specs.declared.Stack.{Stack}
 use Rattle.registers.specs.declared.Stack.the-variants.{S as onS, U as onU}
 use Rattle.memory.specs.Writes.{twelve, writesOf, valueWrites, wordWrites}
-use Rattle.memory.specs.declared.Write.{Write}
+use Rattle.memory.specs.declared.writes.Write.{Write}
 use Rattle.memory.proofs.Folds.{place-more}
 use Rattle.stack.specs.Pushing.{order, chosen, named, bytesOf, pushes}
 

@@ -12,7 +12,8 @@ use Rattle.answers.specs.declared.Answer.{Answer}
 use Rattle.answers.specs.declared.Answer.the-variants.{Done, Refused as NotDone}
 use Rattle.answers.specs.declared.Refusal.the-variants.{StackTooSmall, WordAtTop}
 use Rattle.registers.specs.ConditionCodes.{put}
-use Rattle.registers.specs.RegisterSet.{sizeOf, stackWord, wordOf, written}
+use Rattle.registers.specs.Names.{sizeOf, stackWord}
+use Rattle.registers.specs.RegisterSet.{wordOf, written}
 use Rattle.registers.specs.declared.CCBit.the-variants.{E}
 use Rattle.registers.specs.declared.Name.{Name}
 use Rattle.registers.specs.declared.Set.{Set}
@@ -20,7 +21,7 @@ use Rattle.registers.specs.declared.Stack.{Stack}
 use Rattle.registers.specs.declared.Stack.the-variants.{S}
 use Rattle.memory.specs.Map.{wordFits, wordAt, valueAt}
 use Rattle.memory.specs.Writes.{listed}
-use Rattle.memory.specs.declared.Writes.{Writes}
+use Rattle.memory.specs.declared.writes.Writes.{Writes}
 use Rattle.memory.proofs.Folds.{listed-back}
 use Rattle.machine.specs.Effect.{stores, refuses}
 use Rattle.machine.specs.declared.Effect.{Effect}

@@ -15,7 +15,8 @@ use Rattle.answers.specs.declared.Answer.the-variants.{Done, Refused as NotDone
 use Rattle.answers.specs.declared.Refusal.the-variants.{StackTooSmall}
 use Rattle.registers.specs.ConditionCodes.{coded, flag, put}
 use Rattle.registers.specs.Fits.{Fits, InWidth}
-use Rattle.registers.specs.RegisterSet.{sizeOf, stackWord, read, wordOf, withWord}
+use Rattle.registers.specs.Names.{sizeOf, stackWord}
+use Rattle.registers.specs.RegisterSet.{read, wordOf, withWord}
 use Rattle.registers.specs.declared.CCBit.the-variants.{E}
 use Rattle.registers.specs.declared.Name.{Name}
 use Rattle.registers.specs.declared.Set.{Set}
@@ -29,7 +30,7 @@ use Rattle.memory.specs.declared.ValueRead.{ValueRead}
 use Rattle.memory.specs.declared.ValueRead.the-variants.{Value, Refused as NotRead}
 use Rattle.memory.specs.declared.WordRead.{WordRead}
 use Rattle.memory.specs.declared.WordRead.the-variants.{Word, Refused as NoWord}
-use Rattle.memory.specs.declared.Write.{Write}
+use Rattle.memory.specs.declared.writes.Write.{Write}
 use Rattle.memory.proofs.Fits.{byte-fits, WordIn, word-fits, word-writes-fit}
 use Rattle.memory.proofs.Twelve.{Full}
 use Rattle.machine.specs.Effect.{stores}

@@ -8,14 +8,15 @@ use Rattle.answers.specs.declared.Answer.{Answer}
 use Rattle.answers.specs.declared.Answer.the-variants.{Done, Refused}
 use Rattle.answers.specs.declared.Refusal.the-variants.{StackTooSmall}
 use Rattle.registers.specs.ConditionCodes.{bitAt}
-use Rattle.registers.specs.RegisterSet.{sizeOf, wordName, stackWord, otherStack, read, wordOf, withWord}
+use Rattle.registers.specs.Names.{sizeOf, wordName, stackWord, otherStack}
+use Rattle.registers.specs.RegisterSet.{read, wordOf, withWord}
 use Rattle.registers.specs.declared.Name.{Name}
 use Rattle.registers.specs.declared.Name.the-variants.{A, B, X, Y, PC, DP, CC}
 use Rattle.registers.specs.declared.Set.{Set}
 use Rattle.registers.specs.declared.Stack.{Stack}
 use Rattle.registers.specs.declared.Stack.the-variants.{S}
 use Rattle.memory.specs.Writes.{writesOf, valueWrites}
-use Rattle.memory.specs.declared.Write.{Write}
+use Rattle.memory.specs.declared.writes.Write.{Write}
 use Rattle.machine.specs.Effect.{stores, refuses}
 use Rattle.machine.specs.declared.Effect.{Effect}
 use Rattle.operations.specs.Branches.{jumped}
