@@ -5,7 +5,7 @@ use mathlib.Core.Path.{_≡_}
 use mathlib.Core.Bool.{true}
 use mathlib.Core.List.{List, []}
 use lib.ListN.{length, getD, replicate}
-use Rattle.srecord.specs.Text.{kind0, kind1, kind9, textOf}
+use Rattle.srecord.specs.Layout.{kind0, kind1, kind9, textOf}
 use Rattle.srecord.specs.Line.{Meaning, heading, piece, start, refused, mayHold, meant, lineOf}
 use Rattle.srecord.specs.File.{done, loadedOf, memoryAfter}
 use Rattle.srecord.specs.Written.{textFor, writtenOf, outputAfter}

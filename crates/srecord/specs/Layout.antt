@@ -1,16 +1,15 @@
--- The text of an S-record line: S, the kind's digit, two capital hex digits for each byte (count, address, data, checksum), a line feed.
+-- How a line is laid out: S, the kind's digit, two capital hex digits for each byte (count, address, data, checksum), a line feed.
 -- Assumes nothing.
-use Prim.Native.Nat.{ℕ, _+_, _-_, _*_, _/_, _%_}
-use mathlib.Core.Bool.{Bool, false, cond, _&&_, _||_}
+use Prim.Native.Nat.{ℕ, _+_, _-_, _/_, _%_}
+use mathlib.Core.Bool.{Bool, false, _&&_}
 use mathlib.Core.List.{List, [], _∷_, _++_}
-use lib.Dec.{eqb, leb, ltb}
+use lib.Dec.{eqb}
 use lib.ListN.{length}
+use Rattle.text.specs.Hex.{hex2, isDigit, byteOf}
+use Rattle.text.specs.Lines.{lineFeed}
 
 abbrev pub letterS : ℕ
 letterS = 83
-
-abbrev pub lineFeed : ℕ
-lineFeed = 10
 
 -- the kinds S0, S1 and S9, by their digits
 abbrev pub kind0 : ℕ
@@ -22,33 +21,10 @@ kind1 = 49
 abbrev pub kind9 : ℕ
 kind9 = 57
 
--- 0 to 9, and A to F
-abbrev pub isFigure : ℕ → Bool
-isFigure c = leb 48 c && leb c 57
-
-abbrev pub isCapital : ℕ → Bool
-isCapital c = leb 65 c && leb c 70
-
-abbrev pub isDigit : ℕ → Bool
-isDigit c = isFigure c || isCapital c
-
--- what a digit stands for, 0 for any other character; and the digit of a number below 16
-unfoldable pub valueOf : ℕ → ℕ
-valueOf c = cond (isFigure c) (c - 48) (cond (isCapital c) (c - 55) 0)
-
-unfoldable pub digitOf : ℕ → ℕ
-digitOf n = cond (ltb n 10) (n + 48) (n + 55)
-
--- a byte's two digits, high one first
-abbrev pub pair : ℕ → List ℕ
-pair b = digitOf (b / 16) ∷ digitOf (b % 16) ∷ []
-
-abbrev pub byteOf : ℕ → ℕ → ℕ
-byteOf high low = 16 * valueOf high + valueOf low
-
+-- the two digits of each byte
 unfoldable pub pairs : List ℕ → List ℕ
 pairs [] = []
-pairs (b ∷ bs) = pair b ++ pairs bs
+pairs (b ∷ bs) = hex2 b ++ pairs bs
 
 -- pairs of digits, then a line feed that ends the text
 unfoldable pub isPaired : List ℕ → Bool
@@ -75,4 +51,4 @@ abbrev pub summed : ℕ → List ℕ → List ℕ
 summed a d = (length d + 3) ∷ a / 256 ∷ a % 256 ∷ d
 
 unfoldable pub textOf : ℕ → ℕ → List ℕ → List ℕ
-textOf kind a d = letterS ∷ kind ∷ (pairs (summed a d) ++ (pair (checksum (summed a d)) ++ (lineFeed ∷ [])))
+textOf kind a d = letterS ∷ kind ∷ (pairs (summed a d) ++ (hex2 (checksum (summed a d)) ++ (lineFeed ∷ [])))

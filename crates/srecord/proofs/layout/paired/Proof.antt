@@ -9,9 +9,10 @@ use native.Mathlib.Omega.{arith}
 use lib.ListN.{length, getD, drop}
 use denote.Ref.{now}
 use Rattle.srecord.proofs.Scan.{paired-not, paired-on, paired-last, paired-none}
-use Rattle.srecord.specs.Text.{isPaired, isDigit}
-use Rattle.srecord.proofs.text.paired.Statement.{statement}
-use Rattle.srecord.proofs.text.paired.Tie as tie
+use Rattle.text.specs.Hex.{isDigit}
+use Rattle.srecord.specs.Layout.{isPaired}
+use Rattle.srecord.proofs.layout.paired.Statement.{statement}
+use Rattle.srecord.proofs.layout.paired.Tie as tie
 
 abbrev Inv-loop : tie.InvT-loop
 Inv-loop text i₀ i = (i ≤ length text) × (isPaired (drop i text) ≡ isPaired text)

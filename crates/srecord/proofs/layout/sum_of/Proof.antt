@@ -7,10 +7,10 @@ use native.Mathlib.Omega.{arith}
 use lib.ListN.{length, take}
 use denote.Ref.{now}
 use Rattle.srecord.proofs.Scan.{sum-more}
-use Rattle.srecord.specs.Text.{total}
+use Rattle.srecord.specs.Layout.{total}
 use lib.Seq.{take-all}
-use Rattle.srecord.proofs.text.sum_of.Statement.{statement}
-use Rattle.srecord.proofs.text.sum_of.Tie as tie
+use Rattle.srecord.proofs.layout.sum_of.Statement.{statement}
+use Rattle.srecord.proofs.layout.sum_of.Tie as tie
 
 abbrev Inv-loop : tie.InvT-loop
 Inv-loop list sum₀ i₀ sum i = (i ≤ length list) × (sum ≡ total (take i list) % 256)
