@@ -19,7 +19,7 @@ use Rattle.machine.specs.declared.Settings.{Settings}
 use Rattle.opcodes.specs.declared.MemoryOp.the-variants.{OnMemory, Store8, Store16, Bsr, Jsr, Rts, Rti, Swi, Cwai, Sync, Push, Pull}
 use Rattle.opcodes.specs.declared.Op.the-variants.{Registers, Memory}
 use Rattle.opcodes.specs.declared.Software.the-variants.{Swi as SWI, Swi2 as SWI2, Swi3 as SWI3}
-use Rattle.operations.specs.Bytes.{onMemory}
+use Rattle.operations.specs.EightBit.{onMemory}
 use Rattle.operations.specs.Change.{changedOf}
 use Rattle.operations.specs.Refusals.{numberOfChanged, readsWord, namesTwo}
 use Rattle.operations.specs.Transfers.{transferable}

@@ -1,8 +1,8 @@
 -- TST writes the codes alone.
 -- Assumes nothing.
 use borrow.Author.Needs.{needs}
-use Rattle.operations.proofs.bytes.test.Statement.{statement}
-use Rattle.operations.proofs.bytes.test.Tie as tie
+use Rattle.operations.proofs.eight_bit.test.Statement.{statement}
+use Rattle.operations.proofs.eight_bit.test.Tie as tie
 
 pub test-spec : {M : Type 1} → statement M
 test-spec =

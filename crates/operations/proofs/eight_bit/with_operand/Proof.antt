@@ -1,8 +1,8 @@
 -- The accumulator and the codes are those of the operation.
 -- Assumes nothing.
 use borrow.Author.Needs.{needs}
-use Rattle.operations.proofs.bytes.with_operand.Statement.{statement}
-use Rattle.operations.proofs.bytes.with_operand.Tie as tie
+use Rattle.operations.proofs.eight_bit.with_operand.Statement.{statement}
+use Rattle.operations.proofs.eight_bit.with_operand.Tie as tie
 
 pub with-operand-spec : {M : Type 1} → statement M
 with-operand-spec =

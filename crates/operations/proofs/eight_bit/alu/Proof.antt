@@ -1,8 +1,8 @@
 -- Each operation of an accumulator and a byte, by the page of its arithmetic.
 -- Assumes nothing.
 use borrow.Author.Needs.{needs}
-use Rattle.operations.proofs.bytes.alu.Statement.{statement}
-use Rattle.operations.proofs.bytes.alu.Tie as tie
+use Rattle.operations.proofs.eight_bit.alu.Statement.{statement}
+use Rattle.operations.proofs.eight_bit.alu.Tie as tie
 
 pub alu-spec : {M : Type 1} → statement M
 alu-spec =

@@ -1,9 +1,9 @@
 -- The byte at the address is changed and written back.
 -- Assumes nothing.
 use borrow.Author.Needs.{needs}
-use Rattle.operations.specs.Bytes.{onMemory}
-use Rattle.operations.proofs.bytes.on_memory.Statement.{statement}
-use Rattle.operations.proofs.bytes.on_memory.Tie as tie
+use Rattle.operations.specs.EightBit.{onMemory}
+use Rattle.operations.proofs.eight_bit.on_memory.Statement.{statement}
+use Rattle.operations.proofs.eight_bit.on_memory.Tie as tie
 
 pub on-memory-spec : {M : Type 1} → statement M
 unfolding onMemory

@@ -1,8 +1,8 @@
 -- One write is added to none.
 -- Assumes nothing.
 use borrow.Author.Needs.{needs}
-use Rattle.operations.proofs.bytes.one_write.Statement.{statement}
-use Rattle.operations.proofs.bytes.one_write.Tie as tie
+use Rattle.operations.proofs.eight_bit.one_write.Statement.{statement}
+use Rattle.operations.proofs.eight_bit.one_write.Tie as tie
 
 pub one-write-spec : {M : Type 1} → statement M
 one-write-spec =

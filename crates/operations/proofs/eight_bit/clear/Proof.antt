@@ -1,8 +1,8 @@
 -- CLR sets its four flags in the order of the definition.
 -- Assumes nothing.
 use borrow.Author.Needs.{needs}
-use Rattle.operations.proofs.bytes.clear.Statement.{statement}
-use Rattle.operations.proofs.bytes.clear.Tie as tie
+use Rattle.operations.proofs.eight_bit.clear.Statement.{statement}
+use Rattle.operations.proofs.eight_bit.clear.Tie as tie
 
 pub clear-spec : {M : Type 1} → statement M
 clear-spec =

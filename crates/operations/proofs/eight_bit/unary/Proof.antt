@@ -1,8 +1,8 @@
 -- Each operation on one byte, by the page of its arithmetic.
 -- Assumes nothing.
 use borrow.Author.Needs.{needs}
-use Rattle.operations.proofs.bytes.unary.Statement.{statement}
-use Rattle.operations.proofs.bytes.unary.Tie as tie
+use Rattle.operations.proofs.eight_bit.unary.Statement.{statement}
+use Rattle.operations.proofs.eight_bit.unary.Tie as tie
 
 pub unary-spec : {M : Type 1} → statement M
 unary-spec =

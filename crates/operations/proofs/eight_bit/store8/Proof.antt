@@ -1,8 +1,8 @@
 -- The accumulator is tested and written.
 -- Assumes nothing.
 use borrow.Author.Needs.{needs}
-use Rattle.operations.proofs.bytes.store8.Statement.{statement}
-use Rattle.operations.proofs.bytes.store8.Tie as tie
+use Rattle.operations.proofs.eight_bit.store8.Statement.{statement}
+use Rattle.operations.proofs.eight_bit.store8.Tie as tie
 
 pub store8-spec : {M : Type 1} → statement M
 store8-spec =

@@ -1,8 +1,8 @@
-// Operations on bytes: an accumulator with a byte, one byte alone, TST, and the stores of bytes.
+// 8-bit operations: an accumulator with a byte, one byte alone, TST, and the stores of bytes.
 ghost use mathlib.Core.Path.{_≡_};
 ghost use Rattle.registers.specs.declared.Flags.the-variants.{Manual};
 ghost use Rattle.opcodes.specs.declared.Unary.the-variants.{Clr};
-ghost use Rattle.operations.specs.Bytes.{accumulator, withAccumulator, aluOf, unaryOf, withOperand, onAccumulator, tested, oneWrite, onMemory, store8};
+ghost use Rattle.operations.specs.EightBit.{accumulator, withAccumulator, aluOf, unaryOf, withOperand, onAccumulator, tested, oneWrite, onMemory, store8};
 use super::codes::with_codes;
 use machine::Effect;
 use memory::Write;

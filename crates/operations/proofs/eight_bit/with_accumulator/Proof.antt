@@ -1,8 +1,8 @@
 -- The codes and one accumulator are written.
 -- Assumes nothing.
 use borrow.Author.Needs.{needs}
-use Rattle.operations.proofs.bytes.with_accumulator.Statement.{statement}
-use Rattle.operations.proofs.bytes.with_accumulator.Tie as tie
+use Rattle.operations.proofs.eight_bit.with_accumulator.Statement.{statement}
+use Rattle.operations.proofs.eight_bit.with_accumulator.Tie as tie
 
 pub with-accumulator-spec : {M : Type 1} → statement M
 with-accumulator-spec =

@@ -1,4 +1,4 @@
--- Operations on bytes: an accumulator with a byte, one byte alone, TST, and the stores of bytes. A clause for each page of the manual.
+-- 8-bit operations: an accumulator with a byte, one byte alone, TST, and the stores of bytes. A clause for each page of the manual.
 -- Assumes nothing.
 use Prim.Native.Nat.{ℕ}
 use mathlib.Core.Bool.{true, false}

@@ -1,8 +1,8 @@
 -- The accumulator and the codes are those of the operation on it.
 -- Assumes nothing.
 use borrow.Author.Needs.{needs}
-use Rattle.operations.proofs.bytes.on_accumulator.Statement.{statement}
-use Rattle.operations.proofs.bytes.on_accumulator.Tie as tie
+use Rattle.operations.proofs.eight_bit.on_accumulator.Statement.{statement}
+use Rattle.operations.proofs.eight_bit.on_accumulator.Tie as tie
 
 pub on-accumulator-spec : {M : Type 1} → statement M
 on-accumulator-spec =
