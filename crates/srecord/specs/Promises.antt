@@ -17,11 +17,8 @@ abbrev pub Bytes : List ℕ → Type 0
 Bytes l = (i : ℕ) → getD l i 0 < 256
 
 -- a zeroed memory
-abbrev pub zeros : ℕ → List ℕ
-zeros n = replicate n 0
-
 unfoldable pub blank : List ℕ
-blank = zeros 65536
+blank = replicate 65536 0
 
 -- a line of the format: the text of a kind, an address and as many data bytes as the kind may have
 pub record IsLine (text : List ℕ) (kind a : ℕ) (d : List ℕ) : Type 0 where
