@@ -12,7 +12,7 @@ evaluate-memory-spec =
     (λ c. rw (c .store8 .ensures, c .before .before .op2 .given .1))
     (λ c. rw (c .store16 .ensures, c .before .before .op3 .given .1))
     (λ c. rw (c .jump-to-subroutine .ensures, c .before .enum-told .given .1))
-    (λ c. rw (c .call2 .ensures, c .before .enum-told2 .given .1))
+    (λ c. rw (c .jump-to-subroutine2 .ensures, c .before .enum-told2 .given .1))
     (λ c. rw (c .pull .ensures, c .before .enum-told3 .given .1))
     (λ c. rw (c .return-from-interrupt .ensures, c .before .enum-told4 .given .1))
     (λ c. rw (c .serve .ensures, c .before .of-software .ensures, c .before .before .before .op4 .given .1))
