@@ -20,7 +20,7 @@ use Rattle.machine.specs.declared.Settings.{Settings}
 use Rattle.opcodes.specs.declared.MemoryOp.the-variants.{OnMemory, Store8, Store16, Bsr, Jsr, Rts, Rti, Swi, Cwai, Sync, Push, Pull}
 use Rattle.opcodes.specs.declared.Op.the-variants.{Registers, Memory}
 use Rattle.opcodes.specs.declared.Software.the-variants.{Swi as SWI, Swi2 as SWI2, Swi3 as SWI3}
-use Rattle.operations.specs.Bytes.{onMemory}
+use Rattle.operations.specs.EightBit.{onMemory}
 use Rattle.operations.specs.Change.{changedOf}
 use Rattle.operations.specs.Refusals.{numberOfChanged, readsWord, namesTwo}
 use Rattle.operations.specs.Transfers.{transferable}
@@ -31,7 +31,7 @@ use Rattle.operations.proofs.Refusals.{change-refuses-exactly}
 use Rattle.stack.specs.Frames.{framed}
 use Rattle.stack.specs.Laws.{topMet}
 use Rattle.stack.specs.Pulling.{pulled, returned}
-use Rattle.stack.specs.Pushing.{order, chosen, bytesOf, called}
+use Rattle.stack.specs.Pushing.{order, chosen, bytesOf, jumpedToSubroutine}
 use Rattle.stack.proofs.Laws.{stack-refuses-exactly}
 use Rattle.vectors.specs.Laws.{zeroNumber}
 use Rattle.vectors.specs.Service.{wordIn, served}
@@ -60,8 +60,8 @@ isTop r own mask = topMet (wordOf r (stackWord own)) (chosen mask (reverse (orde
 of-pull : (mem : List ℕ) (r : Set) (own : Stack) (mask : ℕ) → isEight (numberOfAnswer (pulled mem r own mask .answer)) ≡ false
 of-pull mem r own mask = ap isEight (stack-refuses-exactly .pull mem r own mask) ∙ other (isTop r own mask) 6 0 refl refl
 
-of-call : (r : Set) (ea : ℕ) → isEight (numberOfAnswer (called r ea .answer)) ≡ ltb (r .s) 2
-of-call r ea = ap isEight (stack-refuses-exactly .call r ea) ∙ eight (ltb (r .s) 2) 0 refl
+of-jsr : (r : Set) (ea : ℕ) → isEight (numberOfAnswer (jumpedToSubroutine r ea .answer)) ≡ ltb (r .s) 2
+of-jsr r ea = ap isEight (stack-refuses-exactly .jsr r ea) ∙ eight (ltb (r .s) 2) 0 refl
 
 of-service : (mem : List ℕ) (s : Settings) (r : Set) (v : Vector) → isEight (numberOfAnswer (served mem s r v .answer)) ≡ ltb (r .s) (cond (isEntire v) 12 3)
 of-service mem s r v =
@@ -86,8 +86,8 @@ small-exactly (Registers op) s mem r ea =
 small-exactly (Memory (OnMemory op)) s mem r ea = refl
 small-exactly (Memory (Store8 acc)) s mem r ea = refl
 small-exactly (Memory (Store16 word)) s mem r ea = of-store (wordFits ea) r _ _
-small-exactly (Memory Bsr) s mem r ea = of-call r ea
-small-exactly (Memory Jsr) s mem r ea = of-call r ea
+small-exactly (Memory Bsr) s mem r ea = of-jsr r ea
+small-exactly (Memory Jsr) s mem r ea = of-jsr r ea
 small-exactly (Memory Rts) s mem r ea = of-pull mem r S 0x80
 small-exactly (Memory Rti) s mem r ea = of-pull mem r S _
 small-exactly (Memory (Swi SWI)) s mem r ea = of-service mem s r (vectorOf SWI)

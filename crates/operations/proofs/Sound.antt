@@ -26,7 +26,7 @@ use Rattle.machine.specs.declared.Wait.{Wait}
 use Rattle.machine.specs.declared.Wait.the-variants.{Running}
 use Rattle.opcodes.specs.declared.Acc.{Acc}
 use Rattle.opcodes.specs.declared.Unary.{Unary}
-use Rattle.operations.specs.Bytes.{accumulator, unaryOf, onMemory, store8}
+use Rattle.operations.specs.EightBit.{accumulator, unaryOf, onMemory, store8}
 use Rattle.operations.specs.Sound.{Sound, Given}
 use Rattle.operations.specs.Words.{store16}
 use Rattle.operations.proofs.Widths.{word-in, acc-fits, codes-fits, page-fits, OutFits, unary-out}

@@ -42,7 +42,7 @@ use Rattle.opcodes.specs.declared.RegisterOp.the-variants.{Alu, OnAcc, TestAcc,
 use Rattle.opcodes.specs.declared.Unary.{Unary}
 use Rattle.opcodes.specs.declared.Unary.the-variants.{Neg, Com, Lsr, Ror, Asr, Asl, Rol, Dec, Inc, Clr}
 use Rattle.operations.specs.Branches.{condition, jumped}
-use Rattle.operations.specs.Bytes.{accumulator, withAccumulator, aluOf, unaryOf}
+use Rattle.operations.specs.EightBit.{accumulator, withAccumulator, aluOf, unaryOf}
 use Rattle.operations.specs.Codes.{withCodes, andCodes, orCodes}
 use Rattle.operations.specs.Inherent.{corrected, daaFlags, sexFlags}
 use Rattle.operations.specs.Sound.{Given, ChangedFits, ChangesFit}

@@ -9,7 +9,7 @@ use Rattle.memory.specs.Map.{byteAt}
 use Rattle.opcodes.specs.declared.RegisterOp.{RegisterOp}
 use Rattle.opcodes.specs.declared.RegisterOp.the-variants.{Alu, OnAcc, TestAcc, TestMemory, Addd, Subd, Load16, Cmp16, Lea, Branch, Jmp, Nop, Daa, Sex, Mul, Abx, Andcc, Orcc, Exg, Tfr}
 use Rattle.operations.specs.Branches.{branched, jumped}
-use Rattle.operations.specs.Bytes.{accumulator, withOperand, onAccumulator, tested}
+use Rattle.operations.specs.EightBit.{accumulator, withOperand, onAccumulator, tested}
 use Rattle.operations.specs.Codes.{andCodes, orCodes}
 use Rattle.operations.specs.Inherent.{daaOf, sexOf, mulOf, abxOf}
 use Rattle.operations.specs.Transfers.{transfer, exchange}

@@ -15,7 +15,7 @@ use Rattle.registers.specs.declared.CCBits.{CCBits}
 use Rattle.registers.specs.declared.Set.{Set}
 use Rattle.registers.specs.declared.Word.the-variants.{D, X}
 use Rattle.opcodes.specs.declared.Acc.the-variants.{A}
-use Rattle.operations.specs.Bytes.{withAccumulator}
+use Rattle.operations.specs.EightBit.{withAccumulator}
 use Rattle.operations.specs.Codes.{withCodes}
 
 -- DAA: the low digit is corrected by 6 if H is set or it is above 9; the high digit if C is set, or it is above 9, or it is above 8

@@ -22,7 +22,7 @@ use Rattle.opcodes.specs.declared.RegisterOp.{RegisterOp}
 use Rattle.opcodes.specs.declared.RegisterOp.the-variants.{Alu, OnAcc}
 use Rattle.opcodes.specs.declared.Unary.{Unary}
 use Rattle.opcodes.specs.declared.Unary.the-variants.{Dec, Inc}
-use Rattle.operations.specs.Bytes.{accumulator, onMemory}
+use Rattle.operations.specs.EightBit.{accumulator, onMemory}
 use Rattle.operations.specs.Change.{changedOf}
 use Rattle.operations.specs.declared.Changed.{Changed}
 use Rattle.operations.specs.declared.Changed.the-variants.{After, Refused}

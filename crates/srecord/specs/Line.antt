@@ -5,7 +5,7 @@ use mathlib.Core.Bool.{Bool, cond, _&&_}
 use mathlib.Core.List.{List}
 use lib.Dec.{eqb, leb}
 use lib.ListN.{length, getD, take, drop}
-use Rattle.srecord.specs.Text.{letterS, kind0, kind1, kind9, isPaired, bytesOf, checksum}
+use Rattle.srecord.specs.Layout.{letterS, kind0, kind1, kind9, isPaired, bytesOf, checksum}
 use Rattle.srecord.specs.declared.line.Line.{Line}
 use Rattle.srecord.specs.declared.line.Line.the-variants.{Header, Data, End, Bad}
 use Rattle.answers.specs.declared.Refusal.{Refusal}

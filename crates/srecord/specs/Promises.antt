@@ -5,7 +5,7 @@ use mathlib.Core.Path.{_≡_}
 use mathlib.Core.Bool.{true}
 use mathlib.Core.List.{List, []}
 use lib.ListN.{length, getD, replicate}
-use Rattle.srecord.specs.Text.{kind0, kind1, kind9, textOf}
+use Rattle.srecord.specs.Layout.{kind0, kind1, kind9, textOf}
 use Rattle.srecord.specs.Line.{Meaning, heading, piece, start, refused, mayHold, meant, lineOf}
 use Rattle.srecord.specs.File.{done, loadedOf, memoryAfter}
 use Rattle.srecord.specs.Written.{textFor, writtenOf, outputAfter}
@@ -17,11 +17,8 @@ abbrev pub Bytes : List ℕ → Type 0
 Bytes l = (i : ℕ) → getD l i 0 < 256
 
 -- a zeroed memory
-abbrev pub zeros : ℕ → List ℕ
-zeros n = replicate n 0
-
 unfoldable pub blank : List ℕ
-blank = zeros 65536
+blank = replicate 65536 0
 
 -- a line of the format: the text of a kind, an address and as many data bytes as the kind may have
 pub record IsLine (text : List ℕ) (kind a : ℕ) (d : List ℕ) : Type 0 where

@@ -110,10 +110,10 @@ module _ (mask : ℕ) where
 
 -- ---- what stands where in the order
 
-abbrev nameAt : Stack → ℕ → Name
+abbrev pub nameAt : Stack → ℕ → Name
 nameAt stack n = getD (order stack) n (0, CC) .1
 
-bit-of : (stack : Stack) (n : ℕ) → n < 8 → getD (order stack) n (0, CC) .0 ≡ 7 - n
+pub bit-of : (stack : Stack) (n : ℕ) → n < 8 → getD (order stack) n (0, CC) .0 ≡ 7 - n
 bit-of stack zero h = refl
 bit-of stack (suc zero) h = refl
 bit-of stack (suc (suc zero)) h = refl
@@ -125,15 +125,15 @@ bit-of stack (suc (suc (suc (suc (suc (suc (suc zero))))))) h = refl
 bit-of stack (suc (suc (suc (suc (suc (suc (suc (suc n)))))))) h = absurd (omega arith)
 
 -- the first four are words, the last four bytes
-record IsWord (r : Set) (name : Name) : Type 0 where
-  size : sizeOf name ≡ 2
-  written : (at : ℕ) (system : Bool) → valueWrites at (read r name) system ≡ wordWrites at (valueOf (read r name)) system
+pub record IsWord (r : Set) (name : Name) : Type 0 where
+  pub size : sizeOf name ≡ 2
+  pub written : (at : ℕ) (system : Bool) → valueWrites at (read r name) system ≡ wordWrites at (valueOf (read r name)) system
 
-record IsByte (r : Set) (name : Name) : Type 0 where
-  size : sizeOf name ≡ 1
-  written : (at : ℕ) (system : Bool) → valueWrites at (read r name) system ≡ record { at = at; byte = valueOf (read r name); system = system } ∷ []
+pub record IsByte (r : Set) (name : Name) : Type 0 where
+  pub size : sizeOf name ≡ 1
+  pub written : (at : ℕ) (system : Bool) → valueWrites at (read r name) system ≡ record { at = at; byte = valueOf (read r name); system = system } ∷ []
 
-word-of : (r : Set) (stack : Stack) (n : ℕ) → n < 4 → IsWord r (nameAt stack n)
+pub word-of : (r : Set) (stack : Stack) (n : ℕ) → n < 4 → IsWord r (nameAt stack n)
 word-of r stack zero h = record { size = refl; written = λ at system. refl }
 word-of r onS (suc zero) h = record { size = refl; written = λ at system. refl }
 word-of r onU (suc zero) h = record { size = refl; written = λ at system. refl }
@@ -141,7 +141,7 @@ word-of r stack (suc (suc zero)) h = record { size = refl; written = λ at syste
 word-of r stack (suc (suc (suc zero))) h = record { size = refl; written = λ at system. refl }
 word-of r stack (suc (suc (suc (suc n)))) h = absurd (omega arith)
 
-byte-of : (r : Set) (stack : Stack) (n : ℕ) → n < 4 → IsByte r (nameAt stack (4 + n))
+pub byte-of : (r : Set) (stack : Stack) (n : ℕ) → n < 4 → IsByte r (nameAt stack (4 + n))
 byte-of r stack zero h = record { size = refl; written = λ at system. refl }
 byte-of r stack (suc zero) h = record { size = refl; written = λ at system. refl }
 byte-of r stack (suc (suc zero)) h = record { size = refl; written = λ at system. refl }

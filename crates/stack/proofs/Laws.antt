@@ -26,7 +26,7 @@ use Rattle.memory.proofs.Folds.{listed-back}
 use Rattle.machine.specs.Effect.{stores, refuses}
 use Rattle.machine.specs.declared.Effect.{Effect}
 use Rattle.operations.specs.Codes.{withCodes}
-use Rattle.stack.specs.Pushing.{order, chosen, named, bytesOf, pushes, pushed, oncePushed, called}
+use Rattle.stack.specs.Pushing.{order, chosen, named, bytesOf, pushes, pushed, oncePushed, jumpedToSubroutine}
 use Rattle.stack.specs.Frames.{framed}
 use Rattle.stack.specs.Pulling.{pulls, ofPulled, pulled, returned}
 use Rattle.stack.specs.Laws.{NoneDropped, topMet, StackRefusesExactly}
@@ -88,10 +88,10 @@ pulls-number mem before stack (n ∷ l) r pointer = go (λ q to. pulls-number me
     go rest true e false f = rw (e, f, ended mem l WordAtTop)
 
 pub stack-refuses-exactly : StackRefusesExactly
-unfolding called pulled returned
+unfolding jumpedToSubroutine pulled returned
 stack-refuses-exactly = record {
   push = push-number;
-  call = λ r ea. once-number r (pushed r S 0x80 false .answer) _ refl ∙ push-number r S 0x80 false;
+  jsr = λ r ea. once-number r (pushed r S 0x80 false .answer) _ refl ∙ push-number r S 0x80 false;
   frame = frame-number;
   pull = λ mem r stack mask. pulls-number mem r stack (chosen mask (reverse (order stack))) r (wordOf r (stackWord stack));
   rti = λ mem r. pulls-number mem r S (chosen _ (reverse (order S))) r (r .s);

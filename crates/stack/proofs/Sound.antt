@@ -42,7 +42,7 @@ use Rattle.operations.specs.Codes.{withCodes}
 use Rattle.operations.specs.Sound.{Sound, Given}
 use Rattle.operations.proofs.Sound.{done-sound, changed-sound, stored-sound, refused-sound, either-sound}
 use Rattle.operations.proofs.Widths.{word-in, word-written, jumped-fits, codes-fits}
-use Rattle.stack.specs.Pushing.{order, chosen, named, bytesOf, pushes, pushed, oncePushed, called}
+use Rattle.stack.specs.Pushing.{order, chosen, named, bytesOf, pushes, pushed, oncePushed, jumpedToSubroutine}
 use Rattle.stack.specs.Frames.{stackedBy, framed}
 use Rattle.stack.specs.Pulling.{loaded, pulledInto, pulls, ofPulled, pulled, returned}
 use Rattle.stack.specs.Laws.{StackSound}
@@ -162,9 +162,9 @@ module _ (mem : List ℕ) (r : Set) (ea : ℕ) where
       go (To q pointer) f = changed-sound r (withWord q (stackWord stack) pointer) (λ g. word-written q (f g .0) (stackWord stack) pointer (f g .1))
       go (Refused x) f = refused-sound r (λ g. g .registers) x
 
-  call-sound : Sound (Given mem r ea) r Running (called r ea)
-  unfolding called
-  call-sound =
+  jsr-sound : Sound (Given mem r ea) r Running (jumpedToSubroutine r ea)
+  unfolding jumpedToSubroutine
+  jsr-sound =
       let p = pushed r S 0x80 false in
       let s = push-sound S 0x80 false in
       once-sound r (λ g. g .registers) (p .answer) (stores (jumped (p .regs) ea) (p .writes))
@@ -174,7 +174,7 @@ pub stack-sound : (mem : List ℕ) (r : Set) (ea : ℕ) → StackSound mem r ea
 unfolding framed returned
 stack-sound mem r ea = record {
   push = push-sound mem r ea;
-  call = call-sound mem r ea;
+  jsr = jsr-sound mem r ea;
   frame = λ entire.
       let q = withCodes r (put E entire (r .cc)) in
       handed-on r (λ g. g .registers) q _ (λ g. record { registers = codes-fits r (g .registers) (put E entire (r .cc)) (put-fits E entire (r .cc) (g .registers .cc)); bytes = g .bytes; address = g .address })

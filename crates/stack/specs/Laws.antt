@@ -19,7 +19,7 @@ use Rattle.memory.specs.Map.{byteAt, wordFits}
 use Rattle.memory.specs.Writes.{listed}
 use Rattle.machine.specs.declared.Wait.the-variants.{Running}
 use Rattle.operations.specs.Sound.{Sound, Given}
-use Rattle.stack.specs.Pushing.{order, chosen, named, bytesOf, pushes, pushed, called}
+use Rattle.stack.specs.Pushing.{order, chosen, named, bytesOf, pushes, pushed, jumpedToSubroutine}
 use Rattle.stack.specs.Frames.{stackedBy, framed}
 use Rattle.stack.specs.Pulling.{pulled, returned}
 
@@ -44,7 +44,7 @@ topMetBy r stack mask = topMet (wordOf r (stackWord stack)) (chosen mask (revers
 pub record StackRefusesExactly : Type 0 where
   pub push : (r : Set) (stack : Stack) (mask : ℕ) (system : Bool)
       → numberOfAnswer (pushed r stack mask system .answer) ≡ cond (ltb (wordOf r (stackWord stack)) (bytesOf mask)) 8 0
-  pub call : (r : Set) (ea : ℕ) → numberOfAnswer (called r ea .answer) ≡ cond (ltb (r .s) 2) 8 0
+  pub jsr : (r : Set) (ea : ℕ) → numberOfAnswer (jumpedToSubroutine r ea .answer) ≡ cond (ltb (r .s) 2) 8 0
   pub frame : (r : Set) (entire : Bool) → numberOfAnswer (framed r entire .answer) ≡ cond (ltb (r .s) (cond entire 12 3)) 8 0
   pub pull : (mem : List ℕ) (r : Set) (stack : Stack) (mask : ℕ) → numberOfAnswer (pulled mem r stack mask .answer) ≡ cond (topMetBy r stack mask) 6 0
   pub rti : (mem : List ℕ) (r : Set)
@@ -53,7 +53,7 @@ pub record StackRefusesExactly : Type 0 where
 -- each is sound: a refusal leaves the registers that came, and registers and writes fit where those that came do
 pub record StackSound (mem : List ℕ) (r : Set) (ea : ℕ) : Type 0 where
   pub push : (stack : Stack) (mask : ℕ) (system : Bool) → Sound (Given mem r ea) r Running (pushed r stack mask system)
-  pub call : Sound (Given mem r ea) r Running (called r ea)
+  pub jsr : Sound (Given mem r ea) r Running (jumpedToSubroutine r ea)
   pub frame : (entire : Bool) → Sound (Given mem r ea) r Running (framed r entire)
   pub pull : (stack : Stack) (mask : ℕ) → Sound (Given mem r ea) r Running (pulled mem r stack mask)
   pub rti : Sound (Given mem r ea) r Running (returned mem r)

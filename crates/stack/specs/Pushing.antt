@@ -1,4 +1,4 @@
--- PSHS and PSHU, and the calls JSR and BSR, which push PC (manual, appendix A).
+-- PSHS and PSHU, and JSR and BSR, which push PC (manual, appendix A).
 -- Assumes nothing.
 use Prim.Native.Nat.{ℕ, _+_, _-_, _*_, _/_, _%_}
 use mathlib.Core.Bool.{Bool, false, cond}
@@ -59,7 +59,7 @@ oncePushed r Done e = e
 oncePushed r (Refused x) e = refuses r x
 
 -- JSR, BSR: the return address is pushed on S, and is no System write; PC is the address
-unfoldable pub called : Set → ℕ → Effect
-called r ea =
+unfoldable pub jumpedToSubroutine : Set → ℕ → Effect
+jumpedToSubroutine r ea =
     let p = pushed r S 0x80 false in
     oncePushed r (p .answer) (stores (jumped (p .regs) ea) (p .writes))

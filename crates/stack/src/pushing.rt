@@ -6,7 +6,7 @@ ghost use Rattle.u8oru16.specs.Value.{valueOf};
 ghost use Rattle.registers.specs.RegisterSet.{read};
 ghost use Rattle.registers.specs.declared.Name.the-variants.{CC};
 ghost use Rattle.memory.specs.Writes.{writesOf};
-ghost use Rattle.stack.specs.Pushing.{order, named, bytesOf, pushes, pushed, called};
+ghost use Rattle.stack.specs.Pushing.{order, named, bytesOf, pushes, pushed, jumpedToSubroutine};
 use super::bit;
 use answers::Answer;
 use answers::Refusal;
@@ -106,8 +106,8 @@ pub fn push(regs: Set, stack: Stack, mask: u8, system: bool) -> Effect
 }
 
 // JSR and BSR: the program pushes, so the return address is no System write.
-pub fn call(regs: Set, ea: u16) -> Effect
-    ensures { λ r. ⌜ r ≡ called regs ea ⌝ }
+pub fn jump_to_subroutine(regs: Set, ea: u16) -> Effect
+    ensures { λ r. ⌜ r ≡ jumpedToSubroutine regs ea ⌝ }
 {
     let pushed = push(regs, Stack::S, 0x80, false);
     let answer = pushed.answer;
