@@ -3,7 +3,7 @@ ghost use mathlib.Core.Path.{_≡_};
 ghost use Prim.Native.Nat.{_≤_};
 ghost use lib.ListN.{length, drop};
 ghost use Rattle.journal.specs.Record.{most, entriesAt, recordLength, read};
-ghost use Rattle.journal.specs.Recorded.{inHand, Leaves};
+ghost use Rattle.journal.specs.Recorded.{inHand, Typed, Leaves};
 ghost use Rattle.journal.specs.Undos.{newestOf, putBack, undone};
 use super::COUNT;
 use super::ENTRIES;
@@ -35,6 +35,7 @@ fn put_back(mem: &mut [u8], r: &[u8], n: usize)
 // The newest record is taken back. The journal's bytes stay, and its room is used by the next record.
 pub fn undo(mem: &mut [u8], journal: &[u8], twin: Twin) -> Outcome
     ensures { λ r. ⌜ Leaves r (now (mem .exit)) (now (journal .entry)) (undone (inHand (now (mem .entry)) (now (journal .entry)) twin)) ⌝ }
+    ensures { λ _. ⌜ Typed (inHand (now (mem .entry)) (now (journal .entry)) twin) ⌝ }
 {
     let used = twin.used;
     if mem.len() != 65536 {
