@@ -29,12 +29,12 @@ reset κs a x y ws vs p q =
 pub undo : Determines 2 undos.undo.Kinds.ps undos.undo.Kinds.r undos.undo.Reads.Post
 undo κs a x y ws vs p q = (p .0 .result ∙ sym (q .0 .result), ap (λ (l : List ℕ). (l, (tt, (tt, tt)))) (p .0 .memory-is ∙ sym (q .0 .memory-is)))
 
--- a returned part is its bytes: no two that differ fit
+-- a returned part is its bytes and its place: no two that differ in either fit
 pub newest : (κs : Lfts 1) (a : Dens κs undos.newest.Kinds.ps) (x y : resT undos.newest.Kinds.r κs .Denot)
     (ws vs : Lasts (endedOf 1 undos.newest.Kinds.ps undos.newest.Kinds.r) κs a)
     → undos.newest.Reads.Post κs a x (atExit (endedOf 1 undos.newest.Kinds.ps undos.newest.Kinds.r) κs a ws)
-    → undos.newest.Reads.Post κs a y (atExit (endedOf 1 undos.newest.Kinds.ps undos.newest.Kinds.r) κs a vs) → (now x ≡ now y) × (ws ≡ vs)
-newest κs a x y ws vs p q = (p ∙ sym q, refl)
+    → undos.newest.Reads.Post κs a y (atExit (endedOf 1 undos.newest.Kinds.ps undos.newest.Kinds.r) κs a vs) → (now x ≡ now y) × ((x .ptr ≡ y .ptr) × (ws ≡ vs))
+newest κs a x y ws vs p q = (p .0 ∙ sym (q .0), (p .1 ∙ sym (q .1), refl))
 
 pub fresh : Determines 0 Twin.fresh.Kinds.ps Twin.fresh.Kinds.r Twin.fresh.Reads.Post
 fresh κs a x y ws vs p q = (p ∙ sym q, refl)
