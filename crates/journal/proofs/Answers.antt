@@ -4,6 +4,7 @@ use Prim.Native.Nat.{ℕ, _+_, _-_, _*_, _/_, _≤_, _<_}
 use mathlib.Core.Path.{_≡_, refl, sym, ap, _∙_}
 use mathlib.Core.Bool.{Bool, true, false}
 use mathlib.Core.List.{List, [], _++_, append-assoc, append-nil}
+use native.Mathlib.Nat.{zero-add}
 use native.Mathlib.Omega.{arith}
 use lib.Dec.{leb, eqb}
 use lib.ListN.{length, take, drop, length-append, length-drop}
@@ -22,7 +23,7 @@ use Rattle.machine.specs.declared.Machine.{Machine}
 use Rattle.machine.specs.Record.{machineOf}
 use Rattle.journal.specs.Record.{encode, waitAt, countOf, entriesOf, read, most, entriesAt, recordLength}
 use Rattle.journal.specs.Recorded.{State, ending, Leaves, need, unless, admitted, callAnswer, savedFor, recorded, concluded, called, recordAt, withRecord}
-use Rattle.journal.specs.Undos.{newestOf, newestIn, undoAnswer, putBack, restored, undone}
+use Rattle.journal.specs.Undos.{newestOf, newestFrom, newestIn, undoAnswer, putBack, restored, undone}
 use Rattle.journal.specs.declared.Outcome.{Outcome}
 
 -- ---- before a recorded call
@@ -116,21 +117,30 @@ placed u r j last h e l =
 
 -- ---- the newest record
 
-module _ (j : List ℕ) (used : ℕ) where
-  pub none-used : used ≡ 0 → [] ≡ newestOf j used
-  unfolding newestOf
-  none-used h = rw (le-ltb 0 used (omega arith))
+-- n bytes on in a slice
+abbrev further : ℕ × ℕ → ℕ → ℕ × ℕ
+further b n = (b .0, n + b .1)
+
+not-further : (b : ℕ × ℕ) → further b 0 ≡ b
+not-further b = ap (λ (n : ℕ). (b .0, n)) (zero-add (b .1))
+
+-- its bytes, and where it begins in the journal, which begins at b
+module _ (j : List ℕ) (used : ℕ) (b : ℕ × ℕ) where
+  pub none-used : used ≡ 0 → ([] ≡ newestOf j used) × (b ≡ further b (newestFrom j used))
+  unfolding newestOf newestFrom
+  none-used h = rw (le-ltb 0 used (omega arith)) (refl, sym (not-further b))
 
   module _ (some : used ≡ 0 → ⊥) where
-    pub beyond : length j / recordLength < used → [] ≡ newestOf j used
-    unfolding newestOf
-    beyond h = rw (lt-ltb 0 used (omega arith), lt-leb (used * recordLength) (length j) (omega arith))
+    pub beyond : length j / recordLength < used → ([] ≡ newestOf j used) × (b ≡ further b (newestFrom j used))
+    unfolding newestOf newestFrom
+    beyond h = rw (lt-ltb 0 used (omega arith), lt-leb (used * recordLength) (length j) (omega arith)) (refl, sym (not-further b))
 
-    pub whole : used ≤ length j / recordLength → take ((used - 1) * recordLength + recordLength - (used - 1) * recordLength) (drop ((used - 1) * recordLength) j) ≡ newestOf j used
-    unfolding newestOf recordAt
+    pub whole : used ≤ length j / recordLength
+        → (take ((used - 1) * recordLength + recordLength - (used - 1) * recordLength) (drop ((used - 1) * recordLength) j) ≡ newestOf j used) × (further b ((used - 1) * recordLength) ≡ further b (newestFrom j used))
+    unfolding newestOf newestFrom recordAt
     whole h =
         let e : (used - 1) * recordLength + recordLength - (used - 1) * recordLength ≡ recordLength = omega arith in
-        rw (lt-ltb 0 used (omega arith), le-leb (used * recordLength) (length j) (omega arith), e)
+        rw (lt-ltb 0 used (omega arith), le-leb (used * recordLength) (length j) (omega arith), e) (refl, refl)
 
 -- ---- undo
 

@@ -111,7 +111,7 @@ ending-inv : (a : Answer) (s new : State) (ds : List Write) (past : List Snap) �
 ending-inv Done s new ds past h v = absurd (h refl)
 ending-inv (Refused x) s new ds past h v = v
 
-undo-inv : (s : State) (past : List Snap) → Inv s past → Inv (undone s .state) (pop (undone s .answer) past)
+pub undo-inv : (s : State) (past : List Snap) → Inv s past → Inv (undone s .state) (pop (undone s .answer) past)
 unfolding undone
 undo-inv s [] v = ending-inv (undoAnswer s) s (restored s) [] [] (undo-barred s v) v
 undo-inv s (t ∷ ss) v = rw (undo-taken s t ss v) (restored-inv s t ss v)
@@ -144,7 +144,7 @@ undo-answer : (s : State) → undone s .answer ≡ undoAnswer s
 unfolding undone
 undo-answer s = answered (undoAnswer s) s (restored s) []
 
-undoes : (s : State) (past : List Snap) → Inv s past → Undoes (record { now = s; past = past })
+pub undoes : (s : State) (past : List Snap) → Inv s past → Undoes (record { now = s; past = past })
 undoes s [] v = record {
   exactly = ((λ e. absurd (undo-barred s v (sym (undo-answer s) ∙ e))), (λ h. absurd (h refl)));
   brings = brings s [] v;
@@ -228,13 +228,17 @@ taken c s f b e =
     let h = admitted-done (length (s .memory)) (length (s .journal)) (s .twin .used) (earlyOf c m) (e1 .0) in
     record { size = h .size; space = h .space; few = few-writes c (s .memory) m; lawful = call-fits c (s .memory) m f b }
 
+pub forward-inv : (c : Call) (s : State) (past : List Snap) → Inv s past → Inv (call c s .state) (push (call c s .answer) s past)
+unfolding called
+forward-inv c s past v =
+    let m = s .twin .machine in
+    let f = planOf c (s .memory) m in
+    rw (call-is c s)
+    (call-inv (settingsIn c) (callAnswer (earlyOf c m) f s) s past f (taken c s (v .sound) (v .bytes)) v)
+
 next-inv : (e : Event) (w : World) → Legal e → Inv (w .now) (w .past) → Inv (next e w .now) (next e w .past)
-unfolding next called
-next-inv (forward c) w l v =
-    let m = w .now .twin .machine in
-    let f = planOf c (w .now .memory) m in
-    rw (call-is c (w .now))
-    (call-inv (settingsIn c) (callAnswer (earlyOf c m) f (w .now)) (w .now) (w .past) f (taken c (w .now) (v .sound) (v .bytes)) v)
+unfolding next
+next-inv (forward c) w l v = forward-inv c (w .now) (w .past) v
 next-inv back w l v = undo-inv (w .now) (w .past) v
 next-inv (host a b) w l v = host-inv (w .now) (w .past) a b (l .0) (l .1) v
 
@@ -243,7 +247,7 @@ unfolding run
 run-inv [] w l v = v
 run-inv (e ∷ es) w l v = run-inv es (next e w) (l .1) (next-inv e w (l .0) v)
 
-called-stays : (c : Call) (s : State) → call c s .answer ≢ Done → Unchanged s (call c s)
+pub called-stays : (c : Call) (s : State) → call c s .answer ≢ Done → Unchanged s (call c s)
 unfolding called
 called-stays c s =
     let m = s .twin .machine in
@@ -252,7 +256,7 @@ called-stays c s =
     let ds = reported (settingsIn c .«ram_top») (listed (f .writes)) in
     rw (call-is c s) (λ h. stays a s (recorded (settingsIn c) f s) ds (λ e. h (answered a s (recorded (settingsIn c) f s) ds ∙ e)))
 
-undone-stays : (s : State) → undone s .answer ≢ Done → Unchanged s (undone s)
+pub undone-stays : (s : State) → undone s .answer ≢ Done → Unchanged s (undone s)
 unfolding undone
 undone-stays s h = stays (undoAnswer s) s (restored s) [] (λ e. h (undo-answer s ∙ e))
 

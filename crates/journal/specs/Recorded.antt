@@ -7,6 +7,7 @@ use mathlib.Core.Path.{_≡_}
 use lib.Dec.{leb, ltb, eqb}
 use lib.ListN.{length, getD, take, drop, set}
 use lib.Seq.{sets}
+use Rattle.memory.specs.Fits.{Bytes}
 use Rattle.memory.specs.Map.{landingOf}
 use Rattle.memory.specs.Writes.{writesOf, listed, stored, reported}
 use Rattle.answers.specs.declared.Answer.{Answer}
@@ -25,7 +26,7 @@ use Rattle.machine.specs.declared.Settings.{Settings}
 use Rattle.calls.specs.Interrupts.{interruptPlan}
 use Rattle.calls.specs.Resets.{resetPlan}
 use Rattle.calls.specs.declared.InterruptType.{InterruptType}
-use Rattle.machine.specs.Machine.{fresh}
+use Rattle.machine.specs.Machine.{MachineFits, fresh}
 use Rattle.journal.specs.Record.{Saved, encode, recordLength}
 use Rattle.journal.specs.declared.Outcome.{Outcome}
 use Rattle.journal.specs.declared.Twin.{Twin}
@@ -42,6 +43,11 @@ freshTwin = record { machine = fresh; used = 0 }
 
 abbrev pub inHand : List ℕ → List ℕ → Twin → State
 inHand memory journal twin = record { twin = twin; memory = memory; journal = journal }
+
+-- What the types of a call's arguments say: each number in the machine fits its width, and memory is bytes
+pub record Typed (s : State) : Type 0 where
+  pub machine : MachineFits (s .twin .machine)
+  pub memory : Bytes (s .memory)
 
 -- How a call ends: its answer, what is in hand afterwards, and the device writes that it reports
 pub record Ended : Type 0 where

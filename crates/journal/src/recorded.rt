@@ -8,7 +8,7 @@ ghost use Rattle.memory.specs.Map.{landingOf};
 ghost use Rattle.memory.specs.Writes.{listed, writesOf};
 ghost use Rattle.machine.specs.Record.{header, headerLength};
 ghost use Rattle.journal.specs.Record.{most, entryLength, entriesAt, recordLength, entries, encode};
-ghost use Rattle.journal.specs.Recorded.{inHand, Leaves, savedAt, savedFor, admitted, concluded, whileWaiting, stepped, interrupted, wasReset};
+ghost use Rattle.journal.specs.Recorded.{inHand, Typed, Leaves, savedAt, savedFor, admitted, concluded, whileWaiting, stepped, interrupted, wasReset};
 use super::COUNT;
 use super::ENTRIES;
 use super::ENTRY;
@@ -182,6 +182,7 @@ fn waiting(wait: Wait) -> Answer
 
 pub fn step(mem: &mut [u8], journal: &mut [u8], twin: Twin, settings: Settings) -> Outcome
     ensures { λ r. ⌜ Leaves r (now (mem .exit)) (now (journal .exit)) (stepped settings (inHand (now (mem .entry)) (now (journal .entry)) twin)) ⌝ }
+    ensures { λ _. ⌜ Typed (inHand (now (mem .entry)) (now (journal .entry)) twin) ⌝ }
 {
     let machine = twin.machine;
     let wait = machine.wait;
@@ -202,6 +203,7 @@ pub fn interrupt(
     which: InterruptType,
 ) -> Outcome
     ensures { λ r. ⌜ Leaves r (now (mem .exit)) (now (journal .exit)) (interrupted settings which (inHand (now (mem .entry)) (now (journal .entry)) twin)) ⌝ }
+    ensures { λ _. ⌜ Typed (inHand (now (mem .entry)) (now (journal .entry)) twin) ⌝ }
 {
     let machine = twin.machine;
     match admits(mem.len(), journal.len(), twin.used, Answer::Done) {
@@ -215,6 +217,7 @@ pub fn interrupt(
 
 pub fn reset(mem: &mut [u8], journal: &mut [u8], twin: Twin, settings: Settings) -> Outcome
     ensures { λ r. ⌜ Leaves r (now (mem .exit)) (now (journal .exit)) (wasReset settings (inHand (now (mem .entry)) (now (journal .entry)) twin)) ⌝ }
+    ensures { λ _. ⌜ Typed (inHand (now (mem .entry)) (now (journal .entry)) twin) ⌝ }
 {
     let machine = twin.machine;
     match admits(mem.len(), journal.len(), twin.used, Answer::Done) {
