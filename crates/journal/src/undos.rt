@@ -72,7 +72,7 @@ pub fn undo(mem: &mut [u8], journal: &[u8], twin: Twin) -> Outcome
 // The newest record, as a part of the journal; an empty part where no whole record is there.
 pub fn newest(journal: &[u8], used: usize) -> &[u8]
     ensures { λ r. ⌜ now r ≡ newestOf (now (journal .entry)) used ⌝ }
-    ensures { λ r. ⌜ r .ptr ≡ (journal .entry .ptr .0 , newestFrom (now (journal .entry)) used + journal .entry .ptr .1) ⌝ }
+    ensures { λ r. ⌜ r .ptr ≡ (journal .entry .ptr .0, newestFrom (now (journal .entry)) used + journal .entry .ptr .1) ⌝ }
 {
     if used == 0 {
         return &journal[..0];
