@@ -11,7 +11,8 @@ use lib.Seq.{drop-cons}
 use Rattle.u8oru16.specs.declared.u8u16.the-variants.{u8, u16}
 use Rattle.answers.specs.declared.Refusal.{Refusal}
 use Rattle.registers.specs.ConditionCodes.{bitAt}
-use Rattle.registers.specs.RegisterSet.{sizeOf, written}
+use Rattle.registers.specs.Names.{sizeOf}
+use Rattle.registers.specs.RegisterSet.{written}
 use Rattle.registers.specs.declared.Name.{Name}
 use Rattle.registers.specs.declared.Name.the-variants.{CC}
 use Rattle.registers.specs.declared.Set.{Set}
