@@ -8,13 +8,13 @@ returns : tie.Need-returns
 returns c = rw (c .before .before .before .before .before .before .before .enum-told .given .1) (c .before .before .before .before .step .ensures .0)
 
 returns-2 : tie.Need-returns-2
-returns-2 c = rw (c .before .before .before .before .before .before .before .enum-told2 .given .1) (c .before .before .before .before .interrupt .ensures .0)
+returns-2 c = rw (c .before .before .before .before .before .before .before .enum-told2 .given .1) (c .before .before .before .before .interrupt .ensures)
 
 returns-3 : tie.Need-returns-3
-returns-3 c = rw (c .before .before .before .before .before .before .before .enum-told3 .given .1) (c .before .before .before .before .interrupt2 .ensures .0)
+returns-3 c = rw (c .before .before .before .before .before .before .before .enum-told3 .given .1) (c .before .before .before .before .interrupt2 .ensures)
 
 returns-4 : tie.Need-returns-4
-returns-4 c = rw (c .before .before .before .before .before .before .before .enum-told4 .given .1) (c .before .before .before .before .interrupt3 .ensures .0)
+returns-4 c = rw (c .before .before .before .before .before .before .before .enum-told4 .given .1) (c .before .before .before .before .interrupt3 .ensures)
 
 returns-5 : tie.Need-returns-5
 returns-5 c = rw (c .before .before .before .before .before .before .before .enum-told5 .given .1) (c .before .before .before .before .reset .ensures .0)
