@@ -1,4 +1,4 @@
--- Calls whose plan is known whole: a step while waiting, a masked interrupt, a reset. What an interrupt and a reset do not depend on.
+-- Calls whose whole plan is one equation: a step while waiting, a masked interrupt, a reset. What an interrupt and a reset do not depend on.
 -- Assumes nothing.
 use Prim.Native.Nat.{ℕ, _+_, _*_}
 use mathlib.Core.Bool.{true}

@@ -1,4 +1,4 @@
-// What an instruction does: the choice of the operation, which the crate of its subject does.
+// What an instruction does: chooses the function of its operation, in `operations`, `stack` or `vectors`.
 // The registers come with PC at the next instruction and the index register changed; `ea` is the effective address.
 ghost use mathlib.Core.Path.{_≡_};
 ghost use Rattle.evaluate.specs.Evaluate.{memoryOf, evaluateOf};

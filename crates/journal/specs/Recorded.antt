@@ -60,7 +60,7 @@ abbrev pub ending : Answer → State → State → List Write → Ended
 ending Done now new devices = record { answer = Done; state = new; devices = writesOf devices }
 ending (Refused x) now new devices = record { answer = Refused x; state = now; devices = writesOf [] }
 
--- what the code returns, and leaves in memory and journal, is that end
+-- what the code returns of an end; `Leaves` says that a result, a memory and a journal are those of the end e
 abbrev pub returned : Ended → Outcome
 returned e = record { devices = e .devices; twin = e .state .twin; answer = e .answer }
 
@@ -95,7 +95,7 @@ unfoldable pub savedFor : ℕ → List Write → List ℕ → List Saved
 savedFor top [] mem = []
 savedFor top (w ∷ ws) mem = savedAt mem (landingOf (w .at) top (w .system)) ++ savedFor top ws mem
 
--- Before a recorded call looks further: 1, 12, then a refusal of its own (step's 2), then 10
+-- What is judged first, in this order: 1, 12, then `early`, the call's own refusal (2 of a step), then 10
 unfoldable pub admitted : ℕ → ℕ → ℕ → Answer → Answer
 admitted memory journal used early =
     need (eqb memory 65536) MemoryLength
@@ -115,7 +115,7 @@ recorded t p s =
       journal = withRecord (s .twin .used) (encode (s .twin .machine) (savedFor (t .«ram_top») (listed (p .writes)) (s .memory))) (s .journal);
     }
 
--- so answered, a call with this plan ends so
+-- how a call with this plan ends, by its answer
 abbrev pub concluded : Answer → Settings → Plan → State → Ended
 concluded a t p s = ending a s (recorded t p s) (reported (t .«ram_top») (listed (p .writes)))
 

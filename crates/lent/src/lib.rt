@@ -1,5 +1,5 @@
 // The machine lent by its owner: step and undo on a twin behind a `&mut`, over the recorded calls on values.
-// Each is three statements, whatever the call does: every test and every refusal is below.
+// Each is three lines: every test and every refusal is in the call on values.
 ghost use Rattle.journal.specs.Recorded.{inHand, Typed, stepped};
 ghost use Rattle.journal.specs.Undos.{undone};
 ghost use Rattle.lent.specs.Lending.{Returns, Leaves};

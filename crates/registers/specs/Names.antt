@@ -1,4 +1,4 @@
--- The registers' names, sizes and letters, and each narrower kind of name as one of the wider.
+-- The registers' names, sizes and letters; and Word, Index and Stack, which name some of the registers, turned into names of the set.
 -- Assumes nothing.
 use Prim.Native.Nat.{ℕ}
 use Prim.Native.String.{String}
@@ -60,7 +60,7 @@ indexWord indexY = wordY
 indexWord indexU = wordU
 indexWord indexS = wordS
 
--- the stack pointers, and the one that is not in use, which its pushes and pulls may name
+-- the stack pointers; PSHS and PULS may name U as a register, PSHU and PULU may name S
 abbrev pub stackWord : Stack → Word
 stackWord stackS = wordS
 stackWord stackU = wordU

@@ -1,4 +1,4 @@
-// The MC6809's registers (registers.rs): the condition codes, which are the arithmetic too, and the register set.
+// The MC6809's registers (registers.rs): the condition codes, whose methods are the arithmetic, and the register set.
 // Where the Rust changes `&mut self`, a function here takes `self` and returns it.
 mod arithmetic;
 mod condition_codes;

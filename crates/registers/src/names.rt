@@ -1,4 +1,4 @@
-// The registers' names: their letters and sizes, and each narrower kind of name as one of the wider.
+// The registers' names: their letters and sizes; and Word, Index and Stack, which name some of the registers, turned into names of the set.
 ghost use mathlib.Core.Path.{_≡_};
 ghost use Rattle.registers.specs.Names.{sizeOf, lettersWith, textOf, wordName, indexWord, stackWord, otherStack};
 use crate::Index;
@@ -86,7 +86,7 @@ impl Stack {
         }
     }
 
-    // The stack pointer that PSHS and PULS name by the bit of U, and PSHU and PULU by the same bit.
+    // The stack pointer that bit 6 of a post-byte names: U for PSHS and PULS, S for PSHU and PULU.
     pub fn other(self) -> Stack
         ensures { λ r. ⌜ r ≡ otherStack self ⌝ }
     {

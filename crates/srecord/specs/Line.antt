@@ -61,7 +61,7 @@ lineOf text =
     (cond (isSummed (bytes text)) (meant (getD text 1 0) (addressOf (bytes text)) (dataOf (bytes text))) (refused Checksum))
     (refused LineShape)
 
--- what `line_of` answers: of the data, how many
+-- what `line_of` answers: the meaning, with the count of the data in place of the data
 abbrev pub shown : Meaning → Line
 shown (heading d) = Header
 shown (piece a d) = Data a (length d)

@@ -31,14 +31,14 @@ pub record IsLine (text : List ℕ) (kind a : ℕ) (d : List ℕ) : Type 0 where
 abbrev pub LineReads : Type 0
 LineReads = (text : List ℕ) (kind a : ℕ) (d : List ℕ) → IsLine text kind a d → lineOf text ≡ meant kind a d
 
--- which line a text is, by what it means; the address of an S0 line says nothing
+-- the text is a line of the format with this meaning; of S0, whose address says nothing, with some address
 abbrev pub Stands : List ℕ → Meaning → Type 0
 Stands text (heading d) = (a : ℕ) × IsLine text kind0 a d
 Stands text (piece a d) = IsLine text kind1 a d
 Stands text (start a) = IsLine text kind9 a []
 Stands text (refused r) = Unit {0}
 
--- a line that is not refused is one of the format, character by character that of its meaning
+-- a line that is not refused is exactly the text of its kind, address and data
 abbrev pub LineExact : Type 0
 LineExact = (text : List ℕ) → Stands text (lineOf text)
 

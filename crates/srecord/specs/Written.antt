@@ -36,7 +36,7 @@ textFor mem a = rowsText mem 2048 ++ textOf kind9 a []
 abbrev pub stopped : Refusal → Written
 stopped r = record { count = 0; answer = Refused r }
 
--- the answer; and the output, its bytes past the text as they were, all of them if refused
+-- the answer, and the output afterwards: the text at its front and the rest as it was; if refused, all as it was
 unfoldable pub writtenOf : List ℕ → ℕ → List ℕ → Written
 writtenOf mem a out =
     cond (eqb (length mem) 65536)

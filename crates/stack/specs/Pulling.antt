@@ -40,10 +40,10 @@ abbrev pub ofPulled : Set → Stack → Pulled → Effect
 ofPulled before stack (To r pointer) = changes (withWord r (stackWord stack) pointer)
 ofPulled before stack (Refused x) = refuses before x
 
--- PULS, PULU: the order of pushing from its end
+-- PULS, PULU: the registers that the post-byte names, in the reverse of the order of pushing
 unfoldable pub pulled : List ℕ → Set → Stack → ℕ → Effect
 pulled mem r stack mask = ofPulled r stack (pulls mem (chosen mask (reverse (order stack))) (To r (wordOf r (stackWord stack))))
 
--- RTI: CC is pulled, and by its E all other registers, or PC alone
+-- RTI: E of the CC on the stack says whether all registers are pulled, or CC and PC alone
 unfoldable pub returned : List ℕ → Set → Effect
 returned mem r = pulled mem r S (stackedBy (flag E (coded (byteAt mem (r .s)))))
