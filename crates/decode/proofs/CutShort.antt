@@ -19,7 +19,7 @@ use Rattle.opcodes.specs.declared.Page.the-variants.{Plain, Ten, Eleven}
 use Rattle.opcodes.specs.declared.Place.{Place}
 use Rattle.opcodes.specs.declared.Place.the-variants.{Instruction as InManual, None}
 use Rattle.decode.specs.PostByte.{formOf, offsetBytes}
-use Rattle.decode.specs.Operand.{signedByte, numberAt, reading, offsetOf, indexedBy, withForm, afterPostByte, operandAt}
+use Rattle.decode.specs.Operand.{signedByte, operandNumber, reading, offsetOf, indexedBy, withForm, afterPostByte, operandAt}
 use Rattle.decode.specs.Decode.{secondByte, located, withOperand, decodedAs, fromLocated, decodedAt}
 use Rattle.decode.specs.Laws.{PrefixAtTop, offsetBytesBy, bytesAfter, EndsPast, CutShort, BytesRefused}
 use Rattle.decode.specs.declared.postbyte.PostByte.{PostByte}
@@ -50,7 +50,7 @@ tested at n o next = go (leb (at + n) 0x10000) refl
 
 counted : (n : ℕ) (mem : List ℕ) (at : ℕ) (says : ℕ → Operand) → at ≤ 0x10000 → Past (reading n mem at (λ v next. Read (says v) next)) ↔ (0x10000 < at + n)
 counted zero mem at says l = (λ e. absurd (not-read e), λ h. absurd (omega arith))
-counted (suc n) mem at says l = tested at (suc n) (says (numberAt (suc n) mem at)) (at + suc n)
+counted (suc n) mem at says l = tested at (suc n) (says (operandNumber (suc n) mem at)) (at + suc n)
 
 module _ (mem : List ℕ) (at : ℕ) (l : at ≤ 0x10000) where
   formed : (p : PostByte) → FormSo p → (post : ℕ) → at + 1 ≤ 0x10000 → Past (afterPostByte p mem post (at + 1)) ↔ (0x10000 < at + (1 + offsetBytesBy p))

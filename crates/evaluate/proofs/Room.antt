@@ -30,12 +30,12 @@ use Rattle.operations.specs.declared.Changed.the-variants.{After, Refused}
 use Rattle.operations.proofs.Refusals.{change-refuses-exactly}
 use Rattle.stack.specs.Frames.{framed}
 use Rattle.stack.specs.Laws.{topMet}
-use Rattle.stack.specs.Pulling.{pulled, returned}
-use Rattle.stack.specs.Pushing.{order, chosen, bytesOf, jumpedToSubroutine}
+use Rattle.stack.specs.Pulling.{pulled, returnedFromInterrupt}
+use Rattle.stack.specs.Pushing.{order, chosen, bytesPushed, jumpedToSubroutine}
 use Rattle.stack.proofs.Laws.{stack-refuses-exactly}
 use Rattle.vectors.specs.Laws.{zeroNumber}
 use Rattle.vectors.specs.Service.{wordIn, served}
-use Rattle.vectors.specs.Table.{addressOf, isEntire, vectorOf}
+use Rattle.vectors.specs.Table.{addressOf, isEntire, softwareVector}
 use Rattle.vectors.specs.declared.table.Vector.{Vector}
 use Rattle.vectors.proofs.Laws.{vectors-refuse-exactly}
 use Rattle.evaluate.specs.Evaluate.{effectOf}
@@ -79,7 +79,7 @@ of-store true r q ws = refl
 of-store false r q ws = refl
 
 pub small-exactly : SmallExactly
-unfolding onMemory store16 returned
+unfolding onMemory store16 returnedFromInterrupt
 small-exactly (Registers op) s mem r ea =
     ap isEight (numbered r (changedOf op (s .flags) mem r ea) ∙ change-refuses-exactly op (s .flags) mem r ea)
     ∙ other (readsWord op && not (wordFits ea)) 6 _ refl (other (namesTwo op && not (transferable (byteAt mem ea))) 7 0 refl refl)
@@ -90,10 +90,10 @@ small-exactly (Memory Bsr) s mem r ea = of-jsr r ea
 small-exactly (Memory Jsr) s mem r ea = of-jsr r ea
 small-exactly (Memory Rts) s mem r ea = of-pull mem r S 0x80
 small-exactly (Memory Rti) s mem r ea = of-pull mem r S _
-small-exactly (Memory (Swi SWI)) s mem r ea = of-service mem s r (vectorOf SWI)
-small-exactly (Memory (Swi SWI2)) s mem r ea = of-service mem s r (vectorOf SWI2)
-small-exactly (Memory (Swi SWI3)) s mem r ea = of-service mem s r (vectorOf SWI3)
+small-exactly (Memory (Swi SWI)) s mem r ea = of-service mem s r (softwareVector SWI)
+small-exactly (Memory (Swi SWI2)) s mem r ea = of-service mem s r (softwareVector SWI2)
+small-exactly (Memory (Swi SWI3)) s mem r ea = of-service mem s r (softwareVector SWI3)
 small-exactly (Memory Cwai) s mem r ea = ap isEight (vectors-refuse-exactly .cwai r (byteAt mem ea)) ∙ eight (ltb (r .s) 12) 0 refl
 small-exactly (Memory Sync) s mem r ea = refl
-small-exactly (Memory (Push own)) s mem r ea = ap isEight (stack-refuses-exactly .push r own (byteAt mem ea) false) ∙ eight (ltb (wordOf r (stackWord own)) (bytesOf (byteAt mem ea))) 0 refl
+small-exactly (Memory (Push own)) s mem r ea = ap isEight (stack-refuses-exactly .push r own (byteAt mem ea) false) ∙ eight (ltb (wordOf r (stackWord own)) (bytesPushed (byteAt mem ea))) 0 refl
 small-exactly (Memory (Pull own)) s mem r ea = of-pull mem r own (byteAt mem ea)

@@ -18,7 +18,7 @@ use Rattle.operations.specs.Change.{changedOf}
 use Rattle.operations.specs.Words.{store16}
 use Rattle.operations.specs.declared.Changed.{Changed}
 use Rattle.operations.specs.declared.Changed.the-variants.{After, Refused}
-use Rattle.stack.specs.Pulling.{pulled, returned}
+use Rattle.stack.specs.Pulling.{pulled, returnedFromInterrupt}
 use Rattle.stack.specs.Pushing.{pushed, jumpedToSubroutine}
 use Rattle.vectors.specs.Service.{software}
 use Rattle.vectors.specs.Waits.{waiting, synchronized}
@@ -31,7 +31,7 @@ memoryOf (Store16 word) s mem r ea = store16 r word ea
 memoryOf Bsr s mem r ea = jumpedToSubroutine r ea
 memoryOf Jsr s mem r ea = jumpedToSubroutine r ea
 memoryOf Rts s mem r ea = pulled mem r S 0x80
-memoryOf Rti s mem r ea = returned mem r
+memoryOf Rti s mem r ea = returnedFromInterrupt mem r
 memoryOf (Swi which) s mem r ea = software mem s r which
 memoryOf Cwai s mem r ea = waiting r (byteAt mem ea)
 memoryOf Sync s mem r ea = synchronized r

@@ -21,7 +21,7 @@ use Rattle.machine.specs.declared.Settings.{Settings}
 use Rattle.calls.specs.declared.Plan.{Plan}
 use Rattle.machine.specs.declared.Machine.{Machine}
 use Rattle.machine.specs.Record.{machineOf}
-use Rattle.journal.specs.Record.{encode, waitAt, countOf, entriesOf, read, most, entriesAt, recordLength}
+use Rattle.journal.specs.Record.{encode, waitAt, countOf, entriesOf, readEntries, most, entriesAt, recordLength}
 use Rattle.journal.specs.Recorded.{State, ending, Leaves, need, unless, admitted, callAnswer, savedFor, recorded, concluded, called, recordAt, withRecord}
 use Rattle.journal.specs.Undos.{newestOf, newestFrom, newestIn, undoAnswer, putBack, restored, undone}
 use Rattle.journal.specs.declared.Outcome.{Outcome}
@@ -157,7 +157,7 @@ unfolding undone
 undo-refused s x r e p = refused-leaves (undoAnswer s) s (restored s) [] x r e p
 
 pub undo-done : (s : State) (m : Machine) (mem : List ℕ) (d : Writes) → undoAnswer s ≡ Done → m ≡ machineOf (newestIn s)
-    → mem ≡ putBack (s .memory) (read (countOf (newestIn s)) (drop entriesAt (newestIn s))) → d ≡ writesOf []
+    → mem ≡ putBack (s .memory) (readEntries (countOf (newestIn s)) (drop entriesAt (newestIn s))) → d ≡ writesOf []
     → Leaves (record { devices = d; twin = record { machine = m; used = s .twin .used - 1 }; answer = Done }) mem (s .journal) (undone s)
 unfolding undone restored entriesOf
 undo-done s m mem d e p q t = rw e (record { result = rw (p, t); memory-is = q; journal-is = refl })

@@ -11,7 +11,7 @@ use lib.ListN.{length, replicate, length-append, length-replicate}
 use Rattle.machine.specs.declared.Machine.{Machine}
 use Rattle.machine.specs.Machine.{MachineFits}
 use Rattle.machine.specs.Record.{bytes, numberAt, header, machineOf}
-use Rattle.journal.specs.Record.{Saved, entries, encode, waitAt, countOf, read, entriesOf, most, entryLength, recordLength}
+use Rattle.journal.specs.Record.{Saved, entries, encode, waitAt, countOf, readEntries, entriesOf, most, entryLength, recordLength}
 use Rattle.journal.specs.Sequence.{All}
 use Rattle.machine.proofs.Header.{wait-small, two-back, header-back}
 use Rattle.journal.proofs.Laying.{length-entries}
@@ -25,8 +25,8 @@ pub machine-back : (m : Machine) (es : List Saved) → MachineFits m → machine
 unfolding encode
 machine-back m es f = header-back m _ f
 
-read-entries : (es : List Saved) (more : List ℕ) → All SavedFits es → read (length es) (entries es ++ more) ≡ es
-unfolding read entries bytes numberAt
+read-entries : (es : List Saved) (more : List ℕ) → All SavedFits es → readEntries (length es) (entries es ++ more) ≡ es
+unfolding readEntries entries bytes numberAt
 read-entries [] more f = refl
 read-entries (e ∷ es) more f = λ i. record { place = two-back (e .place) (omega (arith, f .0 .place)) i; byte = e .byte } ∷ read-entries es more (f .1) i
 

@@ -63,8 +63,8 @@ unaryOf Inc s cc m = out8 cc (by s INC cc m 0)
 unaryOf Clr s cc m = record { cc = codes cc ((N := false) ∷ (Z := true) ∷ («V» := false) ∷ (C := false) ∷ []); value = 0 }
 
 -- on an accumulator
-abbrev pub withOperand : Alu → Acc → Flags → Set → ℕ → Set
-withOperand op acc s r m = withAccumulator acc (aluOf op s (r .cc) (accumulator acc r) m) r
+abbrev pub onOperand : Alu → Acc → Flags → Set → ℕ → Set
+onOperand op acc s r m = withAccumulator acc (aluOf op s (r .cc) (accumulator acc r) m) r
 
 abbrev pub onAccumulator : Unary → Acc → Flags → Set → Set
 onAccumulator op acc s r = withAccumulator acc (unaryOf op s (r .cc) (accumulator acc r)) r

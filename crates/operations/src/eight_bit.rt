@@ -2,7 +2,7 @@
 ghost use mathlib.Core.Path.{_≡_};
 ghost use Rattle.registers.specs.declared.Flags.the-variants.{Manual};
 ghost use Rattle.opcodes.specs.declared.Unary.the-variants.{Clr};
-ghost use Rattle.operations.specs.EightBit.{accumulator, withAccumulator, aluOf, unaryOf, withOperand, onAccumulator, tested, oneWrite, onMemory, store8};
+ghost use Rattle.operations.specs.EightBit.{accumulator, withAccumulator, aluOf, unaryOf, onOperand, onAccumulator, tested, oneWrite, onMemory, store8};
 use super::codes::with_codes;
 use machine::Effect;
 use memory::Write;
@@ -100,7 +100,7 @@ fn unary(flags: Flags, op: Unary, cc: CCBits, m: u8) -> Out8
 }
 
 pub fn with_operand(flags: Flags, op: Alu, acc: Acc, regs: Set, m: u8) -> Set
-    ensures { λ r. ⌜ r ≡ withOperand op acc flags regs m ⌝ }
+    ensures { λ r. ⌜ r ≡ onOperand op acc flags regs m ⌝ }
 {
     let cc = regs.cc;
     with_accumulator(regs, acc, alu(flags, op, cc, accumulator(regs, acc), m))

@@ -19,11 +19,11 @@ abbrev pub tableOf : List (List Place)
 tableOf = placesOf Plain ∷ placesOf Ten ∷ placesOf Eleven ∷ []
 
 -- where a page stands in the table
-abbrev pub indexOf : Page → ℕ
-indexOf Plain = 0
-indexOf Ten = 1
-indexOf Eleven = 2
+abbrev pub pageIndex : Page → ℕ
+pageIndex Plain = 0
+pageIndex Ten = 1
+pageIndex Eleven = 2
 
 -- the table, read at a page and a byte, has what `lookup` answers
 abbrev pub InTable : Type 0
-InTable = (page : Page) (code : ℕ) → code < 256 → getD (getD tableOf (indexOf page) []) code None ≡ entryOf page code
+InTable = (page : Page) (code : ℕ) → code < 256 → getD (getD tableOf (pageIndex page) []) code None ≡ entryOf page code

@@ -22,7 +22,7 @@ use Rattle.calls.specs.declared.Report.{Report}
 use Rattle.journal.specs.Recorded.{freshTwin, inHand}
 use Rattle.runfile.specs.Format.{wordIn}
 use Rattle.runfile.specs.declared.Operation.the-variants.{Step, Reset}
-use Rattle.player.specs.Plays.{lineOf, refusalLine, lines, zeros, journalLength}
+use Rattle.player.specs.Plays.{callLine, refusalLine, lines, zeros, journalLength}
 
 -- ---- the head
 
@@ -47,7 +47,7 @@ isWhole input = leb 5 (length input) && leb (length input) (5 + 0x100000)
 
 -- the line of a call that is not recorded
 abbrev pub shown : Report → List ℕ
-shown r = lineOf (r .answer) (r .machine)
+shown r = callLine (r .answer) (r .machine)
 
 -- n steps, a line for each
 unfoldable pub stepLines : Settings → ℕ → List ℕ → Machine → List ℕ

@@ -28,8 +28,8 @@ acted t Reset s = wasReset t s
 acted t Undo s = undone s
 
 -- the line of a call, from its answer and the machine after it
-abbrev pub lineOf : Answer → Machine → List ℕ
-lineOf a m = line (numberOfAnswer a) (m .regs .pc) (m .regs .cc .reg) (m .cycles)
+abbrev pub callLine : Answer → Machine → List ℕ
+callLine a m = line (numberOfAnswer a) (m .regs .pc) (m .regs .cc .reg) (m .cycles)
 
 -- the one line of a refused input
 abbrev pub refusalLine : Refusal → List ℕ
@@ -37,7 +37,7 @@ refusalLine x = alone (numberOf x)
 
 -- the line of a recorded call
 abbrev pub lineFor : Ended → List ℕ
-lineFor e = lineOf (e .answer) (e .state .twin .machine)
+lineFor e = callLine (e .answer) (e .state .twin .machine)
 
 -- a line for each operation, in order
 unfoldable pub lines : Settings → List Operation → State → List ℕ

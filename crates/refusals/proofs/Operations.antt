@@ -36,10 +36,10 @@ use Rattle.operations.proofs.Refusals.{change-refuses-exactly}
 use Rattle.stack.specs.Frames.{stackedBy}
 use Rattle.stack.specs.Laws.{topMet}
 use Rattle.stack.specs.Pulling.{pulled}
-use Rattle.stack.specs.Pushing.{order, chosen, bytesOf}
+use Rattle.stack.specs.Pushing.{order, chosen, bytesPushed}
 use Rattle.stack.proofs.Laws.{stack-refuses-exactly}
 use Rattle.vectors.specs.Service.{wordIn, served}
-use Rattle.vectors.specs.Table.{addressOf, vectorOf}
+use Rattle.vectors.specs.Table.{addressOf, softwareVector}
 use Rattle.vectors.proofs.Laws.{vectors-refuse-exactly}
 use Rattle.evaluate.specs.Evaluate.{effectOf, evaluateOf}
 use Rattle.evaluate.specs.Room.{isSmall}
@@ -169,12 +169,12 @@ module _ (s : Settings) (mem : List ℕ) (r : Set) (ea : ℕ) where
   of-memory Jsr = by-8 _ (ltb (r .s) 2) (stack-refuses-exactly .jsr r ea)
   of-memory Rts = rw (← one-word r) (of-pull S 0x80)
   of-memory Rti = by-6 _ (memoryAtTop Rti mem r ea) (stack-refuses-exactly .rti mem r)
-  of-memory (Swi SWI) = by-9 _ (ltb (r .s) 12) _ (vectors-refuse-exactly .running mem s r (vectorOf SWI))
-  of-memory (Swi SWI2) = by-9 _ (ltb (r .s) 12) _ (vectors-refuse-exactly .running mem s r (vectorOf SWI2))
-  of-memory (Swi SWI3) = by-9 _ (ltb (r .s) 12) _ (vectors-refuse-exactly .running mem s r (vectorOf SWI3))
+  of-memory (Swi SWI) = by-9 _ (ltb (r .s) 12) _ (vectors-refuse-exactly .running mem s r (softwareVector SWI))
+  of-memory (Swi SWI2) = by-9 _ (ltb (r .s) 12) _ (vectors-refuse-exactly .running mem s r (softwareVector SWI2))
+  of-memory (Swi SWI3) = by-9 _ (ltb (r .s) 12) _ (vectors-refuse-exactly .running mem s r (softwareVector SWI3))
   of-memory Cwai = by-8 _ (ltb (r .s) 12) (vectors-refuse-exactly .cwai r (byteAt mem ea))
   of-memory Sync = is-0
-  of-memory (Push own) = by-8 _ (ltb (wordOf r (stackWord own)) (bytesOf (byteAt mem ea))) (stack-refuses-exactly .push r own (byteAt mem ea) false)
+  of-memory (Push own) = by-8 _ (ltb (wordOf r (stackWord own)) (bytesPushed (byteAt mem ea))) (stack-refuses-exactly .push r own (byteAt mem ea) false)
   of-memory (Pull own) = of-pull own (byteAt mem ea)
 
   pub operation-number : (op : Op)

@@ -20,7 +20,7 @@ use Rattle.registers.specs.declared.Stack.the-variants.{S as onS, U as onU}
 use Rattle.memory.specs.Writes.{twelve, writesOf, valueWrites, wordWrites}
 use Rattle.memory.specs.declared.writes.Write.{Write}
 use Rattle.memory.proofs.Folds.{place-more}
-use Rattle.stack.specs.Pushing.{order, chosen, named, bytesOf, pushes}
+use Rattle.stack.specs.Pushing.{order, chosen, registersNamed, bytesPushed, pushes}
 
 -- ---- sizes
 
@@ -98,7 +98,7 @@ module _ (mask : ℕ) where
   none = refl
 
   -- a post-byte names as many bytes as `bytesOf` counts
-  pub named-size : (stack : Stack) → size (named stack mask) ≡ bytesOf mask
+  pub named-size : (stack : Stack) → size (registersNamed stack mask) ≡ bytesPushed mask
   named-size onS =
       let l = order onS in
       rw (bit-size 7 PC (drop 1 l), bit-size 6 U (drop 2 l), bit-size 5 Y (drop 3 l), bit-size 4 X (drop 4 l), bit-size 3 DP (drop 5 l), bit-size 2 B (drop 6 l), bit-size 1 A (drop 7 l), bit-size 0 CC [], none, whole)
@@ -187,7 +187,7 @@ module _ (r : Set) (stack : Stack) (pointer mask : ℕ) (system : Bool) where
       one-more = chosen-one n h ∙ rw b
 
       -- the bytes of the register are among those that are counted
-      room : count + sizeOf (nameAt stack n) ≤ bytesOf mask
+      room : count + sizeOf (nameAt stack n) ≤ bytesPushed mask
       room =
           omega (arith, f .many, size-append (first n) (nameAt stack n ∷ []), ap size one-more, chosen-within mask (suc n) (order stack), named-size mask stack)
 
@@ -248,7 +248,7 @@ module _ (r : Set) (stack : Stack) (pointer mask : ℕ) (system : Bool) where
     pub turn-off : bitAt (k - 1) mask ≡ false → Filled (8 - (k - 1)) list count at
     turn-off b = rw next at (off (8 - k) (omega arith) list count at f (rw place b))
 
-    module _ (b : bitAt (k - 1) mask ≡ true) (fits : bytesOf mask ≤ pointer) where
+    module _ (b : bitAt (k - 1) mask ≡ true) (fits : bytesPushed mask ≤ pointer) where
       in-room : count + sizeOf (nameAt stack (8 - k)) ≤ pointer
       in-room = omega (arith, room (8 - k) (omega arith) list count at f (rw place b))
 
@@ -270,5 +270,5 @@ module _ (r : Set) (stack : Stack) (pointer mask : ℕ) (system : Bool) where
       turn-byte h bounded few v e = rw next at (byte-on (8 - k) list count at f (rw place b) bounded (omega arith) (omega arith) few (byte-room h) v (rw same at e))
 
   -- at the end all are passed
-  pub all-filled : (list : List Write) (count at : ℕ) → Filled 8 list count at → record { count = count; list = list } ≡ writesOf (pushes r system pointer (named stack mask))
-  all-filled list count at f = rw (f .places, f .many) (ap (λ (n : ℕ). record { count = n; list = twelve (pushes r system pointer (named stack mask)) }) (sym (pushes-length r system pointer (named stack mask))))
+  pub all-filled : (list : List Write) (count at : ℕ) → Filled 8 list count at → record { count = count; list = list } ≡ writesOf (pushes r system pointer (registersNamed stack mask))
+  all-filled list count at f = rw (f .places, f .many) (ap (λ (n : ℕ). record { count = n; list = twelve (pushes r system pointer (registersNamed stack mask)) }) (sym (pushes-length r system pointer (registersNamed stack mask))))

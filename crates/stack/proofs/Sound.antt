@@ -42,9 +42,9 @@ use Rattle.operations.specs.Codes.{withCodes}
 use Rattle.operations.specs.Sound.{Sound, Given}
 use Rattle.operations.proofs.Sound.{done-sound, changed-sound, stored-sound, refused-sound, either-sound}
 use Rattle.operations.proofs.Widths.{word-in, word-written, jumped-fits, codes-fits}
-use Rattle.stack.specs.Pushing.{order, chosen, named, bytesOf, pushes, pushed, oncePushed, jumpedToSubroutine}
+use Rattle.stack.specs.Pushing.{order, chosen, registersNamed, bytesPushed, pushes, pushed, oncePushed, jumpedToSubroutine}
 use Rattle.stack.specs.Frames.{stackedBy, framed}
-use Rattle.stack.specs.Pulling.{loaded, pulledInto, pulls, ofPulled, pulled, returned}
+use Rattle.stack.specs.Pulling.{loaded, pulledInto, pulls, ofPulled, pulled, returnedFromInterrupt}
 use Rattle.stack.specs.Laws.{StackSound}
 use Rattle.stack.specs.declared.pulling.Pulled.{Pulled}
 use Rattle.stack.specs.declared.pulling.Pulled.the-variants.{To, Refused}
@@ -144,12 +144,12 @@ module _ (mem : List ℕ) (r : Set) (ea : ℕ) where
   push-sound stack mask system =
       let own = stackWord stack in
       let pointer = wordOf r own in
-      let l = pushes r system pointer (named stack mask) in
+      let l = pushes r system pointer (registersNamed stack mask) in
       let few : length l ≤ 12 = omega (arith, none-dropped .bytes r stack mask pointer system, none-dropped .few mask) in
-      either-sound r (ltb pointer (bytesOf mask)) _ _ (refused-sound r (λ g. g .registers) StackTooSmall)
-      (stored-sound r (withWord r own (pointer - bytesOf mask)) (writesOf l) (twelve-full l few)
-      (λ g. word-written r (g .registers) own (pointer - bytesOf mask) (omega (arith, word-in r (g .registers) own)))
-      (λ g. twelve-fit l (pushes-fit r (g .registers) system pointer (named stack mask) (word-in r (g .registers) own))))
+      either-sound r (ltb pointer (bytesPushed mask)) _ _ (refused-sound r (λ g. g .registers) StackTooSmall)
+      (stored-sound r (withWord r own (pointer - bytesPushed mask)) (writesOf l) (twelve-full l few)
+      (λ g. word-written r (g .registers) own (pointer - bytesPushed mask) (omega (arith, word-in r (g .registers) own)))
+      (λ g. twelve-fit l (pushes-fit r (g .registers) system pointer (registersNamed stack mask) (word-in r (g .registers) own))))
 
   pull-sound : (stack : Stack) (mask : ℕ) → Sound (Given mem r ea) r Running (pulled mem r stack mask)
   unfolding pulled
@@ -171,7 +171,7 @@ module _ (mem : List ℕ) (r : Set) (ea : ℕ) where
       (stored-sound r (jumped (p .regs) ea) (p .writes) (record { places = s .few }) (λ g. jumped-fits (p .regs) (s .registers g) ea (g .address)) (s .widths))
 
 pub stack-sound : (mem : List ℕ) (r : Set) (ea : ℕ) → StackSound mem r ea
-unfolding framed returned
+unfolding framed returnedFromInterrupt
 stack-sound mem r ea = record {
   push = push-sound mem r ea;
   jsr = jsr-sound mem r ea;

@@ -45,5 +45,5 @@ unfoldable pub pulled : List ℕ → Set → Stack → ℕ → Effect
 pulled mem r stack mask = ofPulled r stack (pulls mem (chosen mask (reverse (order stack))) (To r (wordOf r (stackWord stack))))
 
 -- RTI: E of the CC on the stack says whether all registers are pulled, or CC and PC alone
-unfoldable pub returned : List ℕ → Set → Effect
-returned mem r = pulled mem r S (stackedBy (flag E (coded (byteAt mem (r .s)))))
+unfoldable pub returnedFromInterrupt : List ℕ → Set → Effect
+returnedFromInterrupt mem r = pulled mem r S (stackedBy (flag E (coded (byteAt mem (r .s)))))

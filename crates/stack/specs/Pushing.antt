@@ -31,12 +31,12 @@ chosen mask [] = []
 chosen mask (slot ∷ rest) = cond (bitAt (slot .0) mask) (slot .1 ∷ chosen mask rest) (chosen mask rest)
 
 -- the registers that a post-byte names
-abbrev pub named : Stack → ℕ → List Name
-named stack mask = chosen mask (order stack)
+abbrev pub registersNamed : Stack → ℕ → List Name
+registersNamed stack mask = chosen mask (order stack)
 
 -- how many bytes they are: two for each of the four high bits, one for each of the low ones
-abbrev pub bytesOf : ℕ → ℕ
-bytesOf mask =
+abbrev pub bytesPushed : ℕ → ℕ
+bytesPushed mask =
     2 * (mask / 128 % 2 + mask / 64 % 2 + mask / 32 % 2 + mask / 16 % 2) + (mask / 8 % 2 + mask / 4 % 2 + mask / 2 % 2 + mask % 2)
 
 -- what is written: for each register the pointer is lowered by its size, and its byte or word lies there, a word's high byte first
@@ -50,8 +50,8 @@ pushes r system pointer (name ∷ rest) =
 unfoldable pub pushed : Set → Stack → ℕ → Bool → Effect
 pushed r stack mask system =
     let pointer = wordOf r (stackWord stack) in
-    cond (ltb pointer (bytesOf mask)) (refuses r StackTooSmall)
-    (stores (withWord r (stackWord stack) (pointer - bytesOf mask)) (writesOf (pushes r system pointer (named stack mask))))
+    cond (ltb pointer (bytesPushed mask)) (refuses r StackTooSmall)
+    (stores (withWord r (stackWord stack) (pointer - bytesPushed mask)) (writesOf (pushes r system pointer (registersNamed stack mask))))
 
 -- what follows a push; where the push was refused, nothing, and the registers are those that came
 abbrev pub oncePushed : Set → Answer → Effect → Effect
