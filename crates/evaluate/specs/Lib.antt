@@ -3,3 +3,4 @@ pub mod Waits
 pub mod Sound
 pub mod Room
 pub mod Parting
+pub mod HalfCarry

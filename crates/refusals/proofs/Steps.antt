@@ -16,7 +16,6 @@ use Rattle.answers.specs.declared.Refusal.{Refusal}
 use Rattle.answers.specs.declared.Refusal.the-variants.{MemoryLength, Opcode, PastEnd, PostByte, WordAtTop}
 use Rattle.answers.proofs.Numbers.{refused-by-a-number, numbers-apart}
 use Rattle.registers.specs.declared.Set.{Set}
-use Rattle.memory.specs.Fits.{Bytes}
 use Rattle.memory.specs.Map.{byteAt}
 use Rattle.machine.specs.declared.Effect.{Effect}
 use Rattle.machine.specs.declared.Machine.{Machine}
@@ -25,7 +24,7 @@ use Rattle.machine.specs.declared.Wait.{Wait}
 use Rattle.machine.specs.declared.Wait.the-variants.{Running, Cwai, Sync}
 use Rattle.opcodes.specs.declared.Entry.{Entry}
 use Rattle.opcodes.specs.declared.Op.{Op}
-use Rattle.decode.specs.Decode.{located, decodedAt}
+use Rattle.decode.specs.Decode.{decodedAt}
 use Rattle.decode.specs.Laws.{OfDecoding, RefusedSo}
 use Rattle.decode.specs.declared.instruction.Decoded.{Decoded}
 use Rattle.decode.specs.declared.instruction.Decoded.the-variants.{Instruction, Refused as NotDecoded}
@@ -45,7 +44,7 @@ use Rattle.calls.specs.Steps.{addressed, ofDecoded, decodedTo, unlessWaiting, r
 use Rattle.calls.specs.declared.steps.Reached.{Reached}
 use Rattle.calls.specs.declared.steps.Reached.the-variants.{At, Refused as NotReached}
 use Rattle.refusals.specs.Operations.{codeRefused, wordAtTop, leadsToZero}
-use Rattle.refusals.specs.Steps.{Runs, BytePast, NextPast, PointerAtTop, Met, StepRefused, StepsRefused}
+use Rattle.refusals.specs.Steps.{Runs, NextPast, PointerAtTop, Met, StepsRefused}
 use Rattle.refusals.proofs.Operations.{operation-number}
 
 -- ---- the numbers of the parts
