@@ -4,3 +4,4 @@ pub mod Room
 pub mod Parting
 pub mod Unique
 pub mod HalfCarry
+pub mod Writes

@@ -4,3 +4,4 @@ pub mod Sound
 pub mod Room
 pub mod Parting
 pub mod HalfCarry
+pub mod Writes

@@ -1,14 +1,14 @@
--- A pull that does not name CC leaves it.
+-- A pull that does not name CC leaves it, and no pull writes.
 -- Assumes nothing.
 use Prim.Native.Nat.{ℕ}
 use mathlib.Core.Bool.{Bool, true, false, cond, true≢false}
-use mathlib.Core.List.{List, [], _∷_}
+use mathlib.Core.List.{List, [], _∷_, reverse}
 use mathlib.Core.Path.{_≡_, refl, sym, _∙_}
 use lib.Dec.{eqb}
 use Rattle.u8oru16.specs.declared.u8u16.{u8u16}
 use Rattle.registers.specs.ConditionCodes.{bitAt}
-use Rattle.registers.specs.Names.{sizeOf}
-use Rattle.registers.specs.RegisterSet.{written}
+use Rattle.registers.specs.Names.{sizeOf, stackWord}
+use Rattle.registers.specs.RegisterSet.{wordOf, written}
 use Rattle.registers.specs.declared.CCBits.{CCBits}
 use Rattle.registers.specs.declared.Name.{Name}
 use Rattle.registers.specs.declared.Name.the-variants.{A, B, D, X, Y, U as US, S as SP, PC, DP, CC}
@@ -16,11 +16,12 @@ use Rattle.registers.specs.declared.Set.{Set}
 use Rattle.registers.specs.declared.Stack.{Stack}
 use Rattle.registers.specs.declared.Stack.the-variants.{S, U}
 use Rattle.memory.specs.Map.{valueAt}
+use Rattle.memory.specs.Writes.{writesOf}
 use Rattle.memory.specs.declared.ValueRead.{ValueRead}
 use Rattle.memory.specs.declared.ValueRead.the-variants.{Value, Refused as NotRead}
-use Rattle.stack.specs.Pushing.{chosen}
+use Rattle.stack.specs.Pushing.{order, chosen}
 use Rattle.stack.specs.Pulling.{loaded, pulledInto, pulls, ofPulled, pulled}
-use Rattle.stack.specs.Laws.{PullKeepsCodes}
+use Rattle.stack.specs.Laws.{PullKeepsCodes, PullWritesNothing}
 use Rattle.stack.specs.declared.pulling.Pulled.{Pulled}
 use Rattle.stack.specs.declared.pulling.Pulled.the-variants.{To, Refused}
 
@@ -106,3 +107,11 @@ pub pull-keeps-codes : PullKeepsCodes
 unfolding pulled chosen
 pull-keeps-codes mem r S mask e = rw e (ended r S (pulls mem (chosen mask (without US)) (To r (r .s))) (all-hold mem r mask (r .s) US refl))
 pull-keeps-codes mem r U mask e = rw e (ended r U (pulls mem (chosen mask (without SP)) (To r (r .u))) (all-hold mem r mask (r .u) SP refl))
+
+nothing : (r : Set) (stack : Stack) (p : Pulled) → ofPulled r stack p .writes ≡ writesOf []
+nothing r stack (To q pointer) = refl
+nothing r stack (Refused x) = refl
+
+pub pull-writes-nothing : PullWritesNothing
+unfolding pulled
+pull-writes-nothing mem r stack mask = nothing r stack (pulls mem (chosen mask (reverse (order stack))) (To r (wordOf r (stackWord stack))))

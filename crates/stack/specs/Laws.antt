@@ -17,7 +17,7 @@ use Rattle.registers.specs.declared.Set.{Set}
 use Rattle.registers.specs.declared.Stack.{Stack}
 use Rattle.registers.specs.declared.Stack.the-variants.{S}
 use Rattle.memory.specs.Map.{byteAt, wordFits}
-use Rattle.memory.specs.Writes.{listed}
+use Rattle.memory.specs.Writes.{writesOf, listed}
 use Rattle.machine.specs.declared.Wait.the-variants.{Running}
 use Rattle.operations.specs.Sound.{Sound, Given}
 use Rattle.stack.specs.Pushing.{order, chosen, named, bytesOf, pushes, pushed, jumpedToSubroutine}
@@ -54,6 +54,10 @@ pub record StackRefusesExactly : Type 0 where
 -- a pull whose post-byte does not name CC, by bit 0, leaves CC
 abbrev pub PullKeepsCodes : Type 0
 PullKeepsCodes = (mem : List ℕ) (r : Set) (stack : Stack) (mask : ℕ) → bitAt 0 mask ≡ false → pulled mem r stack mask .regs .cc ≡ r .cc
+
+-- no pull writes
+abbrev pub PullWritesNothing : Type 0
+PullWritesNothing = (mem : List ℕ) (r : Set) (stack : Stack) (mask : ℕ) → pulled mem r stack mask .writes ≡ writesOf []
 
 -- each is sound: a refusal leaves the registers that came, and registers and writes fit where those that came do
 pub record StackSound (mem : List ℕ) (r : Set) (ea : ℕ) : Type 0 where
