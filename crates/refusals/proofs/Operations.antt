@@ -49,21 +49,22 @@ pub record Numbered (n : ℕ) (six seven eight nine : Bool) : Type 0 where
   pub is8 : eqb n 8 ≡ eight
   pub is9 : eqb n 9 ≡ nine
   pub other : T (eqb n 0 || leb 6 n)
+  pub most : T (leb n 9)
 
 is-0 : Numbered 0 false false false false
-is-0 = record { is6 = refl; is7 = refl; is8 = refl; is9 = refl; other = tt }
+is-0 = record { is6 = refl; is7 = refl; is8 = refl; is9 = refl; other = tt; most = tt }
 
 is-6 : Numbered 6 true false false false
-is-6 = record { is6 = refl; is7 = refl; is8 = refl; is9 = refl; other = tt }
+is-6 = record { is6 = refl; is7 = refl; is8 = refl; is9 = refl; other = tt; most = tt }
 
 is-7 : Numbered 7 false true false false
-is-7 = record { is6 = refl; is7 = refl; is8 = refl; is9 = refl; other = tt }
+is-7 = record { is6 = refl; is7 = refl; is8 = refl; is9 = refl; other = tt; most = tt }
 
 is-8 : Numbered 8 false false true false
-is-8 = record { is6 = refl; is7 = refl; is8 = refl; is9 = refl; other = tt }
+is-8 = record { is6 = refl; is7 = refl; is8 = refl; is9 = refl; other = tt; most = tt }
 
 is-9 : Numbered 9 false false false true
-is-9 = record { is6 = refl; is7 = refl; is8 = refl; is9 = refl; other = tt }
+is-9 = record { is6 = refl; is7 = refl; is8 = refl; is9 = refl; other = tt; most = tt }
 
 -- ---- from the number of a subject
 

@@ -234,6 +234,10 @@ module _ (mem : List ℕ) (s : Settings) where
   late k l test f (At e r ea) h = exact _ k (test (e .op) r ea) (f (e .op) r ea)
   late k l test f (NotReached x) h = (λ q. absurd (omega arith), λ q. absurd q)
 
+  only-nine : (a : Reached) → before a ≤ 6 → whole mem s a ≤ 9
+  only-nine (At e r ea) h = leb→le (numberOfAnswer (evaluateOf (e .op) s mem r ea .answer)) 9 (operation-number s mem r ea (e .op) .most)
+  only-nine (NotReached x) h = omega arith
+
 -- ---- the laws
 
 -- from the number of what was reached to that of the step
@@ -267,6 +271,7 @@ steps-refused mem m s b l = record {
   seven = through e (late mem s 7 (omega arith) (λ op q ea. codeRefused op mem ea) (λ op q ea. operation-number s mem q ea op .is7) a most);
   eight = through e (late mem s 8 (omega arith) (λ op q ea. isSmall op q (byteAt mem ea)) (λ op q ea. operation-number s mem q ea op .is8) a most);
   nine = through e (late mem s 9 (omega arith) (λ op q ea. leadsToZero op s mem q) (λ op q ea. operation-number s mem q ea op .is9) a most);
+  only = rw e (only-nine mem s a most);
 }
   where
     a : Reached

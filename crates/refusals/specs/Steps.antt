@@ -1,7 +1,7 @@
 -- When a step is refused: for each number that it can return the exact case, in the words and the order of document 01,
 -- "Numbers returned". The numbers 10 and 12 belong to the recorded step (crate journal).
 -- Assumes nothing.
-use Prim.Native.Nat.{ℕ, _<_}
+use Prim.Native.Nat.{ℕ, _≤_, _<_}
 use mathlib.Core.Bool.{Bool, true}
 use mathlib.Core.List.{List}
 use mathlib.Core.Logic.{_↔_, _≢_, _⊎_}
@@ -80,6 +80,8 @@ pub record StepRefused (mem : List ℕ) (m : Machine) (s : Settings) : Type 0 wh
   pub eight : Answers mem m s 8 ↔ Met (reached mem m) (λ op r ea. isSmall op r (byteAt mem ea))
   -- the vector to be taken leads to a zero byte
   pub nine : Answers mem m s 9 ↔ Met (reached mem m) (λ op r ea. leadsToZero op s mem r)
+  -- and no other number
+  pub only : numberOfAnswer (stepOf mem m s .answer) ≤ 9
 
 -- of every memory of bytes and every machine whose PC is a word
 abbrev pub StepsRefused : Type 0
