@@ -1,14 +1,14 @@
 -- 4 is given exactly where a byte of the instruction lies past FFFF.
 -- Assumes nothing.
 use Prim.Native.Nat.{ℕ, zero, suc, _+_, _≤_, _<_}
-use mathlib.Core.Path.{_≡_, refl, sym, _∙_}
+use mathlib.Core.Path.{_≡_, refl}
 use mathlib.Core.Bool.{Bool, true, false, cond}
 use mathlib.Core.List.{List}
 use mathlib.Core.Logic.{_↔_, _⊎_, inl, inr, ⊎-elim}
 use native.Mathlib.Omega.{arith}
 use borrow.Author.Tests.{leb-true, leb-false, ltb-true, ltb-false, eqb-true, eqb-false}
 use lib.Dec.{eqb, leb, ltb}
-use Rattle.answers.specs.declared.Refusal.the-variants.{PastEnd, PostByte as BadPostByte}
+use Rattle.answers.specs.declared.Refusal.the-variants.{PastEnd}
 use Rattle.memory.specs.Map.{byteAt, lowAt}
 use Rattle.opcodes.specs.Manual.{entryOf}
 use Rattle.opcodes.specs.declared.Entry.{Entry}

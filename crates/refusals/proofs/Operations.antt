@@ -1,16 +1,15 @@
 -- By which number an operation is refused, and when: the tables of 6, 7, 8 and 9 are exact, and there is no other number.
 -- Assumes nothing.
-use Prim.Native.Nat.{ℕ, _≤_}
+use Prim.Native.Nat.{ℕ}
 use mathlib.Core.Bool.{Bool, true, false, not, cond, _&&_, _||_}
-use mathlib.Core.List.{List, reverse}
-use mathlib.Core.Path.{_≡_, refl, ap, _∙_}
+use mathlib.Core.List.{List}
+use mathlib.Core.Path.{_≡_, refl, _∙_}
 use lib.Dec.{T, eqb, leb, ltb}
 use Rattle.answers.specs.Numbers.{numberOfAnswer}
 use Rattle.answers.specs.declared.Refusal.the-variants.{WordAtTop}
-use Rattle.registers.specs.ConditionCodes.{bitAt, coded, flag}
+use Rattle.registers.specs.ConditionCodes.{bitAt}
 use Rattle.registers.specs.Names.{stackWord}
 use Rattle.registers.specs.RegisterSet.{wordOf}
-use Rattle.registers.specs.declared.CCBit.the-variants.{E}
 use Rattle.registers.specs.declared.Set.{Set}
 use Rattle.registers.specs.declared.Stack.{Stack}
 use Rattle.registers.specs.declared.Stack.the-variants.{S}
@@ -33,17 +32,15 @@ use Rattle.operations.specs.Words.{store16}
 use Rattle.operations.specs.declared.Changed.{Changed}
 use Rattle.operations.specs.declared.Changed.the-variants.{After, Refused}
 use Rattle.operations.proofs.Refusals.{change-refuses-exactly}
-use Rattle.stack.specs.Frames.{stackedBy}
 use Rattle.stack.specs.Laws.{topMet}
 use Rattle.stack.specs.Pulling.{pulled}
-use Rattle.stack.specs.Pushing.{order, chosen, bytesPushed}
+use Rattle.stack.specs.Pushing.{chosen, bytesPushed}
 use Rattle.stack.proofs.Laws.{stack-refuses-exactly}
-use Rattle.vectors.specs.Service.{wordIn, served}
-use Rattle.vectors.specs.Table.{addressOf, softwareVector}
+use Rattle.vectors.specs.Table.{softwareVector}
 use Rattle.vectors.proofs.Laws.{vectors-refuse-exactly}
 use Rattle.evaluate.specs.Evaluate.{effectOf, evaluateOf}
 use Rattle.evaluate.specs.Room.{isSmall}
-use Rattle.refusals.specs.Operations.{codeRefused, pullsAtTop, memoryAtTop, wordAtTop, afterFrame, memoryToZero, leadsToZero}
+use Rattle.refusals.specs.Operations.{codeRefused, pullsAtTop, memoryAtTop, wordAtTop, leadsToZero}
 
 -- n is 6, 7, 8 or 9 exactly where its table says so, and otherwise 0
 pub record Numbered (n : ℕ) (six seven eight nine : Bool) : Type 0 where
@@ -52,21 +49,22 @@ pub record Numbered (n : ℕ) (six seven eight nine : Bool) : Type 0 where
   pub is8 : eqb n 8 ≡ eight
   pub is9 : eqb n 9 ≡ nine
   pub other : T (eqb n 0 || leb 6 n)
+  pub most : T (leb n 9)
 
 is-0 : Numbered 0 false false false false
-is-0 = record { is6 = refl; is7 = refl; is8 = refl; is9 = refl; other = tt }
+is-0 = record { is6 = refl; is7 = refl; is8 = refl; is9 = refl; other = tt; most = tt }
 
 is-6 : Numbered 6 true false false false
-is-6 = record { is6 = refl; is7 = refl; is8 = refl; is9 = refl; other = tt }
+is-6 = record { is6 = refl; is7 = refl; is8 = refl; is9 = refl; other = tt; most = tt }
 
 is-7 : Numbered 7 false true false false
-is-7 = record { is6 = refl; is7 = refl; is8 = refl; is9 = refl; other = tt }
+is-7 = record { is6 = refl; is7 = refl; is8 = refl; is9 = refl; other = tt; most = tt }
 
 is-8 : Numbered 8 false false true false
-is-8 = record { is6 = refl; is7 = refl; is8 = refl; is9 = refl; other = tt }
+is-8 = record { is6 = refl; is7 = refl; is8 = refl; is9 = refl; other = tt; most = tt }
 
 is-9 : Numbered 9 false false false true
-is-9 = record { is6 = refl; is7 = refl; is8 = refl; is9 = refl; other = tt }
+is-9 = record { is6 = refl; is7 = refl; is8 = refl; is9 = refl; other = tt; most = tt }
 
 -- ---- from the number of a subject
 

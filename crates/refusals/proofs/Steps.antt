@@ -16,7 +16,6 @@ use Rattle.answers.specs.declared.Refusal.{Refusal}
 use Rattle.answers.specs.declared.Refusal.the-variants.{MemoryLength, Opcode, PastEnd, PostByte, WordAtTop}
 use Rattle.answers.proofs.Numbers.{refused-by-a-number, numbers-apart}
 use Rattle.registers.specs.declared.Set.{Set}
-use Rattle.memory.specs.Fits.{Bytes}
 use Rattle.memory.specs.Map.{byteAt}
 use Rattle.machine.specs.declared.Effect.{Effect}
 use Rattle.machine.specs.declared.Machine.{Machine}
@@ -25,7 +24,7 @@ use Rattle.machine.specs.declared.Wait.{Wait}
 use Rattle.machine.specs.declared.Wait.the-variants.{Running, Cwai, Sync}
 use Rattle.opcodes.specs.declared.Entry.{Entry}
 use Rattle.opcodes.specs.declared.Op.{Op}
-use Rattle.decode.specs.Decode.{located, decodedAt}
+use Rattle.decode.specs.Decode.{decodedAt}
 use Rattle.decode.specs.Laws.{OfDecoding, RefusedSo}
 use Rattle.decode.specs.declared.instruction.Decoded.{Decoded}
 use Rattle.decode.specs.declared.instruction.Decoded.the-variants.{Instruction, Refused as NotDecoded}
@@ -45,7 +44,7 @@ use Rattle.calls.specs.Steps.{addressed, ofDecoded, decodedTo, unlessWaiting, r
 use Rattle.calls.specs.declared.steps.Reached.{Reached}
 use Rattle.calls.specs.declared.steps.Reached.the-variants.{At, Refused as NotReached}
 use Rattle.refusals.specs.Operations.{codeRefused, wordAtTop, leadsToZero}
-use Rattle.refusals.specs.Steps.{Runs, BytePast, NextPast, PointerAtTop, Met, StepRefused, StepsRefused}
+use Rattle.refusals.specs.Steps.{Runs, NextPast, PointerAtTop, Met, StepsRefused}
 use Rattle.refusals.proofs.Operations.{operation-number}
 
 -- ---- the numbers of the parts
@@ -235,6 +234,10 @@ module _ (mem : List ℕ) (s : Settings) where
   late k l test f (At e r ea) h = exact _ k (test (e .op) r ea) (f (e .op) r ea)
   late k l test f (NotReached x) h = (λ q. absurd (omega arith), λ q. absurd q)
 
+  only-nine : (a : Reached) → before a ≤ 6 → whole mem s a ≤ 9
+  only-nine (At e r ea) h = leb→le (numberOfAnswer (evaluateOf (e .op) s mem r ea .answer)) 9 (operation-number s mem r ea (e .op) .most)
+  only-nine (NotReached x) h = omega arith
+
 -- ---- the laws
 
 -- from the number of what was reached to that of the step
@@ -268,6 +271,7 @@ steps-refused mem m s b l = record {
   seven = through e (late mem s 7 (omega arith) (λ op q ea. codeRefused op mem ea) (λ op q ea. operation-number s mem q ea op .is7) a most);
   eight = through e (late mem s 8 (omega arith) (λ op q ea. isSmall op q (byteAt mem ea)) (λ op q ea. operation-number s mem q ea op .is8) a most);
   nine = through e (late mem s 9 (omega arith) (λ op q ea. leadsToZero op s mem q) (λ op q ea. operation-number s mem q ea op .is9) a most);
+  only = rw e (only-nine mem s a most);
 }
   where
     a : Reached

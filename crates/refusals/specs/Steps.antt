@@ -1,7 +1,7 @@
 -- When a step is refused: for each number that it can return the exact case, in the words and the order of document 01,
 -- "Numbers returned". The numbers 10 and 12 belong to the recorded step (crate journal).
 -- Assumes nothing.
-use Prim.Native.Nat.{ℕ, _<_}
+use Prim.Native.Nat.{ℕ, _≤_, _<_}
 use mathlib.Core.Bool.{Bool, true}
 use mathlib.Core.List.{List}
 use mathlib.Core.Logic.{_↔_, _≢_, _⊎_}
@@ -46,14 +46,14 @@ abbrev pub NextPast : Decoded → Set → Type 0
 NextPast (Instruction i) r = (PointerPast (i .operand) r (i .next) → ⊥) × (0xFFFF < i .next)
 NextPast (NotDecoded x) r = ⊥
 
--- ---- 6 to 9
+-- ---- 6 to 9: the tables are in Operations.antt
 
 -- the instruction is whole and indirect, and the address of its pointer is FFFF
 abbrev pub PointerAtTop : Decoded → Set → Type 0
 PointerAtTop (Instruction i) r = PointerPast (i .operand) r (i .next)
 PointerAtTop (NotDecoded x) r = ⊥
 
--- the operation is reached, and a table says yes of it, its registers and its effective address
+-- the operation is reached, none of the numbers above being given, and a table says yes of it, its registers and its effective address
 abbrev pub Met : Reached → (Op → Set → ℕ → Bool) → Type 0
 Met (At e r ea) test = test (e .op) r ea ≡ true
 Met (Refused x) test = ⊥
@@ -61,25 +61,27 @@ Met (Refused x) test = ⊥
 -- ---- the laws
 
 pub record StepRefused (mem : List ℕ) (m : Machine) (s : Settings) : Type 0 where
-  -- memory is not 65,536 bytes
+  -- 1: memory is not 65,536 bytes
   pub one : Answers mem m s 1 ↔ (length mem ≢ 65536)
-  -- step while in CWAI or SYNC
+  -- 2: step while in CWAI or SYNC
   pub two : Answers mem m s 2 ↔ ((length mem ≡ 65536) × (m .wait ≢ Running))
-  -- opcode not in the manual
+  -- 3: opcode not in the manual (Unnamed, in decode/specs/Laws.antt)
   pub three : Answers mem m s 3 ↔ (Runs mem m × Unnamed (located mem (m .regs .pc)))
-  -- a byte of the instruction, or the next address, lies past FFFF
+  -- 4: a byte of the instruction, or the next address, lies past FFFF
   pub four : Answers mem m s 4 ↔ (Runs mem m × (BytePast mem (m .regs .pc) ⊎ NextPast (decodedAt mem (m .regs .pc)) (m .regs)))
-  -- post-byte refused
+  -- 5: post-byte refused (Formless, in decode/specs/Laws.antt)
   pub five : Answers mem m s 5 ↔ (Runs mem m × Formless (located mem (m .regs .pc)) mem)
-  -- word access at FFFF, program bytes apart: of the pointer, or of the operand
+  -- 6: word access at FFFF, program bytes apart. First the pointer, then the operand
   pub six : Answers mem m s 6
       ↔ ((Runs mem m × PointerAtTop (decodedAt mem (m .regs .pc)) (m .regs)) ⊎ Met (reached mem m) (λ op r ea. wordAtTop op mem r ea))
-  -- TFR/EXG code refused
+  -- 7: TFR/EXG code refused
   pub seven : Answers mem m s 7 ↔ Met (reached mem m) (λ op r ea. codeRefused op mem ea)
-  -- stack pointer smaller than the bytes to push
+  -- 8: stack pointer smaller than the bytes to push (isSmall, in evaluate/specs/Room.antt)
   pub eight : Answers mem m s 8 ↔ Met (reached mem m) (λ op r ea. isSmall op r (byteAt mem ea))
-  -- the vector to be taken leads to a zero byte
+  -- 9: the vector to be taken leads to a zero byte
   pub nine : Answers mem m s 9 ↔ Met (reached mem m) (λ op r ea. leadsToZero op s mem r)
+  -- and no other number
+  pub only : numberOfAnswer (stepOf mem m s .answer) ≤ 9
 
 -- of every memory of bytes and every machine whose PC is a word
 abbrev pub StepsRefused : Type 0

@@ -1,4 +1,5 @@
--- What is known of every push and pull: what is refused, that no write is lost, and that all fits its width.
+-- What is known of every push and pull: what is refused, that no write is lost, that CC stays where it is not named, and that
+-- all fits its width.
 -- Assumes nothing.
 use Prim.Native.Nat.{ℕ, _+_, _%_, _≤_}
 use mathlib.Core.Bool.{Bool, false, not, cond, _&&_, _||_}
@@ -7,7 +8,7 @@ use mathlib.Core.Path.{_≡_}
 use lib.Dec.{eqb, ltb}
 use lib.ListN.{length}
 use Rattle.answers.specs.Numbers.{numberOfAnswer}
-use Rattle.registers.specs.ConditionCodes.{coded, flag}
+use Rattle.registers.specs.ConditionCodes.{bitAt, coded, flag}
 use Rattle.registers.specs.Names.{sizeOf, stackWord}
 use Rattle.registers.specs.RegisterSet.{wordOf}
 use Rattle.registers.specs.declared.CCBit.the-variants.{E}
@@ -16,7 +17,7 @@ use Rattle.registers.specs.declared.Set.{Set}
 use Rattle.registers.specs.declared.Stack.{Stack}
 use Rattle.registers.specs.declared.Stack.the-variants.{S}
 use Rattle.memory.specs.Map.{byteAt, wordFits}
-use Rattle.memory.specs.Writes.{listed}
+use Rattle.memory.specs.Writes.{writesOf, listed}
 use Rattle.machine.specs.declared.Wait.the-variants.{Running}
 use Rattle.operations.specs.Sound.{Sound, Given}
 use Rattle.stack.specs.Pushing.{order, chosen, registersNamed, bytesPushed, pushes, pushed, jumpedToSubroutine}
@@ -49,6 +50,14 @@ pub record StackRefusesExactly : Type 0 where
   pub pull : (mem : List ℕ) (r : Set) (stack : Stack) (mask : ℕ) → numberOfAnswer (pulled mem r stack mask .answer) ≡ cond (topMetBy r stack mask) 6 0
   pub rti : (mem : List ℕ) (r : Set)
       → numberOfAnswer (returnedFromInterrupt mem r .answer) ≡ cond (topMetBy r S (stackedBy (flag E (coded (byteAt mem (r .s)))))) 6 0
+
+-- a pull whose post-byte does not name CC, by bit 0, leaves CC
+abbrev pub PullKeepsCodes : Type 0
+PullKeepsCodes = (mem : List ℕ) (r : Set) (stack : Stack) (mask : ℕ) → bitAt 0 mask ≡ false → pulled mem r stack mask .regs .cc ≡ r .cc
+
+-- no pull writes
+abbrev pub PullWritesNothing : Type 0
+PullWritesNothing = (mem : List ℕ) (r : Set) (stack : Stack) (mask : ℕ) → pulled mem r stack mask .writes ≡ writesOf []
 
 -- each is sound: a refusal leaves the registers that came, and registers and writes fit where those that came do
 pub record StackSound (mem : List ℕ) (r : Set) (ea : ℕ) : Type 0 where
