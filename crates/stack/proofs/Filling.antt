@@ -97,7 +97,7 @@ module _ (mask : ℕ) where
   unfolding chosen
   none = refl
 
-  -- a post-byte names as many bytes as `bytesOf` counts
+  -- a post-byte names as many bytes as `bytesPushed` counts
   pub named-size : (stack : Stack) → size (registersNamed stack mask) ≡ bytesPushed mask
   named-size onS =
       let l = order onS in
