@@ -168,6 +168,31 @@ fn seeded(n: u16) -> Set {
     }
 }
 
+/// The registers of 43. Factors of the seed, the last two operand bytes and PC, and what is added: their parities are such that any
+/// two of D, X, Y, U, S, PC and DP with CC take every pair of values.
+fn mixed(seed: u16, rest: u16, pc: u16) -> Set {
+    let mix = |of_seed: u16, of_rest: u16, of_pc: u16, more: u16| {
+        [(of_seed, seed), (of_rest, rest), (of_pc, pc)]
+            .iter()
+            .fold(more, |sum, (factor, word)| sum.wrapping_add(word.wrapping_mul(*factor)))
+    };
+    let d = mix(0, 0x2C4B, 0x1A36, 0x9E37);
+    let [a, b] = d.to_be_bytes();
+    let [dp, cc] = mix(0x1E6A, 0x0D73, 0x35BF, 0x6A09).to_be_bytes();
+    Set {
+        a,
+        b,
+        d,
+        x: mix(0x1D2B, 0x0E52, 0x3A8E, 0x51C1),
+        y: mix(0x25A7, 0x1F3A, 0x0B6D, 0xC2B2),
+        u: mix(0x3163, 0x2D59, 0x17C2, 0x27D4),
+        s: mix(0x0F95, 0x3B47, 0x26E1, 0xE913),
+        pc,
+        dp,
+        cc: CCBits { reg: cc },
+    }
+}
+
 fn sized(v: u8u16) -> [u16; 3] { flagged((v, false)) }
 
 /// The enum is taken apart by hand: `size` and `u16` are themselves among the functions compared.
@@ -216,7 +241,7 @@ struct Bench {
     /// The instruction of 43. It stands here so that after a panic it tells how far the Rust had come.
     inst: Instance,
     /// The pattern and its digest, so that a digest has only to look at what changed.
-    unchanged: (Vec<u8>, u16),
+    unchanged: (Vec<u8>, u32),
 }
 
 /// What the memory holds at a place when a case starts.
@@ -228,11 +253,16 @@ fn pattern(place: u16) -> u8 {
 /// Where the map has an address, apart from FF00-FFDF.
 fn place(address: u16) -> u16 { if address >= 0xFFE0 { address - 0x4000 } else { address } }
 
-/// What bytes from a place on add to the memory's digest, in which each byte before counts three times as much as the next.
-fn share(first: usize, bytes: &[u8]) -> u16 {
-    let own = bytes.iter().fold(0u16, |sum, &byte| sum.wrapping_mul(3).wrapping_add(byte as u16));
-    own.wrapping_mul(3u16.wrapping_pow((0x10000 - first - bytes.len()) as u32))
+/// What bytes add to a digest in which `after` bytes follow: each counts FACTOR times as much as the next. FACTOR is odd, and no two
+/// of its powers within a digest are equal: a change of one byte shows, and so does an exchange of two.
+fn share(bytes: &[u8], after: usize) -> u32 {
+    const FACTOR: u32 = 0x0100_0193;
+    let own = bytes.iter().fold(0u32, |sum, &byte| sum.wrapping_mul(FACTOR).wrapping_add(byte as u32));
+    own.wrapping_mul(FACTOR.wrapping_pow(after as u32))
 }
+
+/// A word, and a digest in two more.
+fn digested(word: u16, digest: u32) -> Answer { Ok([word, (digest >> 16) as u16, digest as u16]) }
 
 impl Bench {
     fn new() -> Self {
@@ -242,7 +272,7 @@ impl Bench {
         let pia0 = Arc::new(Mutex::new(pia::Pia0::new(pia1.clone())));
         let (sam, vdg) = (Arc::new(Mutex::new(sam::Sam)), Arc::new(Mutex::new(vdg::Vdg)));
         let core = Core::new(ram, sam, vdg, pia0, pia1, 0xFFFF, None);
-        let digest = share(0, &bytes);
+        let digest = share(&bytes, 0);
         Bench { inst: Instance::new(&core.reg, None), core, unchanged: (bytes, digest) }
     }
     /// The machine of 44 to 47: a seed's registers, and a ram_top that System writes must not look at.
@@ -261,26 +291,43 @@ impl Bench {
     /// What 45 and 46 show of the machine afterwards, three words of it at a time.
     fn view(&self, number: u16) -> Answer {
         let reg = &self.core.reg;
-        let stacked = |k: u16| reg.s.checked_add(k).map_or(0, |address| self.raw(address, place));
+        let stacked = |k: u16| reg.s.checked_add(k).map_or(0, |address| self.raw(address));
         match number {
             0 => Ok([reg.pc, reg.s, reg.cc.reg as u16]),
             1 => Ok([stacked(0), stacked(2), stacked(4)]),
             2 => Ok([stacked(6), stacked(8), stacked(10)]),
-            3 => Ok([others(reg), self.digest(), self.core.in_cwai as u16]),
+            3 => Ok([others(reg), self.short_digest(), self.core.in_cwai as u16]),
             _ => Err("a view above 3".into()),
         }
     }
     /// The whole memory's digest.
-    fn digest(&self) -> u16 {
+    fn digest(&self) -> u32 {
         const PART: usize = 256;
         let (bytes, digest) = &self.unchanged;
         let parts = self.core.raw_ram.chunks(PART).zip(bytes.chunks(PART)).enumerate();
         parts.filter(|(_, (now, before))| now != before).fold(*digest, |sum, (i, (now, before))| {
-            sum.wrapping_add(share(PART * i, now)).wrapping_sub(share(PART * i, before))
+            let after = 0x10000 - PART * (i + 1);
+            sum.wrapping_add(share(now, after)).wrapping_sub(share(before, after))
         })
     }
-    /// Two bytes of the memory itself, at an address or where the map has it.
-    fn raw(&self, address: u16, place: fn(u16) -> u16) -> u16 {
+    /// Both halves of it in one word.
+    fn short_digest(&self) -> u16 {
+        let digest = self.digest();
+        (digest >> 16) as u16 ^ digest as u16
+    }
+    /// An instruction's size, every register, and the memory. D is among them: the Rust stores it beside A and B.
+    fn machine_digest(&self, size: u16, reg: &Set) -> u32 {
+        let words = |words: &[u16]| words.iter().flat_map(|word| word.to_be_bytes()).collect::<Vec<u8>>();
+        let first = [
+            words(&[size]),
+            vec![reg.a, reg.b],
+            words(&[reg.d, reg.x, reg.y, reg.u, reg.s, reg.pc]),
+            vec![reg.dp, reg.cc.reg],
+        ];
+        share(&first.concat(), 0x10000).wrapping_add(self.digest())
+    }
+    /// Two bytes of the memory itself, where the map has an address and the next.
+    fn raw(&self, address: u16) -> u16 {
         let byte = |address| self.core.raw_ram[place(address) as usize];
         u16::from_be_bytes([byte(address), address.checked_add(1).map_or(0, byte)])
     }
@@ -327,7 +374,7 @@ fn call_system(function: u16, w: &mut Words, bench: &mut Bench) -> Answer {
             bench.core.reg.s = s;
             bench.core.system_psh(name)?;
             let s = bench.core.reg.s;
-            Ok([s, bench.raw(s, place), bench.digest()])
+            Ok([s, bench.raw(s), bench.short_digest()])
         }
         0x45 => {
             let (kind, s, seed) = (w.word(), w.word(), w.word());
@@ -359,7 +406,7 @@ fn call_system(function: u16, w: &mut Words, bench: &mut Bench) -> Answer {
             bench.point(InterruptType::Reset.vector(), to);
             bench.core.reset()?;
             let [size, number, _] = sized(bench.core.reg.get_register(read));
-            Ok([size, number, bench.digest()])
+            Ok([size, number, bench.short_digest()])
         }
     }
 }
@@ -468,10 +515,10 @@ fn call(function: u16, w: &mut Words, bench: &mut Bench) -> Answer {
             let data = value(kind % 16, number)?;
             bench.core.ram_top = ram_top;
             bench.core._write_u8u16(access, address, data)?;
-            Ok([bench.raw(address, |address| address), bench.raw(address, place), 0])
+            digested(bench.raw(address), bench.digest())
         }
         0x43 => {
-            let (first, pc, rest, mut ctx) = (w.word(), w.word(), w.word(), w.set());
+            let (first, pc, rest, seed) = (w.word(), w.word(), w.word(), w.word());
             let mode = *MODES.get(first as usize / 4096).ok_or("a mode above 5")?;
             let (wide, long) = (first & 2048 != 0, first & 1024 != 0);
             if wide && !matches!(mode, AddressingMode::Immediate | AddressingMode::Relative) {
@@ -480,7 +527,7 @@ fn call(function: u16, w: &mut Words, bench: &mut Bench) -> Answer {
             let opcode_size = 1 + long as u16;
             let [second, third] = rest.to_be_bytes();
             bench.lay_out(pc, opcode_size, [byte(first % 1024)?, second, third]);
-            ctx.pc = pc;
+            let mut ctx = mixed(seed, rest, pc);
             let Bench { core, inst, .. } = bench;
             core.reg = ctx;
             *inst = Instance::new(&ctx, None);
@@ -489,10 +536,11 @@ fn call(function: u16, w: &mut Words, bench: &mut Bench) -> Answer {
             // The Rust takes the operand's width from here for immediate and relative, and looks at it for no other mode.
             inst.flavor.detail = Detail { sz: opcode_size + 1 + wide as u16, clk: 0 };
             runtime::probe::process_addressing_mode(core, inst, &mut ctx)?;
-            let digest = [(1u16, ctx.x), (3, ctx.y), (5, ctx.u), (7, ctx.s)]
-                .iter()
-                .fold(0u16, |sum, (factor, register)| sum.wrapping_add(register.wrapping_mul(*factor)));
-            Ok([inst.ea, inst.size, digest])
+            // Where it has tested the next address, PC goes there: ours does both in one call, the Rust's caller does it next.
+            if mode == AddressingMode::Relative {
+                ctx.pc += inst.size;
+            }
+            digested(bench.inst.ea, bench.machine_digest(bench.inst.size, &ctx))
         }
         0x44..=0x47 => call_system(function, w, bench),
         _ => Err("a function that the table does not have".into()),

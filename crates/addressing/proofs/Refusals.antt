@@ -5,7 +5,7 @@ use mathlib.Core.Bool.{Bool, true, false, cond, _||_}
 use mathlib.Core.List.{List}
 use mathlib.Core.Path.{_≡_, refl}
 use lib.Dec.{T, eqb, leb}
-use Rattle.registers.specs.RegisterSet.{indexWord}
+use Rattle.registers.specs.Names.{indexWord}
 use Rattle.registers.specs.declared.Set.{Set}
 use Rattle.memory.specs.Map.{wordFits, wordAt}
 use Rattle.memory.specs.declared.WordRead.{WordRead}

@@ -10,7 +10,8 @@ use borrow.Author.Tests.{leb-true}
 use lib.Dec.{leb, lit<}
 use Rattle.u8oru16.specs.declared.u8u16.the-variants.{u16}
 use Rattle.registers.specs.Fits.{Fits}
-use Rattle.registers.specs.RegisterSet.{wordName, indexWord, wordOf, withWord}
+use Rattle.registers.specs.Names.{wordName, indexWord}
+use Rattle.registers.specs.RegisterSet.{wordOf, withWord}
 use Rattle.registers.specs.declared.Name.the-variants.{PC}
 use Rattle.registers.specs.declared.Word.{Word}
 use Rattle.registers.specs.declared.Word.the-variants.{D, X, Y, U, S}

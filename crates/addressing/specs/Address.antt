@@ -4,9 +4,8 @@ use Prim.Native.Nat.{ℕ, _+_, _-_, _*_, _%_}
 use mathlib.Core.Bool.{Bool, cond}
 use mathlib.Core.List.{List}
 use lib.Dec.{leb}
-use Rattle.u8oru16.specs.declared.u8u16.the-variants.{u16}
-use Rattle.registers.specs.RegisterSet.{written, indexWord, wordOf, withWord}
-use Rattle.registers.specs.declared.Name.the-variants.{PC}
+use Rattle.registers.specs.Names.{indexWord}
+use Rattle.registers.specs.RegisterSet.{wordOf, withWord, withPc}
 use Rattle.registers.specs.declared.Word.{Word}
 use Rattle.registers.specs.declared.Word.the-variants.{D}
 use Rattle.registers.specs.declared.Set.{Set}
@@ -96,7 +95,7 @@ effectiveOf (Branch offset) mem r next = At (programRelative r next offset)
 
 -- PC becomes the next address, which is judged after the pointer: 4 past FFFF
 abbrev atNext : Addressed → ℕ → Addressed
-atNext a next = record { regs = written (a .regs) PC (u16 next); ea = a .ea }
+atNext a next = record { regs = withPc (a .regs) next; ea = a .ea }
 
 abbrev pub advanced : Addressed → ℕ → Resolved
 advanced a next = cond (leb next 0xFFFF) (At (atNext a next)) (Refused PastEnd)

@@ -134,20 +134,7 @@ fn advance(found: Addressed, next: u32) -> Resolved
     ensures { λ r. ⌜ r ≡ advanced found next ⌝ }
 {
     if next <= 0xFFFF {
-        // The whole set, not PC alone: then the compiler keeps each register by itself (docs/PERFORMANCE.md).
-        let before = found.regs;
-        let cc = before.cc;
-        let regs = Set {
-            x: before.x,
-            y: before.y,
-            u: before.u,
-            s: before.s,
-            pc: next as u16,
-            a: before.a,
-            b: before.b,
-            dp: before.dp,
-            cc,
-        };
+        let regs = found.regs.with_pc(next as u16);
         Resolved::At(Addressed { regs, ea: found.ea })
     } else {
         Resolved::Refused(Refusal::PastEnd)

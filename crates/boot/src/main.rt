@@ -12,7 +12,7 @@ const INPUT: usize = 0x10_0006;
 // 33 bytes for each of at most 65,536 lines: no text is longer (`boot-fits`).
 const OUT: usize = 33 * 65536;
 
-// Of both, the length is all that lending asks for.
+// Functions of their own, so that the proof of `main` knows their lengths and nothing of their bytes.
 fn in_buffer() -> [u8; INPUT]
     ensures { λ r. ⌜ 0x100006 ≡ length r ⌝ }
 {
@@ -25,7 +25,7 @@ fn out_buffer() -> [u8; OUT]
     [0; OUT]
 }
 
-// The text, which fits: of bytes, as these are, `boot-fits` says so.
+// Writes the text, and returns its length, which is at most that of the buffer (`boot-fits`).
 fn boot_into(input: &[u8], out: &mut [u8]) -> usize
     ensures { λ r. ⌜ r ≤ 33 * 65536 ⌝ }
 {

@@ -1,21 +1,27 @@
 -- A step while waiting, a masked interrupt and a reset, whole.
 -- Assumes nothing.
 use Prim.Native.Nat.{ℕ}
+use mathlib.Core.Bool.{cond}
 use mathlib.Core.List.{List}
 use mathlib.Core.Logic.{_≢_}
 use mathlib.Core.Path.{_≡_, refl}
+use lib.Dec.{eqb}
 use lib.ListN.{length}
 use borrow.Author.Tests.{eq-eqb}
-use Rattle.answers.specs.declared.Refusal.the-variants.{Waiting}
+use Rattle.answers.specs.declared.Refusal.the-variants.{MemoryLength, Waiting}
+use Rattle.registers.specs.declared.Flags.{Flags}
 use Rattle.memory.specs.Map.{wordAt}
+use Rattle.machine.specs.Machine.{settingsOf}
 use Rattle.machine.specs.declared.Machine.{Machine}
 use Rattle.machine.specs.declared.Settings.{Settings}
 use Rattle.machine.specs.declared.Wait.{Wait}
 use Rattle.machine.specs.declared.Wait.the-variants.{Running, Cwai, Sync}
-use Rattle.calls.specs.Accepted.{WaitsRefused, MaskedStays, ResetAccepted}
-use Rattle.calls.specs.Plans.{refusedWith}
+use Rattle.vectors.specs.Service.{vectored}
+use Rattle.calls.specs.Accepted.{WaitsRefused, MaskedStays, ResetAccepted, AnyFlags}
+use Rattle.calls.specs.Plans.{refusedWith, accepted, withRegisters}
 use Rattle.calls.specs.Steps.{unlessWaiting, reached, planned, stepPlan}
-use Rattle.calls.specs.Interrupts.{interruptPlan}
+use Rattle.calls.specs.Interrupts.{vectorOf, isMasked, taken, afterMasked, takenBy, interruptPlan}
+use Rattle.calls.specs.declared.InterruptType.{InterruptType}
 use Rattle.calls.specs.Resets.{resetPlan}
 
 pub waits-refused : WaitsRefused
@@ -34,3 +40,17 @@ masked-stays mem m s i size k = rw (eq-eqb (length mem) 65536 size, k)
 pub reset-accepted : ResetAccepted
 unfolding resetPlan wordAt
 reset-accepted mem m size = rw (eq-eqb (length mem) 65536 size)
+
+pub any-flags : AnyFlags
+unfolding interruptPlan vectored
+any-flags = record {
+  interrupt = λ mem m top f g i. go mem m top f g i (m .wait);
+  reset = λ mem m top f g. refl;
+}
+  where
+    go : (mem : List ℕ) (m : Machine) (top : ℕ) (f g : Flags) (i : InterruptType) (w : Wait)
+        → cond (eqb (length mem) 65536) (cond (isMasked i (m .regs .cc)) (accepted (withRegisters m (m .regs) (afterMasked (m .wait)))) (takenBy m (taken w mem (settingsOf top f) (m .regs) (vectorOf i)))) (refusedWith m MemoryLength)
+        ≡ cond (eqb (length mem) 65536) (cond (isMasked i (m .regs .cc)) (accepted (withRegisters m (m .regs) (afterMasked (m .wait)))) (takenBy m (taken w mem (settingsOf top g) (m .regs) (vectorOf i)))) (refusedWith m MemoryLength)
+    go mem m top f g i Running = refl
+    go mem m top f g i Cwai = refl
+    go mem m top f g i Sync = refl

@@ -16,7 +16,7 @@ use Rattle.machine.specs.Machine.{settingsOf}
 use Rattle.machine.specs.declared.Effect.{Effect}
 use Rattle.opcodes.specs.declared.Op.{Op}
 use Rattle.machine.specs.declared.Machine.{Machine}
-use Rattle.operations.specs.Bytes.{onMemory}
+use Rattle.operations.specs.EightBit.{onMemory}
 use Rattle.operations.specs.Parting.{EffectsPart, with-operand, on-accumulator}
 use Rattle.operations.proofs.Parting.{same-registers}
 use Rattle.evaluate.specs.Evaluate.{evaluateOf}

@@ -35,7 +35,7 @@ use Rattle.addressing.proofs.Refusals.{resolve-refuses}
 use Rattle.evaluate.specs.Evaluate.{evaluateOf}
 use Rattle.evaluate.proofs.Room.{small-exactly}
 use Rattle.stack.specs.Frames.{stackedBy, framed as stacked}
-use Rattle.stack.specs.Pushing.{bytesOf}
+use Rattle.stack.specs.Pushing.{bytesPushed}
 use Rattle.vectors.specs.Service.{wordIn, served}
 use Rattle.vectors.specs.Table.{addressOf, isEntire}
 use Rattle.vectors.specs.declared.table.Vector.{Vector}
@@ -128,7 +128,7 @@ no-eight : (zero : Bool) → eqb (cond zero 9 0) 8 ≡ false
 no-eight true = refl
 no-eight false = refl
 
-frame-eight : (entire zero : Bool) (s : ℕ) → eqb (cond (ltb s (cond entire 12 3)) 8 (cond zero 9 0)) 8 ≡ ltb s (bytesOf (stackedBy entire))
+frame-eight : (entire zero : Bool) (s : ℕ) → eqb (cond (ltb s (cond entire 12 3)) 8 (cond zero 9 0)) 8 ≡ ltb s (bytesPushed (stackedBy entire))
 frame-eight true zero s = go (ltb s 12)
   where
     go : (b : Bool) → eqb (cond b 8 (cond zero 9 0)) 8 ≡ b
@@ -145,7 +145,7 @@ module _ (mem : List ℕ) (m : Machine) (s : Settings) (v : Vector) where
   leads : List ℕ → Bool
   leads at = eqb (byteAt at (wordIn at (addressOf v))) 0
 
-  running : isEight (served mem s (m .regs) v .answer) ≡ ltb (m .regs .s) (bytesOf (stackedBy (isEntire v)))
+  running : isEight (served mem s (m .regs) v .answer) ≡ ltb (m .regs .s) (bytesPushed (stackedBy (isEntire v)))
   unfolding leads
   running =
       ap (λ (n : ℕ). eqb n 8) (vectors-refuse-exactly .running mem s (m .regs) v)
@@ -173,11 +173,11 @@ interrupt-small-exactly mem m s i = go (eqb (length mem) 65536) (isMasked i (m .
 
 -- the number, where the frame does not fit
 pub small-interrupt : (mem : List ℕ) (m : Machine) (s : Settings) (i : InterruptType) → length mem ≡ 65536 → isMasked i (m .regs .cc) ≡ false → m .wait ≢ Cwai
-    → m .regs .s < bytesOf (stackedBy (isEntire (vectorOf i))) → numberOfAnswer (interruptPlan mem m s i .answer) ≡ 8
+    → m .regs .s < bytesPushed (stackedBy (isEntire (vectorOf i))) → numberOfAnswer (interruptPlan mem m s i .answer) ≡ 8
 small-interrupt mem m s i size k n l =
     eqb-true (numberOfAnswer (interruptPlan mem m s i .answer)) 8 (interrupt-small-exactly mem m s i ∙ rw (eq-eqb (length mem) 65536 size, k) (go (m .wait) refl))
   where
     go : (w : Wait) → m .wait ≡ w → smallFrame w (m .regs .s) (vectorOf i) ≡ true
-    go Running e = lt-ltb (m .regs .s) (bytesOf (stackedBy (isEntire (vectorOf i)))) l
-    go Sync e = lt-ltb (m .regs .s) (bytesOf (stackedBy (isEntire (vectorOf i)))) l
+    go Running e = lt-ltb (m .regs .s) (bytesPushed (stackedBy (isEntire (vectorOf i)))) l
+    go Sync e = lt-ltb (m .regs .s) (bytesPushed (stackedBy (isEntire (vectorOf i)))) l
     go Cwai e = absurd (n e)

@@ -1,4 +1,4 @@
--- Calls whose plan is known whole: a step while waiting, a masked interrupt, a reset.
+-- Calls whose whole plan is one equation: a step while waiting, a masked interrupt, a reset. What an interrupt and a reset do not depend on.
 -- Assumes nothing.
 use Prim.Native.Nat.{ℕ, _+_, _*_}
 use mathlib.Core.Bool.{true}
@@ -9,6 +9,8 @@ use lib.ListN.{length}
 use Rattle.answers.specs.declared.Refusal.the-variants.{Waiting}
 use Rattle.registers.specs.RegisterSet.{afterReset}
 use Rattle.memory.specs.Map.{byteAt}
+use Rattle.registers.specs.declared.Flags.{Flags}
+use Rattle.machine.specs.Machine.{settingsOf}
 use Rattle.machine.specs.declared.Machine.{Machine}
 use Rattle.machine.specs.declared.Settings.{Settings}
 use Rattle.machine.specs.declared.Wait.the-variants.{Running}
@@ -16,7 +18,7 @@ use Rattle.operations.specs.Branches.{jumped}
 use Rattle.calls.specs.Plans.{refusedWith, accepted, withRegisters}
 use Rattle.calls.specs.Steps.{stepPlan}
 use Rattle.calls.specs.Interrupts.{isMasked, afterMasked, interruptPlan}
-use Rattle.calls.specs.Resets.{resetPlan}
+use Rattle.calls.specs.Resets.{resetPlan, resetOf}
 use Rattle.calls.specs.declared.InterruptType.{InterruptType}
 
 -- a step while waiting is refused by 2
@@ -34,3 +36,8 @@ abbrev pub ResetAccepted : Type 0
 ResetAccepted =
     (mem : List ℕ) (m : Machine) → length mem ≡ 65536
     → resetPlan mem m ≡ accepted (withRegisters m (jumped afterReset (256 * byteAt mem 0xFFFE + byteAt mem 0xFFFF)) Running)
+
+-- the flag setting plays no part in an interrupt or a reset: with the same ram_top, what is returned and memory afterwards are the same
+pub record AnyFlags : Type 0 where
+  pub interrupt : (mem : List ℕ) (m : Machine) (top : ℕ) (f g : Flags) (i : InterruptType) → interruptPlan mem m (settingsOf top f) i ≡ interruptPlan mem m (settingsOf top g) i
+  pub reset : (mem : List ℕ) (m : Machine) (top : ℕ) (f g : Flags) → resetOf mem m (settingsOf top f) ≡ resetOf mem m (settingsOf top g)

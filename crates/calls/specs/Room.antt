@@ -14,7 +14,7 @@ use Rattle.machine.specs.declared.Wait.{Wait}
 use Rattle.machine.specs.declared.Wait.the-variants.{Running, Cwai, Sync}
 use Rattle.evaluate.specs.Room.{isSmall}
 use Rattle.stack.specs.Frames.{stackedBy}
-use Rattle.stack.specs.Pushing.{bytesOf}
+use Rattle.stack.specs.Pushing.{bytesPushed}
 use Rattle.vectors.specs.Table.{isEntire}
 use Rattle.vectors.specs.declared.table.Vector.{Vector}
 use Rattle.calls.specs.Steps.{reached, stepPlan}
@@ -33,8 +33,8 @@ StepSmallExactly = (mem : List ℕ) (m : Machine) (s : Settings) → eqb (number
 
 -- an interrupt: where it is served and its frame is not stacked already
 abbrev pub smallFrame : Wait → ℕ → Vector → Bool
-smallFrame Running s v = ltb s (bytesOf (stackedBy (isEntire v)))
-smallFrame Sync s v = ltb s (bytesOf (stackedBy (isEntire v)))
+smallFrame Running s v = ltb s (bytesPushed (stackedBy (isEntire v)))
+smallFrame Sync s v = ltb s (bytesPushed (stackedBy (isEntire v)))
 smallFrame Cwai s v = false
 
 abbrev pub smallInterrupt : List ℕ → Machine → InterruptType → Bool

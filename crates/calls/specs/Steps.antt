@@ -54,12 +54,12 @@ reached mem m = cond (eqb (length mem) 65536) (unlessWaiting (m .wait) mem (m .r
 -- ---- the operation
 
 -- an instruction that is carried out: instructions and 1, cycles and the table's figure, both wrapping
-abbrev pub after : Machine → ℕ → Set → Wait → Machine
-after m cycles r w =
+abbrev pub afterInstruction : Machine → ℕ → Set → Wait → Machine
+afterInstruction m cycles r w =
     record { cycles = (m .cycles + cycles) % 2 ^ 64; instructions = (m .instructions + 1) % 2 ^ 64; regs = r; wait = w }
 
 abbrev pub finishedAs : Answer → Machine → ℕ → Effect → Plan
-finishedAs Done m cycles e = record { writes = e .writes; machine = after m cycles (e .regs) (e .wait); answer = Done }
+finishedAs Done m cycles e = record { writes = e .writes; machine = afterInstruction m cycles (e .regs) (e .wait); answer = Done }
 finishedAs (Refused x) m cycles e = refusedWith m x
 
 unfoldable pub finished : Machine → ℕ → Effect → Plan

@@ -1,7 +1,7 @@
 // One step: decode the instruction, find its address, evaluate it, store its writes.
 ghost use mathlib.Core.Path.{_≡_};
 ghost use Rattle.machine.specs.Effect.{changes};
-ghost use Rattle.calls.specs.Steps.{after, finished, decodedTo, operated, planned, stepPlan, stepOf, memoryAfterStep};
+ghost use Rattle.calls.specs.Steps.{afterInstruction, finished, decodedTo, operated, planned, stepPlan, stepOf, memoryAfterStep};
 use super::Plan;
 use super::Report;
 use super::plans::carry_out;
@@ -28,7 +28,7 @@ pub enum Reached {
 
 // An instruction that is carried out counts once, and its base cycles are added.
 fn advance(machine: Machine, cycles: u8, regs: Set, wait: Wait) -> Machine
-    ensures { λ r. ⌜ r ≡ after machine cycles regs wait ⌝ }
+    ensures { λ r. ⌜ r ≡ afterInstruction machine cycles regs wait ⌝ }
 {
     Machine {
         cycles: std::num::wrapping_add_u64(machine.cycles, cycles as u64),

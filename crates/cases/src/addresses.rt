@@ -2,16 +2,16 @@
 ghost use Prim.Native.Nat.{_≤_};
 use super::case::Case;
 use super::case::Reply;
-use super::case::done;
+use super::case::digested;
 use super::case::refused;
+use super::digest::machine_digest;
 use super::machine_memory::Memory;
 use super::machine_memory::put;
 use super::machine_memory::put_back;
 use super::operands::byte;
 use super::operands::is_long;
+use super::operands::mixed;
 use super::operands::mode;
-use super::operands::seeded;
-use addressing::Addressed;
 use addressing::Resolved;
 use decode::Operand;
 use decode::OperandRead;
@@ -43,7 +43,8 @@ fn located(case: Case, mem: &Memory, at: u32) -> Reply {
     let first = case.w1;
     match decode::operand_at(mem, mode(first), at) {
         OperandRead::Operand(operand, next) => outcome(
-            resolved(mem, seeded(case.w4), operand, next),
+            mem,
+            resolved(mem, mixed(case.w4, case.w3, case.w2), operand, next),
             size(case.w2, next),
         ),
         OperandRead::Refused(refusal) => refused(refusal.number()),
@@ -63,16 +64,9 @@ fn resolved(mem: &Memory, regs: Set, operand: Operand, next: u32) -> Resolved {
     }
 }
 
-fn outcome(resolved: Resolved, size: u16) -> Reply {
+fn outcome(mem: &Memory, resolved: Resolved, size: u16) -> Reply {
     match resolved {
-        Resolved::At(found) => done(found.ea, size, digest(found)),
+        Resolved::At(found) => digested(found.ea, machine_digest(size, found.regs, mem)),
         Resolved::Refused(refusal) => refused(refusal.number()),
     }
-}
-
-// The index registers, each with a factor of its own, so that a change of the wrong one shows.
-fn digest(found: Addressed) -> u16 {
-    let regs = found.regs;
-    let sum = regs.x as u32 + 3 * regs.y as u32 + 5 * regs.u as u32 + 7 * regs.s as u32;
-    (sum % 0x10000) as u16
 }

@@ -32,6 +32,11 @@ pub fn done(r1: u16, r2: u16, r3: u16) -> Reply {
     })
 }
 
+// What one word shows, and a digest in the two others.
+pub fn digested(r1: u16, digest: u32) -> Reply {
+    done(r1, (digest / 0x10000) as u16, (digest % 0x10000) as u16)
+}
+
 pub fn single(r1: u16) -> Reply {
     done(r1, 0, 0)
 }

@@ -4,8 +4,8 @@ use super::case::Reply;
 use super::case::done;
 use super::case::pair;
 use super::case::refused;
+use super::digest::short_digest;
 use super::machine_memory::Memory;
-use super::machine_memory::digest;
 use super::machine_memory::put_back;
 use super::machine_memory::raw_at_place;
 use super::operands::register;
@@ -65,7 +65,7 @@ pub fn push(case: Case, mem: &mut Memory) -> Reply {
 
 fn pushed(mem: &Memory, at: u16, answer: Answer) -> Reply {
     match answer {
-        Answer::Done => done(at, stacked(mem, at, 0), digest(mem)),
+        Answer::Done => done(at, stacked(mem, at, 0), short_digest(mem)),
         Answer::Refused(refusal) => refused(refusal.number()),
     }
 }
@@ -102,7 +102,7 @@ fn seen(mem: &Memory, view: u16, regs: Set, wait: Wait) -> Reply {
         0 => done(regs.pc, s, regs.cc.reg as u16),
         1 => done(stacked(mem, s, 0), stacked(mem, s, 2), stacked(mem, s, 4)),
         2 => done(stacked(mem, s, 6), stacked(mem, s, 8), stacked(mem, s, 10)),
-        _ => done(others(regs), digest(mem), wait_number(wait)),
+        _ => done(others(regs), short_digest(mem), wait_number(wait)),
     }
 }
 

@@ -2,10 +2,11 @@
 ghost use Prim.Native.Nat.{_≤_};
 use super::case::Case;
 use super::case::Reply;
-use super::case::done;
+use super::case::digested;
 use super::case::pair;
 use super::case::refused;
 use super::case::single;
+use super::digest::memory_digest;
 use super::operands::access;
 use super::operands::value;
 use answers::Answer;
@@ -45,33 +46,13 @@ pub fn put_back(mem: &mut Memory, at: u32) {
     }
 }
 
-// The memory itself, and not by the reads that are compared: at an address, and at the address's place.
-fn raw(mem: &Memory, at: u32) -> u8 {
-    if at <= 0xFFFF { mem[at as usize] } else { 0 }
-}
-
+// The memory itself at an address's place, and not by the reads that are compared.
 pub fn raw_at_place(mem: &Memory, at: u32) -> u8 {
     if at <= 0xFFFF {
         mem[memory::place(at as u16) as usize]
     } else {
         0
     }
-}
-
-// All of the memory in one word. Three is odd, so that a change of any one byte shows.
-pub fn digest(mem: &Memory) -> u16 {
-    let mut sum = 0u16;
-    let mut place = 0;
-    while place < BYTES {
-        sum = tripled_plus(sum, mem[place]);
-        place += 1;
-    }
-    sum
-}
-
-fn tripled_plus(sum: u16, b: u8) -> u16 {
-    let doubled = std::num::wrapping_add_u16(sum, sum);
-    std::num::wrapping_add_u16(std::num::wrapping_add_u16(sum, doubled), b as u16)
 }
 
 pub fn answer(case: Case, mem: &mut Memory) -> Reply {
@@ -108,10 +89,9 @@ fn written(mem: &Memory, at: u32, answer: Answer) -> Reply
     requires { ⌜ at ≤ 0xFFFF ⌝ }
 {
     match answer {
-        Answer::Done => done(
-            pair(raw(mem, at), raw(mem, at + 1)),
+        Answer::Done => digested(
             pair(raw_at_place(mem, at), raw_at_place(mem, at + 1)),
-            0,
+            memory_digest(mem),
         ),
         Answer::Refused(refusal) => refused(refusal.number()),
     }

@@ -3,6 +3,7 @@ mod addresses;
 mod arithmetic;
 mod case;
 mod codes;
+mod digest;
 mod frames;
 mod lines;
 mod machine_memory;

@@ -101,6 +101,31 @@ pub fn seeded(n: u16) -> Set {
     }
 }
 
+// The registers of 43, from its seed, the last two operand bytes and PC. The factors' parities are such that any two of D, X, Y,
+// U, S, PC and DP with CC take every pair of values.
+pub fn mixed(seed: u16, rest: u16, pc: u16) -> Set {
+    let n = seed as u32;
+    let r = rest as u32;
+    let p = pc as u32;
+    let d = low16(0x2C4B * r + 0x1A36 * p + 0x9E37);
+    let dp_cc = low16(0x1E6A * n + 0x0D73 * r + 0x35BF * p + 0x6A09);
+    Set {
+        x: low16(0x1D2B * n + 0x0E52 * r + 0x3A8E * p + 0x51C1),
+        y: low16(0x25A7 * n + 0x1F3A * r + 0x0B6D * p + 0xC2B2),
+        u: low16(0x3163 * n + 0x2D59 * r + 0x17C2 * p + 0x27D4),
+        s: low16(0x0F95 * n + 0x3B47 * r + 0x26E1 * p + 0xE913),
+        pc,
+        a: (d / 0x100) as u8,
+        b: byte(d),
+        dp: (dp_cc / 0x100) as u8,
+        cc: codes(dp_cc),
+    }
+}
+
+fn low16(sum: u32) -> u16 {
+    (sum % 0x10000) as u16
+}
+
 pub fn is_access(w: u16) -> bool {
     w < 5
 }

@@ -3,12 +3,12 @@ use super::case::Case;
 use super::case::Reply;
 use super::case::done;
 use super::case::refused;
+use super::digest::short_digest;
 use super::frames::carried_out;
 use super::frames::shown;
 use super::frames::stacking;
 use super::frames::unstack;
 use super::machine_memory::Memory;
-use super::machine_memory::digest;
 use super::machine_memory::put;
 use super::machine_memory::put_back;
 use super::operands::byte;
@@ -157,7 +157,7 @@ pub fn reset(case: Case, mem: &mut Memory) -> Reply {
 
 fn read_back(mem: &Memory, regs: Set, name: Name, answer: Answer) -> Reply {
     match answer {
-        Answer::Done => sized(regs.get_register(name), digest(mem)),
+        Answer::Done => sized(regs.get_register(name), short_digest(mem)),
         Answer::Refused(refusal) => refused(refusal.number()),
     }
 }

@@ -9,7 +9,7 @@ use borrow.Author.Tests.{eqb-true, eqb-false, ltb-true}
 use lib.Dec.{T, eqb, eqb→eq, leb, leb→le, ltb, ltb→lt}
 use Rattle.u8oru16.specs.Signed.{signed, outside, sumOut, diffOut}
 use Rattle.registers.specs.ConditionCodes.{place, bitAt, coded, flag}
-use Rattle.registers.specs.Page.{Operation, Line, _:=_, Page, codes}
+use Rattle.registers.specs.Arithmetic.{Operation, Line, _:=_, Page, codes}
 use Rattle.registers.specs.Settings.{by}
 use Rattle.registers.specs.declared.CCBit.{CCBit}
 use Rattle.registers.specs.declared.CCBit.the-variants.{C}
@@ -22,7 +22,7 @@ use Rattle.memory.specs.Map.{placeOf}
 use Rattle.decode.specs.PostByte.{isIndirect, formOf, isRefused, fiveBits}
 use Rattle.answers.specs.Numbers.{numberOfAnswer}
 use Rattle.stack.specs.Frames.{stackedBy}
-use Rattle.stack.specs.Pushing.{bytesOf}
+use Rattle.stack.specs.Pushing.{bytesPushed}
 use Rattle.vectors.specs.Table.{isEntire}
 use Rattle.calls.specs.Interrupts.{vectorOf}
 use Rattle.calls.proofs.Room.{small-interrupt}
@@ -121,7 +121,7 @@ right (postByte p x a) = both (ltb p 0x80) (both (eqb (p / 32 % 4) 0) (eqb ((x +
 right (badPostByte p n) = both (isRefused (formOf p)) (eqb (numberOfForm (formOf p)) n)
 right (systemWrite at p) = both (ltb at 0xFF00 || leb 0xFFE0 at) (eqb (placeOf at) p)
 right (ignoredWrite at top) = both (ltb at 0xFF00) (ltb top at)
-right (refusedInterrupt i sp n) = both (ltb sp (bytesOf (stackedBy (isEntire (vectorOf i))))) (eqb 8 n)
+right (refusedInterrupt i sp n) = both (ltb sp (bytesPushed (stackedBy (isEntire (vectorOf i))))) (eqb 8 n)
 
 holds : (x : Row) → T (right x) → Holds x
 unfolding right
@@ -146,8 +146,8 @@ holds (systemWrite at p) t =
     system-row at p (either at (ltb at 0xFF00) refl w) (eqb→eq _ p e)
 holds (ignoredWrite at top) t = let (l, h) = both-T (ltb at 0xFF00) _ t in ignored-row at top (ltb→lt at 0xFF00 l) (ltb→lt top at h)
 holds (refusedInterrupt i sp n) t =
-    let (l, e) = both-T (ltb sp (bytesOf (stackedBy (isEntire (vectorOf i))))) _ t in
-    λ mem m s size k w q. small-interrupt mem m s i size k w (rw q (ltb→lt sp (bytesOf (stackedBy (isEntire (vectorOf i)))) l)) ∙ eqb→eq 8 n e
+    let (l, e) = both-T (ltb sp (bytesPushed (stackedBy (isEntire (vectorOf i))))) _ t in
+    λ mem m s size k w q. small-interrupt mem m s i size k w (rw q (ltb→lt sp (bytesPushed (stackedBy (isEntire (vectorOf i)))) l)) ∙ eqb→eq 8 n e
 
 all-right : List Row → Bool
 unfolding right

@@ -7,7 +7,7 @@ use mathlib.Core.Bool.{true, false}
 use mathlib.Core.Logic.{_≢_}
 use lib.ListN.{length}
 use Rattle.registers.specs.ConditionCodes.{flag}
-use Rattle.registers.specs.Page.{Operation, ADC, SBC, DEC, INC, MUL, Line, _:=_, Page, codes}
+use Rattle.registers.specs.Arithmetic.{Operation, ADC, SBC, DEC, INC, MUL, Line, _:=_, codes}
 use Rattle.registers.specs.Settings.{by}
 use Rattle.registers.specs.declared.CCBit.the-variants.{C, «V»}
 use Rattle.registers.specs.declared.CCBits.{CCBits}

@@ -17,7 +17,7 @@ use Rattle.opcodes.specs.declared.Mode.the-variants.{Inherent, Immediate8, Imme
 use Rattle.opcodes.specs.declared.Place.{Place}
 use Rattle.opcodes.specs.declared.Place.the-variants.{Instruction as InManual, None}
 use Rattle.decode.specs.PostByte.{formOf, offsetBytes, isRefused}
-use Rattle.decode.specs.Operand.{signedByte, numberAt, reading, offsetOf, indexedBy, withForm, afterPostByte, operandAt}
+use Rattle.decode.specs.Operand.{signedByte, operandNumber, reading, offsetOf, indexedBy, withForm, afterPostByte, operandAt}
 use Rattle.decode.specs.Decode.{located, withOperand, decodedAs, fromLocated, decodedAt}
 use Rattle.decode.specs.Laws.{NoFormAt, Formless, PostByteRefused}
 use Rattle.decode.specs.declared.postbyte.PostByte.{PostByte}
@@ -48,7 +48,7 @@ tested false o next e = not-past e
 
 not-by-five : (n : ℕ) (mem : List ℕ) (at : ℕ) (says : ℕ → Operand) → Bad (reading n mem at (λ v next. Read (says v) next)) → ⊥
 not-by-five zero mem at says e = not-read e
-not-by-five (suc n) mem at says e = tested (leb (at + suc n) 0x10000) (says (numberAt (suc n) mem at)) (at + suc n) e
+not-by-five (suc n) mem at says e = tested (leb (at + suc n) 0x10000) (says (operandNumber (suc n) mem at)) (at + suc n) e
 
 module _ (mem : List ℕ) (at : ℕ) where
   formed : (p : PostByte) → FormSo p → (post next : ℕ) → Bad (afterPostByte p mem post next) ↔ (isRefused p ≡ true)

@@ -7,3 +7,4 @@ pub mod Sound
 pub mod Laws
 pub mod Formless
 pub mod Unique
+pub mod CutShort

@@ -1,19 +1,20 @@
--- The laws of decoding: by which numbers it refuses, 3 and 5 exactly, how long an instruction is, and what fits its width.
+-- The laws of decoding: by which numbers it refuses, each of 3, 4 and 5 exactly, how long an instruction is, and what fits its width.
 -- Assumes nothing.
 use Prim.Native.Nat.{ℕ, _+_, _≤_, _<_}
 use mathlib.Core.Path.{_≡_}
 use mathlib.Core.Bool.{true, _&&_}
 use mathlib.Core.List.{List, []}
-use mathlib.Core.Logic.{_↔_}
+use mathlib.Core.Logic.{_↔_, _⊎_}
 use lib.Dec.{T, leb}
 use Rattle.memory.specs.Fits.{Bytes}
 use Rattle.memory.specs.Map.{byteAt}
 use Rattle.answers.specs.Numbers.{numberOf}
 use Rattle.answers.specs.declared.Refusal.{Refusal}
-use Rattle.answers.specs.declared.Refusal.the-variants.{Opcode, PostByte}
+use Rattle.answers.specs.declared.Refusal.the-variants.{Opcode, PastEnd, PostByte as BadPostByte}
 use Rattle.opcodes.specs.Manual.{rows, prefix, entryOf}
 use Rattle.opcodes.specs.Places.{named}
-use Rattle.opcodes.specs.declared.Mode.the-variants.{Indexed}
+use Rattle.opcodes.specs.declared.Mode.{Mode}
+use Rattle.opcodes.specs.declared.Mode.the-variants.{Inherent, Immediate8, Immediate16, Direct, Indexed, Extended, Relative8, Relative16}
 use Rattle.opcodes.specs.declared.Page.{Page}
 use Rattle.opcodes.specs.declared.Page.the-variants.{Plain, Ten, Eleven}
 use Rattle.opcodes.specs.declared.Place.{Place}
@@ -21,6 +22,8 @@ use Rattle.opcodes.specs.declared.Place.the-variants.{Instruction as InManual, 
 use Rattle.decode.specs.PostByte.{formOf, offsetBytes, isRefused}
 use Rattle.decode.specs.Operand.{operandBytes}
 use Rattle.decode.specs.Decode.{located, decodedAt}
+use Rattle.decode.specs.declared.postbyte.PostByte.{PostByte}
+use Rattle.decode.specs.declared.postbyte.PostByte.the-variants.{Form as Formed, Refused as NoForm}
 use Rattle.decode.specs.declared.operand.Operand.{Operand}
 use Rattle.decode.specs.declared.operand.Operand.the-variants.{Inherent as Nothing, Immediate as ByValue, Direct as InPage, Indexed as ByIndex, Extended as AtAddress, Relative as Branch}
 use Rattle.decode.specs.declared.instruction.Instruction.{Instruction}
@@ -58,7 +61,39 @@ Formless (At page code at) mem = NoFormAt (entryOf page code) mem at
 Formless (NotLocated x) mem = ⊥
 
 abbrev pub PostByteRefused : Type 0
-PostByteRefused = (mem : List ℕ) (pc : ℕ) → (decodedAt mem pc ≡ Refused PostByte) ↔ Formless (located mem pc) mem
+PostByteRefused = (mem : List ℕ) (pc : ℕ) → (decodedAt mem pc ≡ Refused BadPostByte) ↔ Formless (located mem pc) mem
+
+-- 4 exactly where a prefix stands at FFFF, or the last of the bytes that follow the opcode lies past FFFF
+abbrev pub PrefixAtTop : List ℕ → ℕ → Type 0
+PrefixAtTop mem pc = ((byteAt mem pc ≡ 0x10) ⊎ (byteAt mem pc ≡ 0x11)) × (pc ≡ 0xFFFF)
+
+-- how many offset bytes a post-byte asks for; one that is refused asks for none
+abbrev pub offsetBytesBy : PostByte → ℕ
+offsetBytesBy (Formed form) = offsetBytes form
+offsetBytesBy (NoForm x) = 0
+
+-- how many bytes follow the opcode, where b is the first of them
+abbrev pub bytesAfter : Mode → ℕ → ℕ
+bytesAfter Inherent b = 0
+bytesAfter Immediate8 b = 1
+bytesAfter Immediate16 b = 2
+bytesAfter Direct b = 1
+bytesAfter Indexed b = 1 + offsetBytesBy (formOf b)
+bytesAfter Extended b = 2
+bytesAfter Relative8 b = 1
+bytesAfter Relative16 b = 2
+
+abbrev pub EndsPast : Place → List ℕ → ℕ → Type 0
+EndsPast (InManual e) mem at = 0x10000 < at + bytesAfter (e .mode) (byteAt mem at)
+EndsPast None mem at = ⊥
+
+abbrev pub CutShort : Located → List ℕ → Type 0
+CutShort (At page code at) mem = EndsPast (entryOf page code) mem at
+CutShort (NotLocated x) mem = ⊥
+
+abbrev pub BytesRefused : Type 0
+BytesRefused =
+    (mem : List ℕ) (pc : ℕ) → pc < 65536 → (decodedAt mem pc ≡ Refused PastEnd) ↔ (PrefixAtTop mem pc ⊎ CutShort (located mem pc) mem)
 
 -- an entry's size counts the prefix, the opcode and the operand bytes of its mode
 abbrev pub prefixBytes : Page → ℕ

@@ -26,15 +26,15 @@ abbrev pub signedByte : ℕ → ℕ
 signedByte b = valueOf (extended (u8 b))
 
 -- the number that no, one or two bytes hold, high byte first
-abbrev pub numberAt : ℕ → List ℕ → ℕ → ℕ
-numberAt zero mem at = 0
-numberAt (suc zero) mem at = byteAt mem at
-numberAt (suc (suc n)) mem at = 256 * byteAt mem at + byteAt mem (at + 1)
+abbrev pub operandNumber : ℕ → List ℕ → ℕ → ℕ
+operandNumber zero mem at = 0
+operandNumber (suc zero) mem at = byteAt mem at
+operandNumber (suc (suc n)) mem at = 256 * byteAt mem at + byteAt mem (at + 1)
 
 -- n bytes are read, and their number and the address after them say the rest: 4 where one of them lies past FFFF
 abbrev pub reading : ℕ → List ℕ → ℕ → (ℕ → ℕ → OperandRead) → OperandRead
 reading zero mem at says = says 0 at
-reading (suc n) mem at says = cond (leb (at + suc n) 0x10000) (says (numberAt (suc n) mem at) (at + suc n)) (Refused PastEnd)
+reading (suc n) mem at says = cond (leb (at + suc n) 0x10000) (says (operandNumber (suc n) mem at) (at + suc n)) (Refused PastEnd)
 
 -- the offset of a form: in the post-byte, or the number n of its offset bytes, of which a single one has a sign
 abbrev pub offsetOf : Form → ℕ → ℕ → ℕ

@@ -1,13 +1,14 @@
 -- The post-byte of indexed addressing (manual, table "Indexed Addressing Mode"; document 01, section Addressing).
 -- Assumes nothing.
-use Prim.Native.Nat.{ℕ, zero, suc, _+_, _/_, _%_}
+use Prim.Native.Nat.{ℕ, _+_, _/_, _%_}
 use mathlib.Core.Path.{_≡_}
 use mathlib.Core.Bool.{Bool, true, false, cond, _&&_}
 use lib.Bits.{bitAnd}
 use lib.Dec.{eqb, ltb}
-use Rattle.registers.specs.ConditionCodes.{digit, bitAt}
+use Rattle.registers.specs.ConditionCodes.{bitAt}
 use Rattle.registers.specs.declared.Index.{Index}
 use Rattle.registers.specs.declared.Index.the-variants.{X, Y, U, S}
+use Rattle.answers.specs.Counting.{counted}
 use Rattle.answers.specs.declared.Refusal.the-variants.{PostByte as BadPostByte}
 use Rattle.decode.specs.declared.postbyte.Form.{Form}
 use Rattle.decode.specs.declared.postbyte.Form.the-variants.{Offset5, Increment1, Increment2, Decrement1, Decrement2, NoOffset, OffsetB, OffsetA, Offset8, Offset16, OffsetD, Program8, Program16, Address}
@@ -72,14 +73,10 @@ offsetBytes Program8 = 1
 offsetBytes Program16 = 2
 offsetBytes Address = 2
 
--- the law: exactly 32 of the 256 post-bytes are refused
 abbrev pub isRefused : PostByte → Bool
 isRefused (Taken form) = false
 isRefused (Refused x) = true
 
-abbrev pub counted : ℕ → (ℕ → Bool) → ℕ
-counted zero f = 0
-counted (suc n) f = digit (f n) + counted n f
-
+-- the law: exactly 32 of the 256 post-bytes are refused
 abbrev pub RefusedPostBytes : Type 0
 RefusedPostBytes = counted 256 (λ post. isRefused (formOf post)) ≡ 32

@@ -71,7 +71,7 @@ fn with_operand(mem: &[u8], entry: Entry, at: u32) -> Decoded
 fn look_up(mem: &[u8], page: Page, code: u8, at: u32) -> Decoded
     ensures { λ r. ⌜ r ≡ decodedAs (entryOf page code) (now (mem .entry)) at ⌝ }
 {
-    match opcodes::lookup(page, code) {
+    match pages::lookup(page, code) {
         Place::Instruction(entry) => with_operand(mem, entry, at),
         Place::None => Decoded::Refused(Refusal::Opcode),
     }

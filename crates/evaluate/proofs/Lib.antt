@@ -3,3 +3,5 @@ pub mod Sound
 pub mod Room
 pub mod Parting
 pub mod Unique
+pub mod HalfCarry
+pub mod Writes

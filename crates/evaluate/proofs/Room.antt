@@ -7,19 +7,20 @@ use mathlib.Core.Path.{_≡_, refl, ap, _∙_}
 use lib.Dec.{eqb, ltb}
 use Rattle.answers.specs.Numbers.{numberOfAnswer}
 use Rattle.answers.specs.declared.Refusal.the-variants.{WordAtTop}
-use Rattle.registers.specs.RegisterSet.{stackWord, wordOf}
+use Rattle.registers.specs.Names.{stackWord}
+use Rattle.registers.specs.RegisterSet.{wordOf}
 use Rattle.registers.specs.declared.Set.{Set}
 use Rattle.registers.specs.declared.Stack.{Stack}
 use Rattle.registers.specs.declared.Stack.the-variants.{S}
 use Rattle.memory.specs.Map.{byteAt, wordFits}
 use Rattle.memory.specs.Writes.{listed, stored}
-use Rattle.memory.specs.declared.Writes.{Writes}
+use Rattle.memory.specs.declared.writes.Writes.{Writes}
 use Rattle.machine.specs.Effect.{stores, refuses}
 use Rattle.machine.specs.declared.Settings.{Settings}
 use Rattle.opcodes.specs.declared.MemoryOp.the-variants.{OnMemory, Store8, Store16, Bsr, Jsr, Rts, Rti, Swi, Cwai, Sync, Push, Pull}
 use Rattle.opcodes.specs.declared.Op.the-variants.{Registers, Memory}
 use Rattle.opcodes.specs.declared.Software.the-variants.{Swi as SWI, Swi2 as SWI2, Swi3 as SWI3}
-use Rattle.operations.specs.Bytes.{onMemory}
+use Rattle.operations.specs.EightBit.{onMemory}
 use Rattle.operations.specs.Change.{changedOf}
 use Rattle.operations.specs.Refusals.{numberOfChanged, readsWord, namesTwo}
 use Rattle.operations.specs.Transfers.{transferable}
@@ -29,12 +30,12 @@ use Rattle.operations.specs.declared.Changed.the-variants.{After, Refused}
 use Rattle.operations.proofs.Refusals.{change-refuses-exactly}
 use Rattle.stack.specs.Frames.{framed}
 use Rattle.stack.specs.Laws.{topMet}
-use Rattle.stack.specs.Pulling.{pulled, returned}
-use Rattle.stack.specs.Pushing.{order, chosen, bytesOf, called}
+use Rattle.stack.specs.Pulling.{pulled, returnedFromInterrupt}
+use Rattle.stack.specs.Pushing.{order, chosen, bytesPushed, jumpedToSubroutine}
 use Rattle.stack.proofs.Laws.{stack-refuses-exactly}
 use Rattle.vectors.specs.Laws.{zeroNumber}
 use Rattle.vectors.specs.Service.{wordIn, served}
-use Rattle.vectors.specs.Table.{addressOf, isEntire, vectorOf}
+use Rattle.vectors.specs.Table.{addressOf, isEntire, softwareVector}
 use Rattle.vectors.specs.declared.table.Vector.{Vector}
 use Rattle.vectors.proofs.Laws.{vectors-refuse-exactly}
 use Rattle.evaluate.specs.Evaluate.{effectOf}
@@ -59,8 +60,8 @@ isTop r own mask = topMet (wordOf r (stackWord own)) (chosen mask (reverse (orde
 of-pull : (mem : List ℕ) (r : Set) (own : Stack) (mask : ℕ) → isEight (numberOfAnswer (pulled mem r own mask .answer)) ≡ false
 of-pull mem r own mask = ap isEight (stack-refuses-exactly .pull mem r own mask) ∙ other (isTop r own mask) 6 0 refl refl
 
-of-call : (r : Set) (ea : ℕ) → isEight (numberOfAnswer (called r ea .answer)) ≡ ltb (r .s) 2
-of-call r ea = ap isEight (stack-refuses-exactly .call r ea) ∙ eight (ltb (r .s) 2) 0 refl
+of-jsr : (r : Set) (ea : ℕ) → isEight (numberOfAnswer (jumpedToSubroutine r ea .answer)) ≡ ltb (r .s) 2
+of-jsr r ea = ap isEight (stack-refuses-exactly .jsr r ea) ∙ eight (ltb (r .s) 2) 0 refl
 
 of-service : (mem : List ℕ) (s : Settings) (r : Set) (v : Vector) → isEight (numberOfAnswer (served mem s r v .answer)) ≡ ltb (r .s) (cond (isEntire v) 12 3)
 of-service mem s r v =
@@ -78,21 +79,21 @@ of-store true r q ws = refl
 of-store false r q ws = refl
 
 pub small-exactly : SmallExactly
-unfolding onMemory store16 returned
+unfolding onMemory store16 returnedFromInterrupt
 small-exactly (Registers op) s mem r ea =
     ap isEight (numbered r (changedOf op (s .flags) mem r ea) ∙ change-refuses-exactly op (s .flags) mem r ea)
     ∙ other (readsWord op && not (wordFits ea)) 6 _ refl (other (namesTwo op && not (transferable (byteAt mem ea))) 7 0 refl refl)
 small-exactly (Memory (OnMemory op)) s mem r ea = refl
 small-exactly (Memory (Store8 acc)) s mem r ea = refl
 small-exactly (Memory (Store16 word)) s mem r ea = of-store (wordFits ea) r _ _
-small-exactly (Memory Bsr) s mem r ea = of-call r ea
-small-exactly (Memory Jsr) s mem r ea = of-call r ea
+small-exactly (Memory Bsr) s mem r ea = of-jsr r ea
+small-exactly (Memory Jsr) s mem r ea = of-jsr r ea
 small-exactly (Memory Rts) s mem r ea = of-pull mem r S 0x80
 small-exactly (Memory Rti) s mem r ea = of-pull mem r S _
-small-exactly (Memory (Swi SWI)) s mem r ea = of-service mem s r (vectorOf SWI)
-small-exactly (Memory (Swi SWI2)) s mem r ea = of-service mem s r (vectorOf SWI2)
-small-exactly (Memory (Swi SWI3)) s mem r ea = of-service mem s r (vectorOf SWI3)
+small-exactly (Memory (Swi SWI)) s mem r ea = of-service mem s r (softwareVector SWI)
+small-exactly (Memory (Swi SWI2)) s mem r ea = of-service mem s r (softwareVector SWI2)
+small-exactly (Memory (Swi SWI3)) s mem r ea = of-service mem s r (softwareVector SWI3)
 small-exactly (Memory Cwai) s mem r ea = ap isEight (vectors-refuse-exactly .cwai r (byteAt mem ea)) ∙ eight (ltb (r .s) 12) 0 refl
 small-exactly (Memory Sync) s mem r ea = refl
-small-exactly (Memory (Push own)) s mem r ea = ap isEight (stack-refuses-exactly .push r own (byteAt mem ea) false) ∙ eight (ltb (wordOf r (stackWord own)) (bytesOf (byteAt mem ea))) 0 refl
+small-exactly (Memory (Push own)) s mem r ea = ap isEight (stack-refuses-exactly .push r own (byteAt mem ea) false) ∙ eight (ltb (wordOf r (stackWord own)) (bytesPushed (byteAt mem ea))) 0 refl
 small-exactly (Memory (Pull own)) s mem r ea = of-pull mem r own (byteAt mem ea)

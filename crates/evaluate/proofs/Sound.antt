@@ -15,7 +15,7 @@ use Rattle.operations.specs.declared.Changed.the-variants.{After, Refused}
 use Rattle.operations.proofs.Sound.{changed-sound, refused-sound, on-memory-sound, store8-sound, store16-sound}
 use Rattle.operations.proofs.Widths.{changes-fit}
 use Rattle.stack.proofs.Sound.{stack-sound}
-use Rattle.vectors.specs.Table.{vectorOf}
+use Rattle.vectors.specs.Table.{softwareVector}
 use Rattle.vectors.proofs.Sound.{vectors-sound}
 use Rattle.evaluate.specs.Evaluate.{effectOf}
 use Rattle.evaluate.specs.Sound.{EvaluatedSound}
@@ -29,11 +29,11 @@ evaluated-sound (Registers op) s mem r ea = of-change r (changedOf op (s .flags)
 evaluated-sound (Memory (OnMemory op)) s mem r ea = on-memory-sound mem r ea op (s .flags)
 evaluated-sound (Memory (Store8 acc)) s mem r ea = store8-sound mem r ea acc
 evaluated-sound (Memory (Store16 word)) s mem r ea = store16-sound mem r ea word
-evaluated-sound (Memory Bsr) s mem r ea = stack-sound mem r ea .call
-evaluated-sound (Memory Jsr) s mem r ea = stack-sound mem r ea .call
+evaluated-sound (Memory Bsr) s mem r ea = stack-sound mem r ea .jsr
+evaluated-sound (Memory Jsr) s mem r ea = stack-sound mem r ea .jsr
 evaluated-sound (Memory Rts) s mem r ea = stack-sound mem r ea .pull S 0x80
 evaluated-sound (Memory Rti) s mem r ea = stack-sound mem r ea .rti
-evaluated-sound (Memory (Swi which)) s mem r ea = vectors-sound mem s r ea .running (vectorOf which)
+evaluated-sound (Memory (Swi which)) s mem r ea = vectors-sound mem s r ea .running (softwareVector which)
 evaluated-sound (Memory Cwai) s mem r ea = vectors-sound mem s r ea .cwai
 evaluated-sound (Memory Sync) s mem r ea = vectors-sound mem s r ea .sync
 evaluated-sound (Memory (Push own)) s mem r ea = stack-sound mem r ea .push own (byteAt mem ea) false

@@ -13,13 +13,13 @@ use Rattle.opcodes.specs.declared.MemoryOp.{MemoryOp}
 use Rattle.opcodes.specs.declared.MemoryOp.the-variants.{OnMemory, Store8, Store16, Bsr, Jsr, Rts, Rti, Swi, Cwai, Sync, Push, Pull}
 use Rattle.opcodes.specs.declared.Op.{Op}
 use Rattle.opcodes.specs.declared.Op.the-variants.{Registers, Memory}
-use Rattle.operations.specs.Bytes.{onMemory, store8}
+use Rattle.operations.specs.EightBit.{onMemory, store8}
 use Rattle.operations.specs.Change.{changedOf}
 use Rattle.operations.specs.Words.{store16}
 use Rattle.operations.specs.declared.Changed.{Changed}
 use Rattle.operations.specs.declared.Changed.the-variants.{After, Refused}
-use Rattle.stack.specs.Pulling.{pulled, returned}
-use Rattle.stack.specs.Pushing.{pushed, called}
+use Rattle.stack.specs.Pulling.{pulled, returnedFromInterrupt}
+use Rattle.stack.specs.Pushing.{pushed, jumpedToSubroutine}
 use Rattle.vectors.specs.Service.{software}
 use Rattle.vectors.specs.Waits.{waiting, synchronized}
 
@@ -28,10 +28,10 @@ abbrev pub memoryOf : MemoryOp → Settings → List ℕ → Set → ℕ → Eff
 memoryOf (OnMemory op) s mem r ea = onMemory op (s .flags) mem r ea
 memoryOf (Store8 acc) s mem r ea = store8 r acc ea
 memoryOf (Store16 word) s mem r ea = store16 r word ea
-memoryOf Bsr s mem r ea = called r ea
-memoryOf Jsr s mem r ea = called r ea
+memoryOf Bsr s mem r ea = jumpedToSubroutine r ea
+memoryOf Jsr s mem r ea = jumpedToSubroutine r ea
 memoryOf Rts s mem r ea = pulled mem r S 0x80
-memoryOf Rti s mem r ea = returned mem r
+memoryOf Rti s mem r ea = returnedFromInterrupt mem r
 memoryOf (Swi which) s mem r ea = software mem s r which
 memoryOf Cwai s mem r ea = waiting r (byteAt mem ea)
 memoryOf Sync s mem r ea = synchronized r

@@ -3,3 +3,5 @@ pub mod Waits
 pub mod Sound
 pub mod Room
 pub mod Parting
+pub mod HalfCarry
+pub mod Writes

@@ -7,7 +7,8 @@ use mathlib.Core.List.{List}
 use mathlib.Core.Path.{_≡_}
 use lib.Dec.{eqb, ltb}
 use Rattle.answers.specs.Numbers.{numberOfAnswer}
-use Rattle.registers.specs.RegisterSet.{stackWord, wordOf}
+use Rattle.registers.specs.Names.{stackWord}
+use Rattle.registers.specs.RegisterSet.{wordOf}
 use Rattle.registers.specs.declared.Set.{Set}
 use Rattle.memory.specs.Map.{byteAt}
 use Rattle.machine.specs.declared.Settings.{Settings}
@@ -15,7 +16,7 @@ use Rattle.opcodes.specs.declared.MemoryOp.{MemoryOp}
 use Rattle.opcodes.specs.declared.MemoryOp.the-variants.{OnMemory, Store8, Store16, Bsr, Jsr, Rts, Rti, Swi, Cwai, Sync, Push, Pull}
 use Rattle.opcodes.specs.declared.Op.{Op}
 use Rattle.opcodes.specs.declared.Op.the-variants.{Registers, Memory}
-use Rattle.stack.specs.Pushing.{bytesOf}
+use Rattle.stack.specs.Pushing.{bytesPushed}
 use Rattle.evaluate.specs.Evaluate.{evaluateOf}
 
 -- m is the byte at the effective address, which for PSHS and PSHU is the post-byte. PC alone is 2 bytes, all registers are 12
@@ -30,7 +31,7 @@ memorySmall Rti r m = false
 memorySmall (Swi which) r m = ltb (r .s) 12
 memorySmall Cwai r m = ltb (r .s) 12
 memorySmall Sync r m = false
-memorySmall (Push own) r m = ltb (wordOf r (stackWord own)) (bytesOf m)
+memorySmall (Push own) r m = ltb (wordOf r (stackWord own)) (bytesPushed m)
 memorySmall (Pull own) r m = false
 
 abbrev pub isSmall : Op → Set → ℕ → Bool

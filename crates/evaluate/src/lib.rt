@@ -1,4 +1,4 @@
-// What an instruction does: the choice of the operation, which the crate of its subject does.
+// What an instruction does: chooses the function of its operation, in `operations`, `stack` or `vectors`.
 // The registers come with PC at the next instruction and the index register changed; `ea` is the effective address.
 ghost use mathlib.Core.Path.{_≡_};
 ghost use Rattle.evaluate.specs.Evaluate.{memoryOf, evaluateOf};
@@ -22,8 +22,8 @@ pub fn evaluate_memory(op: MemoryOp, settings: Settings, mem: &[u8], regs: Set, 
         }
         MemoryOp::Store8(acc) => operations::store8(regs, acc, ea),
         MemoryOp::Store16(word) => operations::store16(regs, word, ea),
-        MemoryOp::Bsr => stack::call(regs, ea),
-        MemoryOp::Jsr => stack::call(regs, ea),
+        MemoryOp::Bsr => stack::jump_to_subroutine(regs, ea),
+        MemoryOp::Jsr => stack::jump_to_subroutine(regs, ea),
         MemoryOp::Rts => stack::pull(mem, regs, Stack::S, 0x80),
         MemoryOp::Rti => stack::return_from_interrupt(mem, regs),
         MemoryOp::Swi(which) => vectors::serve(mem, settings, regs, Vector::of_software(which)),

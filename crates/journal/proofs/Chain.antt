@@ -8,7 +8,7 @@ use lib.ListN.{length, take, drop, length-append, length-drop, take-append-drop}
 use lib.Seq.{sets-eq, take-append-le, drop-append-le, take-at, drop-at, length-take-le}
 use Rattle.memory.specs.Fits.{Bytes}
 use Rattle.machine.specs.Machine.{MachineFits}
-use Rattle.journal.specs.Record.{Saved, encode}
+use Rattle.journal.specs.Record.{Saved, encode, most, recordLength}
 use Rattle.journal.specs.Recorded.{State, recordAt, withRecord}
 use Rattle.journal.specs.Undos.{putBack}
 use Rattle.journal.specs.Sequence.{Same, Snap, All}
@@ -17,36 +17,36 @@ use Rattle.journal.proofs.Stores.{same-trans, same-putBack}
 
 -- ---- the journal by records
 
-record-front : (k u : ℕ) (p q : List ℕ) → length p ≡ u * 68 → k < u → recordAt k (p ++ q) ≡ recordAt k p
+record-front : (k u : ℕ) (p q : List ℕ) → length p ≡ u * recordLength → k < u → recordAt k (p ++ q) ≡ recordAt k p
 unfolding recordAt
 record-front k u p q l h =
-    let a : k * 68 ≤ length p = omega arith in
-    let b : 68 ≤ length (drop (k * 68) p) = simp length-drop (omega arith) in
-    rw (drop-append-le (k * 68) p q a) (take-append-le 68 (drop (k * 68) p) q b)
+    let a : k * recordLength ≤ length p = omega arith in
+    let b : recordLength ≤ length (drop (k * recordLength) p) = simp length-drop (omega arith) in
+    rw (drop-append-le (k * recordLength) p q a) (take-append-le recordLength (drop (k * recordLength) p) q b)
 
-module _ (u : ℕ) (r j : List ℕ) (whole : length r ≡ 68) (space : u * 68 + 68 ≤ length j) where
-  front : length (take (u * 68) j) ≡ u * 68
-  front = length-take-le (u * 68) j (omega arith)
+module _ (u : ℕ) (r j : List ℕ) (whole : length r ≡ recordLength) (space : u * recordLength + recordLength ≤ length j) where
+  front : length (take (u * recordLength) j) ≡ u * recordLength
+  front = length-take-le (u * recordLength) j (omega arith)
 
-  parts : withRecord u r j ≡ take (u * 68) j ++ (r ++ drop (u * 68 + 68) j)
+  parts : withRecord u r j ≡ take (u * recordLength) j ++ (r ++ drop (u * recordLength + recordLength) j)
   unfolding withRecord
-  parts = sets-eq r j (u * 68) (omega arith) ∙ rw whole (append-assoc (take (u * 68) j) r (drop (u * 68 + 68) j))
+  parts = sets-eq r j (u * recordLength) (omega arith) ∙ rw whole (append-assoc (take (u * recordLength) j) r (drop (u * recordLength + recordLength) j))
 
   -- the bytes before a record stay
-  pub earlier-stay : take (u * 68) (withRecord u r j) ≡ take (u * 68) j
-  earlier-stay = rw parts (take-at (take (u * 68) j) (r ++ drop (u * 68 + 68) j) (u * 68) front)
+  pub earlier-stay : take (u * recordLength) (withRecord u r j) ≡ take (u * recordLength) j
+  earlier-stay = rw parts (take-at (take (u * recordLength) j) (r ++ drop (u * recordLength + recordLength) j) (u * recordLength) front)
 
   -- so do earlier records
   pub record-kept : (k : ℕ) → k < u → recordAt k j ≡ recordAt k (withRecord u r j)
   record-kept k h =
-      ap (recordAt k) (sym (take-append-drop (u * 68) j))
-      ∙ record-front k u (take (u * 68) j) (drop (u * 68) j) front h
-      ∙ sym (record-front k u (take (u * 68) j) (r ++ drop (u * 68 + 68) j) front h)
+      ap (recordAt k) (sym (take-append-drop (u * recordLength) j))
+      ∙ record-front k u (take (u * recordLength) j) (drop (u * recordLength) j) front h
+      ∙ sym (record-front k u (take (u * recordLength) j) (r ++ drop (u * recordLength + recordLength) j) front h)
       ∙ ap (recordAt k) (sym parts)
 
   pub record-own : recordAt u (withRecord u r j) ≡ r
   unfolding recordAt
-  record-own = rw (parts, drop-at (take (u * 68) j) (r ++ drop (u * 68 + 68) j) (u * 68) front) (take-at r (drop (u * 68 + 68) j) 68 whole)
+  record-own = rw (parts, drop-at (take (u * recordLength) j) (r ++ drop (u * recordLength + recordLength) j) (u * recordLength) front) (take-at r (drop (u * recordLength + recordLength) j) recordLength whole)
 
   pub length-withRecord : length (withRecord u r j) ≡ length j
   length-withRecord = rw parts (simp (length-append, length-drop, front, whole) (omega arith))
@@ -57,7 +57,7 @@ module _ (u : ℕ) (r j : List ℕ) (whole : length r ≡ 68) (space : u * 68 + 
 pub record Leads (r m : List ℕ) (s : Snap) : Type 0 where
   pub saved : List Saved
   pub is : r ≡ encode (s .machine) saved
-  pub few : length saved ≤ 12
+  pub few : length saved ≤ most
   pub fit : All SavedFits saved
   pub sound : MachineFits (s .machine)
   pub leads : Same (putBack m saved) (s .memory)
@@ -90,6 +90,6 @@ pub record Inv (s : State) (past : List Snap) : Type 0 where
   pub sound : MachineFits (s .twin .machine)
   pub bytes : Bytes (s .memory)
   pub count : s .twin .used ≡ length past
-  pub room : s .twin .used * 68 ≤ length (s .journal)
+  pub room : s .twin .used * recordLength ≤ length (s .journal)
   pub size : 0 < length past → length (s .memory) ≡ 65536
   pub chain : Chain (s .journal) (s .memory) past

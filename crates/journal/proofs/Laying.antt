@@ -11,11 +11,11 @@ use lib.Seq.{sets, sets-eq, take-suc, drop-drop, length-take-le}
 use Rattle.memory.specs.Map.{landingOf}
 use Rattle.memory.specs.declared.Landing.{Landing}
 use Rattle.memory.specs.declared.Landing.the-variants.{Stored, Device, Ignored}
-use Rattle.memory.specs.declared.Write.{Write}
+use Rattle.memory.specs.declared.writes.Write.{Write}
 use Rattle.machine.specs.declared.Machine.{Machine}
-use Rattle.machine.specs.Record.{bytes, header, headerLength}
-use Rattle.machine.proofs.Header.{length-header}
-use Rattle.journal.specs.Record.{Saved, recordLength, entries, encode}
+use Rattle.machine.specs.Record.{Cycles, Instructions, bytes, front, counter, offset, header, headerLength}
+use Rattle.machine.proofs.Header.{header-in-parts, length-front, length-counter, length-header}
+use Rattle.journal.specs.Record.{Saved, recordLength, entries, encode, most, entryLength, countAt, entriesAt}
 use Rattle.journal.specs.Recorded.{savedAt, savedFor}
 
 -- ---- parts
@@ -28,18 +28,27 @@ sets-more d (v ∷ p) q k n e = sets-more (set d k v) p q (suc k) n (omega arith
 -- ---- the header, and zeros after it
 
 pub header-laid : (m : Machine) (d : List ℕ) → recordLength ≤ length d
-    → sets (sets d 0 (header m)) headerLength (replicate (recordLength - headerLength) 0) ≡ header m ++ (replicate (recordLength - headerLength) 0 ++ drop recordLength d)
+    → let z : List ℕ = replicate (recordLength - headerLength) 0 in
+    sets (sets (sets (sets d 0 (front m)) (offset Cycles) (counter (m .cycles))) (offset Instructions) (counter (m .instructions))) headerLength z
+    ≡ header m ++ (z ++ drop recordLength d)
 header-laid m d h =
     let l = length-header m in
+    let lf = length-front m in
+    let lc = length-counter (m .cycles) in
+    let la = length-append (front m) (counter (m .cycles)) in
     let z : List ℕ = replicate (recordLength - headerLength) 0 in
     let w : length (header m ++ z) ≡ recordLength = simp length-append (omega (arith, l)) in
-    sets-more d (header m) z 0 headerLength (omega (arith, l))
-    ∙ sets-eq (header m ++ z) d 0 (omega arith)
-    ∙ rw w (append-assoc (header m) z (drop recordLength d))
+    rw (
+      sets-more d (front m) (counter (m .cycles)) 0 (offset Cycles) (omega arith),
+      sets-more d (front m ++ counter (m .cycles)) (counter (m .instructions)) 0 (offset Instructions) (omega arith),
+      header-in-parts m,
+      sets-more d (header m) z 0 headerLength (omega (arith, l)),
+    )
+    (sets-eq (header m ++ z) d 0 (omega arith) ∙ rw w (append-assoc (header m) z (drop recordLength d)))
 
 -- ---- the entries
 
-pub length-entries : (es : List Saved) → length (entries es) ≡ 3 * length es
+pub length-entries : (es : List Saved) → length (entries es) ≡ entryLength * length es
 unfolding entries bytes
 length-entries [] = refl
 length-entries (e ∷ es) = omega (arith, length-entries es)
@@ -56,7 +65,7 @@ saved-more top (v ∷ ws) w mem =
     rw (saved-more top ws w mem) (sym (append-assoc (savedAt mem (landingOf (v .at) top (v .system))) (savedFor top ws mem) (savedAt mem (landingOf (w .at) top (w .system)))))
 
 -- a turn of the loop: the entry of the write at i, after those of the first i
-module _ (top : ℕ) (list : List Write) (i : ℕ) (none : Write) (full : length list ≡ 12) (h : i < 12) (mem : List ℕ) where
+module _ (top : ℕ) (list : List Write) (i : ℕ) (none : Write) (full : length list ≡ most) (h : i < most) (mem : List ℕ) where
   saved-next : savedFor top (take (i + 1) list) mem ≡ savedFor top (take i list) mem ++ savedAt mem (landingOf (getD list i none .at) top (getD list i none .system))
   saved-next = rw (add-one, take-suc list i none (omega arith)) (saved-more top (take i list) (getD list i none) mem)
 
@@ -65,11 +74,11 @@ module _ (top : ℕ) (list : List Write) (i : ℕ) (none : Write) (full : length
   turn-count n e = rw (saved-next, length-append, e)
 
   pub turn-laid : (n : ℕ) (d : List ℕ) → n ≡ length (savedFor top (take i list) mem)
-      → sets (sets d 32 (entries (savedFor top (take i list) mem))) (32 + n * 3) (entries (savedAt mem (landingOf (getD list i none .at) top (getD list i none .system))))
-      ≡ sets d 32 (entries (savedFor top (take (i + 1) list) mem))
+      → sets (sets d entriesAt (entries (savedFor top (take i list) mem))) (entriesAt + n * entryLength) (entries (savedAt mem (landingOf (getD list i none .at) top (getD list i none .system))))
+      ≡ sets d entriesAt (entries (savedFor top (take (i + 1) list) mem))
   turn-laid n d e =
       rw (saved-next, entries-append)
-      (sets-more d (entries (savedFor top (take i list) mem)) (entries (savedAt mem (landingOf (getD list i none .at) top (getD list i none .system)))) 32 (32 + n * 3)
+      (sets-more d (entries (savedFor top (take i list) mem)) (entries (savedAt mem (landingOf (getD list i none .at) top (getD list i none .system)))) entriesAt (entriesAt + n * entryLength)
       (omega (arith, e, length-entries (savedFor top (take i list) mem))))
 
 -- at most one entry a write
@@ -83,7 +92,7 @@ unfolding savedFor
 saved-few top [] mem = omega arith
 saved-few top (w ∷ ws) mem = simp length-append (omega (arith, saved-few top ws mem, one-at-most mem (landingOf (w .at) top (w .system))))
 
-pub saved-twelve : (top : ℕ) (list : List Write) (i : ℕ) (mem : List ℕ) → length list ≡ 12 → i ≤ 12 → length (savedFor top (take i list) mem) ≤ i
+pub saved-twelve : (top : ℕ) (list : List Write) (i : ℕ) (mem : List ℕ) → length list ≡ most → i ≤ most → length (savedFor top (take i list) mem) ≤ i
 saved-twelve top list i mem full h = omega (arith, saved-few top (take i list) mem, length-take-le i list (omega arith))
 
 -- ---- the count
@@ -95,13 +104,13 @@ zeros-left (suc k) (suc m) d h =
     let e : suc m - suc k ≡ m - k = omega arith in
     rw e (zeros-left k m d (omega arith))
 
-pub record-laid : (m : Machine) (es : List Saved) (d : List ℕ) (n : ℕ) → n ≡ length es → n ≤ 12
-    → set (sets (header m ++ (replicate 37 0 ++ d)) 32 (entries es)) 31 n ≡ encode m es ++ d
+pub record-laid : (m : Machine) (es : List Saved) (d : List ℕ) (n : ℕ) → n ≡ length es → n ≤ most
+    → set (sets (header m ++ (replicate (recordLength - headerLength) 0 ++ d)) entriesAt (entries es)) countAt n ≡ encode m es ++ d
 unfolding encode header bytes
 record-laid m es d n e h =
-    let k : length (entries es) ≡ 3 * length es = length-entries es in
-    let x : drop (32 + length (entries es)) (header m ++ (replicate 37 0 ++ d)) ≡ replicate (36 - 3 * length es) 0 ++ d =
-    sym (drop-drop (length (entries es)) 32 (header m ++ (replicate 37 0 ++ d))) ∙ rw k (zeros-left (3 * length es) 36 d (omega arith)) in
-    ap (λ (l : List ℕ). set l 31 n) (sets-eq (entries es) (header m ++ (replicate 37 0 ++ d)) 32 (omega arith))
-    ∙ ap (λ (l : List ℕ). set (take 32 (header m ++ (replicate 37 0 ++ d)) ++ entries es ++ l) 31 n) x
-    ∙ rw (e, append-assoc (entries es) (replicate (36 - 3 * length es) 0) d)
+    let k : length (entries es) ≡ entryLength * length es = length-entries es in
+    let x : drop (entriesAt + length (entries es)) (header m ++ (replicate (recordLength - headerLength) 0 ++ d)) ≡ replicate ((most * entryLength) - entryLength * length es) 0 ++ d =
+    sym (drop-drop (length (entries es)) entriesAt (header m ++ (replicate (recordLength - headerLength) 0 ++ d))) ∙ rw k (zeros-left (entryLength * length es) (most * entryLength) d (omega arith)) in
+    ap (λ (l : List ℕ). set l countAt n) (sets-eq (entries es) (header m ++ (replicate (recordLength - headerLength) 0 ++ d)) entriesAt (omega arith))
+    ∙ ap (λ (l : List ℕ). set (take entriesAt (header m ++ (replicate (recordLength - headerLength) 0 ++ d)) ++ entries es ++ l) countAt n) x
+    ∙ rw (e, append-assoc (entries es) (replicate ((most * entryLength) - entryLength * length es) 0) d)

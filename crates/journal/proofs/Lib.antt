@@ -6,3 +6,5 @@ pub mod Stores
 pub mod Chain
 pub mod Theorem
 pub mod Unique
+pub mod Typed
+pub mod History

@@ -10,7 +10,7 @@ use lib.ListN.{length, getD, take, drop, set, length-append, length-drop}
 use lib.Seq.{take-suc, getD-drop, drop-drop}
 use lib.Dec.{lit<}
 use Rattle.machine.specs.Record.{numberAt}
-use Rattle.journal.specs.Record.{read}
+use Rattle.journal.specs.Record.{readEntries, entryLength, entriesAt}
 use Rattle.journal.specs.Undos.{putBack}
 
 -- the place of an entry, in its two bytes
@@ -23,9 +23,9 @@ place-at r at =
 
 -- one entry more, where the last k are put back already
 pub put-more : (m r : List ℕ) (n k : ℕ) → k < n
-    → set (putBack m (read k (drop (32 + (n - k) * 3) r))) (256 * getD r (32 + (n - (k + 1)) * 3) 0 + getD r (32 + (n - (k + 1)) * 3 + 1) 0) (getD r (32 + (n - (k + 1)) * 3 + 2) 0)
-    ≡ putBack m (read (k + 1) (drop (32 + (n - (k + 1)) * 3) r))
-unfolding putBack read
+    → set (putBack m (readEntries k (drop (entriesAt + (n - k) * entryLength) r))) (256 * getD r (entriesAt + (n - (k + 1)) * entryLength) 0 + getD r (entriesAt + (n - (k + 1)) * entryLength + 1) 0) (getD r (entriesAt + (n - (k + 1)) * entryLength + 2) 0)
+    ≡ putBack m (readEntries (k + 1) (drop (entriesAt + (n - (k + 1)) * entryLength) r))
+unfolding putBack readEntries
 put-more m r n k h =
-    let e : 32 + (n - (k + 1)) * 3 + 3 ≡ 32 + (n - k) * 3 = omega arith in
-    rw (← (place-at r (32 + (n - (k + 1)) * 3)), add-one k, ← add-one k, drop-drop 3 (32 + (n - (k + 1)) * 3) r, getD-drop (32 + (n - (k + 1)) * 3) r 2 0, e)
+    let e : entriesAt + (n - (k + 1)) * entryLength + entryLength ≡ entriesAt + (n - k) * entryLength = omega arith in
+    rw (← (place-at r (entriesAt + (n - (k + 1)) * entryLength)), add-one k, ← add-one k, drop-drop entryLength (entriesAt + (n - (k + 1)) * entryLength) r, getD-drop (entriesAt + (n - (k + 1)) * entryLength) r 2 0, e)

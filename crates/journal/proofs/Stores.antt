@@ -11,7 +11,7 @@ use Rattle.memory.specs.Map.{landingOf}
 use Rattle.memory.specs.Writes.{putAt, stored}
 use Rattle.memory.specs.declared.Landing.{Landing}
 use Rattle.memory.specs.declared.Landing.the-variants.{Stored, Device, Ignored}
-use Rattle.memory.specs.declared.Write.{Write}
+use Rattle.memory.specs.declared.writes.Write.{Write}
 use Rattle.memory.proofs.Folds.{length-stored}
 use Rattle.memory.proofs.Places.{stored-below}
 use Rattle.memory.specs.Fits.{Bytes, AllFit}

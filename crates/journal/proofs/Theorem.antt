@@ -15,7 +15,7 @@ use Rattle.answers.specs.declared.Answer.{Answer}
 use Rattle.answers.specs.declared.Answer.the-variants.{Done, Refused}
 use Rattle.answers.specs.declared.Refusal.{Refusal}
 use Rattle.answers.specs.declared.Refusal.the-variants.{MemoryLength, NoRecord}
-use Rattle.memory.specs.declared.Write.{Write}
+use Rattle.memory.specs.declared.writes.Write.{Write}
 use Rattle.memory.proofs.Fits.{bytes-set, bytes-stored}
 use Rattle.memory.proofs.Folds.{length-stored}
 use Rattle.machine.specs.Machine.{MachineFits}
@@ -26,7 +26,7 @@ use Rattle.machine.specs.declared.Machine.{Machine}
 use Rattle.calls.specs.Calls.{Call, step, interrupt, reset, settingsIn, planOf}
 use Rattle.calls.proofs.Laws.{few-writes, call-fits}
 use Rattle.machine.specs.Record.{machineOf}
-use Rattle.journal.specs.Record.{encode, waitAt, countOf, entriesOf}
+use Rattle.journal.specs.Record.{encode, waitAt, countOf, entriesOf, most, recordLength}
 use Rattle.journal.specs.Recorded.{State, ending, need, recordAt, withRecord, savedFor, admitted, callAnswer, recorded, concluded, called, whileWaiting}
 use Rattle.journal.specs.Undos.{newestIn, undoAnswer, putBack, restored, undone}
 use Rattle.journal.specs.Sequence.{All, Window, Event, forward, back, host, Legal, Snap, World, push, pop, hostWrites, call, next, run, start, BringsBack, Undoes, Unchanged, Demand3}
@@ -64,10 +64,10 @@ module _ (s : State) (t : Snap) (ss : List Snap) (v : Inv s (t ∷ ss)) where
   undo-taken =
       rw (
         eq-eqb (length (s .memory)) 65536 (v .size (omega arith)),
-        le-leb (s .twin .used * 68) (length (s .journal)) (v .room),
+        le-leb (s .twin .used * recordLength) (length (s .journal)) (v .room),
         lt-ltb 0 (s .twin .used) (omega (arith, v .count)),
         le-leb (waitAt (newestIn s)) 2 (rw newest-is (wait-at (t .machine) (lead .saved))),
-        le-leb (countOf (newestIn s)) 12 (rw count-is (lead .few)),
+        le-leb (countOf (newestIn s)) most (rw count-is (lead .few)),
       )
 
   restored-inv : Inv (restored s) ss
@@ -85,7 +85,7 @@ module _ (s : State) (t : Snap) (ss : List Snap) (v : Inv s (t ∷ ss)) where
 
 undo-empty : (s : State) → Inv s [] → undoAnswer s ≡ need (eqb (length (s .memory)) 65536) MemoryLength (Refused NoRecord)
 unfolding undoAnswer
-undo-empty s v = rw (le-leb (s .twin .used * 68) (length (s .journal)) (v .room), le-ltb 0 (s .twin .used) (omega (arith, v .count)))
+undo-empty s v = rw (le-leb (s .twin .used * recordLength) (length (s .journal)) (v .room), le-ltb 0 (s .twin .used) (omega (arith, v .count)))
 
 one-or-eleven : (b : Bool) → need b MemoryLength (Refused NoRecord) ≢ Done
 one-or-eleven true e = not-refused e
@@ -111,7 +111,7 @@ ending-inv : (a : Answer) (s new : State) (ds : List Write) (past : List Snap) �
 ending-inv Done s new ds past h v = absurd (h refl)
 ending-inv (Refused x) s new ds past h v = v
 
-undo-inv : (s : State) (past : List Snap) → Inv s past → Inv (undone s .state) (pop (undone s .answer) past)
+pub undo-inv : (s : State) (past : List Snap) → Inv s past → Inv (undone s .state) (pop (undone s .answer) past)
 unfolding undone
 undo-inv s [] v = ending-inv (undoAnswer s) s (restored s) [] [] (undo-barred s v) v
 undo-inv s (t ∷ ss) v = rw (undo-taken s t ss v) (restored-inv s t ss v)
@@ -144,7 +144,7 @@ undo-answer : (s : State) → undone s .answer ≡ undoAnswer s
 unfolding undone
 undo-answer s = answered (undoAnswer s) s (restored s) []
 
-undoes : (s : State) (past : List Snap) → Inv s past → Undoes (record { now = s; past = past })
+pub undoes : (s : State) (past : List Snap) → Inv s past → Undoes (record { now = s; past = past })
 undoes s [] v = record {
   exactly = ((λ e. absurd (undo-barred s v (sym (undo-answer s) ∙ e))), (λ h. absurd (h refl)));
   brings = brings s [] v;
@@ -163,8 +163,8 @@ undoes s (t ∷ ts) v = record {
 -- what an accepted call has shown
 record Taken (s : State) (f : Plan) : Type 0 where
   size : length (s .memory) ≡ 65536
-  space : s .twin .used * 68 + 68 ≤ length (s .journal)
-  few : length (listed (f .writes)) ≤ 12
+  space : s .twin .used * recordLength + recordLength ≤ length (s .journal)
+  few : length (listed (f .writes)) ≤ most
   lawful : PlanFits f
 
 recorded-inv : (set : Settings) (s : State) (past : List Snap) (f : Plan) → Taken s f → Inv s past → Inv (recorded set f s) (push Done s past)
@@ -192,13 +192,13 @@ recorded-inv set s past f t v =
     ws : List Write
     ws = listed (f .writes)
 
-    few : length (savedFor (set .«ram_top») ws (s .memory)) ≤ 12
+    few : length (savedFor (set .«ram_top») ws (s .memory)) ≤ most
     few = omega (arith, saved-few (set .«ram_top») ws (s .memory), t .few)
 
     entry : List ℕ
     entry = encode (s .twin .machine) (savedFor (set .«ram_top») ws (s .memory))
 
-    whole : length entry ≡ 68
+    whole : length entry ≡ recordLength
     whole = length-encode (s .twin .machine) (savedFor (set .«ram_top») ws (s .memory)) few
 
     after : List ℕ
@@ -228,13 +228,17 @@ taken c s f b e =
     let h = admitted-done (length (s .memory)) (length (s .journal)) (s .twin .used) (earlyOf c m) (e1 .0) in
     record { size = h .size; space = h .space; few = few-writes c (s .memory) m; lawful = call-fits c (s .memory) m f b }
 
+pub forward-inv : (c : Call) (s : State) (past : List Snap) → Inv s past → Inv (call c s .state) (push (call c s .answer) s past)
+unfolding called
+forward-inv c s past v =
+    let m = s .twin .machine in
+    let f = planOf c (s .memory) m in
+    rw (call-is c s)
+    (call-inv (settingsIn c) (callAnswer (earlyOf c m) f s) s past f (taken c s (v .sound) (v .bytes)) v)
+
 next-inv : (e : Event) (w : World) → Legal e → Inv (w .now) (w .past) → Inv (next e w .now) (next e w .past)
-unfolding next called
-next-inv (forward c) w l v =
-    let m = w .now .twin .machine in
-    let f = planOf c (w .now .memory) m in
-    rw (call-is c (w .now))
-    (call-inv (settingsIn c) (callAnswer (earlyOf c m) f (w .now)) (w .now) (w .past) f (taken c (w .now) (v .sound) (v .bytes)) v)
+unfolding next
+next-inv (forward c) w l v = forward-inv c (w .now) (w .past) v
 next-inv back w l v = undo-inv (w .now) (w .past) v
 next-inv (host a b) w l v = host-inv (w .now) (w .past) a b (l .0) (l .1) v
 
@@ -243,7 +247,7 @@ unfolding run
 run-inv [] w l v = v
 run-inv (e ∷ es) w l v = run-inv es (next e w) (l .1) (next-inv e w (l .0) v)
 
-called-stays : (c : Call) (s : State) → call c s .answer ≢ Done → Unchanged s (call c s)
+pub called-stays : (c : Call) (s : State) → call c s .answer ≢ Done → Unchanged s (call c s)
 unfolding called
 called-stays c s =
     let m = s .twin .machine in
@@ -252,7 +256,7 @@ called-stays c s =
     let ds = reported (settingsIn c .«ram_top») (listed (f .writes)) in
     rw (call-is c s) (λ h. stays a s (recorded (settingsIn c) f s) ds (λ e. h (answered a s (recorded (settingsIn c) f s) ds ∙ e)))
 
-undone-stays : (s : State) → undone s .answer ≢ Done → Unchanged s (undone s)
+pub undone-stays : (s : State) → undone s .answer ≢ Done → Unchanged s (undone s)
 unfolding undone
 undone-stays s h = stays (undoAnswer s) s (restored s) [] (λ e. h (undo-answer s ∙ e))
 

@@ -15,26 +15,26 @@ use Rattle.journal.proofs.Twin
 -- the result, and memory and journal at exit
 pub step : Determines 2 recorded.step.Kinds.ps recorded.step.Kinds.r recorded.step.Reads.Post
 step κs a x y ws vs p q =
-    (p .result ∙ sym (q .result), λ i. ((p .memory-is ∙ sym (q .memory-is)) i, ((p .journal-is ∙ sym (q .journal-is)) i, (tt, (tt, tt)))))
+    (p .0 .result ∙ sym (q .0 .result), λ i. ((p .0 .memory-is ∙ sym (q .0 .memory-is)) i, ((p .0 .journal-is ∙ sym (q .0 .journal-is)) i, (tt, (tt, tt)))))
 
 pub interrupt : Determines 2 recorded.interrupt.Kinds.ps recorded.interrupt.Kinds.r recorded.interrupt.Reads.Post
 interrupt κs a x y ws vs p q =
-    (p .result ∙ sym (q .result), λ i. ((p .memory-is ∙ sym (q .memory-is)) i, ((p .journal-is ∙ sym (q .journal-is)) i, (tt, (tt, (tt, tt))))))
+    (p .0 .result ∙ sym (q .0 .result), λ i. ((p .0 .memory-is ∙ sym (q .0 .memory-is)) i, ((p .0 .journal-is ∙ sym (q .0 .journal-is)) i, (tt, (tt, (tt, tt))))))
 
 pub reset : Determines 2 recorded.reset.Kinds.ps recorded.reset.Kinds.r recorded.reset.Reads.Post
 reset κs a x y ws vs p q =
-    (p .result ∙ sym (q .result), λ i. ((p .memory-is ∙ sym (q .memory-is)) i, ((p .journal-is ∙ sym (q .journal-is)) i, (tt, (tt, tt)))))
+    (p .0 .result ∙ sym (q .0 .result), λ i. ((p .0 .memory-is ∙ sym (q .0 .memory-is)) i, ((p .0 .journal-is ∙ sym (q .0 .journal-is)) i, (tt, (tt, tt)))))
 
 -- the journal is lent to be read only
 pub undo : Determines 2 undos.undo.Kinds.ps undos.undo.Kinds.r undos.undo.Reads.Post
-undo κs a x y ws vs p q = (p .result ∙ sym (q .result), ap (λ (l : List ℕ). (l, (tt, (tt, tt)))) (p .memory-is ∙ sym (q .memory-is)))
+undo κs a x y ws vs p q = (p .0 .result ∙ sym (q .0 .result), ap (λ (l : List ℕ). (l, (tt, (tt, tt)))) (p .0 .memory-is ∙ sym (q .0 .memory-is)))
 
--- a returned part is its bytes: no two that differ fit
+-- a returned part is its bytes and its place: no two that differ in either fit
 pub newest : (κs : Lfts 1) (a : Dens κs undos.newest.Kinds.ps) (x y : resT undos.newest.Kinds.r κs .Denot)
     (ws vs : Lasts (endedOf 1 undos.newest.Kinds.ps undos.newest.Kinds.r) κs a)
     → undos.newest.Reads.Post κs a x (atExit (endedOf 1 undos.newest.Kinds.ps undos.newest.Kinds.r) κs a ws)
-    → undos.newest.Reads.Post κs a y (atExit (endedOf 1 undos.newest.Kinds.ps undos.newest.Kinds.r) κs a vs) → (now x ≡ now y) × (ws ≡ vs)
-newest κs a x y ws vs p q = (p ∙ sym q, refl)
+    → undos.newest.Reads.Post κs a y (atExit (endedOf 1 undos.newest.Kinds.ps undos.newest.Kinds.r) κs a vs) → (now x ≡ now y) × ((x .ptr ≡ y .ptr) × (ws ≡ vs))
+newest κs a x y ws vs p q = (p .0 ∙ sym (q .0), (p .1 ∙ sym (q .1), refl))
 
 pub fresh : Determines 0 Twin.fresh.Kinds.ps Twin.fresh.Kinds.r Twin.fresh.Reads.Post
 fresh κs a x y ws vs p q = (p ∙ sym q, refl)

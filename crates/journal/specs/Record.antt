@@ -45,9 +45,9 @@ waitAt r = getD r (offset Waiting) 0
 unfoldable pub countOf : List ℕ → ℕ
 countOf r = getD r countAt 0
 
-unfoldable pub read : ℕ → List ℕ → List Saved
-read zero r = []
-read (suc n) r = record { place = numberAt r 0 2; byte = getD r 2 0 } ∷ read n (drop entryLength r)
+unfoldable pub readEntries : ℕ → List ℕ → List Saved
+readEntries zero r = []
+readEntries (suc n) r = record { place = numberAt r 0 2; byte = getD r 2 0 } ∷ readEntries n (drop entryLength r)
 
 unfoldable pub entriesOf : List ℕ → List Saved
-entriesOf r = read (countOf r) (drop entriesAt r)
+entriesOf r = readEntries (countOf r) (drop entriesAt r)

@@ -7,6 +7,7 @@ use mathlib.Core.Path.{_≡_}
 use lib.Dec.{leb, ltb, eqb}
 use lib.ListN.{length, getD, take, drop, set}
 use lib.Seq.{sets}
+use Rattle.memory.specs.Fits.{Bytes}
 use Rattle.memory.specs.Map.{landingOf}
 use Rattle.memory.specs.Writes.{writesOf, listed, stored, reported}
 use Rattle.answers.specs.declared.Answer.{Answer}
@@ -15,8 +16,8 @@ use Rattle.memory.specs.declared.Landing.{Landing}
 use Rattle.memory.specs.declared.Landing.the-variants.{Stored, Device, Ignored}
 use Rattle.answers.specs.declared.Refusal.{Refusal}
 use Rattle.answers.specs.declared.Refusal.the-variants.{MemoryLength, Waiting, JournalFull, NoRecord, JournalLength}
-use Rattle.memory.specs.declared.Write.{Write}
-use Rattle.memory.specs.declared.Writes.{Writes}
+use Rattle.memory.specs.declared.writes.Write.{Write}
+use Rattle.memory.specs.declared.writes.Writes.{Writes}
 use Rattle.machine.specs.declared.Wait.{Wait}
 use Rattle.machine.specs.declared.Wait.the-variants.{Running, Cwai, Sync}
 use Rattle.calls.specs.Steps.{stepPlan}
@@ -25,7 +26,7 @@ use Rattle.machine.specs.declared.Settings.{Settings}
 use Rattle.calls.specs.Interrupts.{interruptPlan}
 use Rattle.calls.specs.Resets.{resetPlan}
 use Rattle.calls.specs.declared.InterruptType.{InterruptType}
-use Rattle.machine.specs.Machine.{fresh}
+use Rattle.machine.specs.Machine.{MachineFits, fresh}
 use Rattle.journal.specs.Record.{Saved, encode, recordLength}
 use Rattle.journal.specs.declared.Outcome.{Outcome}
 use Rattle.journal.specs.declared.Twin.{Twin}
@@ -43,6 +44,11 @@ freshTwin = record { machine = fresh; used = 0 }
 abbrev pub inHand : List ℕ → List ℕ → Twin → State
 inHand memory journal twin = record { twin = twin; memory = memory; journal = journal }
 
+-- What the types of a call's arguments say: each number in the machine fits its width, and memory is bytes
+pub record Typed (s : State) : Type 0 where
+  pub machine : MachineFits (s .twin .machine)
+  pub memory : Bytes (s .memory)
+
 -- How a call ends: its answer, what is in hand afterwards, and the device writes that it reports
 pub record Ended : Type 0 where
   pub answer : Answer
@@ -54,7 +60,7 @@ abbrev pub ending : Answer → State → State → List Write → Ended
 ending Done now new devices = record { answer = Done; state = new; devices = writesOf devices }
 ending (Refused x) now new devices = record { answer = Refused x; state = now; devices = writesOf [] }
 
--- what the code returns, and leaves in memory and journal, is that end
+-- what the code returns of an end; `Leaves` says that a result, a memory and a journal are those of the end e
 abbrev pub returned : Ended → Outcome
 returned e = record { devices = e .devices; twin = e .state .twin; answer = e .answer }
 
@@ -89,7 +95,7 @@ unfoldable pub savedFor : ℕ → List Write → List ℕ → List Saved
 savedFor top [] mem = []
 savedFor top (w ∷ ws) mem = savedAt mem (landingOf (w .at) top (w .system)) ++ savedFor top ws mem
 
--- Before a recorded call looks further: 1, 12, then a refusal of its own (step's 2), then 10
+-- What is judged first, in this order: 1, 12, then `early`, the call's own refusal (2 of a step), then 10
 unfoldable pub admitted : ℕ → ℕ → ℕ → Answer → Answer
 admitted memory journal used early =
     need (eqb memory 65536) MemoryLength
@@ -109,7 +115,7 @@ recorded t p s =
       journal = withRecord (s .twin .used) (encode (s .twin .machine) (savedFor (t .«ram_top») (listed (p .writes)) (s .memory))) (s .journal);
     }
 
--- so answered, a call with this plan ends so
+-- how a call with this plan ends, by its answer
 abbrev pub concluded : Answer → Settings → Plan → State → Ended
 concluded a t p s = ending a s (recorded t p s) (reported (t .«ram_top») (listed (p .writes)))
 

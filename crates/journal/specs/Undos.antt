@@ -1,7 +1,7 @@
 -- Undo and the newest record (document 01, sections "Journal" and "Numbers returned").
 -- Assumes nothing.
 use Prim.Native.Nat.{ℕ, _-_, _*_}
-use mathlib.Core.Bool.{cond, _&&_}
+use mathlib.Core.Bool.{Bool, cond, _&&_}
 use mathlib.Core.List.{List, [], _∷_}
 use lib.Dec.{leb, ltb, eqb}
 use lib.ListN.{length, set}
@@ -12,9 +12,15 @@ use Rattle.machine.specs.Record.{machineOf}
 use Rattle.journal.specs.Record.{Saved, most, recordLength, waitAt, countOf, entriesOf}
 use Rattle.journal.specs.Recorded.{State, Ended, ending, need, recordAt}
 
--- The newest record on request: an empty part where no whole record is there
+-- The newest record on request: an empty part where no whole record is there; and where in the journal the part begins
+abbrev pub isThere : List ℕ → ℕ → Bool
+isThere j used = ltb 0 used && leb (used * recordLength) (length j)
+
 unfoldable pub newestOf : List ℕ → ℕ → List ℕ
-newestOf j used = cond (ltb 0 used && leb (used * recordLength) (length j)) (recordAt (used - 1) j) []
+newestOf j used = cond (isThere j used) (recordAt (used - 1) j) []
+
+unfoldable pub newestFrom : List ℕ → ℕ → ℕ
+newestFrom j used = cond (isThere j used) ((used - 1) * recordLength) 0
 
 -- Undo: 1, 12 by the length, 11, 12 by the record
 abbrev pub newestIn : State → List ℕ

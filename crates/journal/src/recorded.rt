@@ -8,7 +8,7 @@ ghost use Rattle.memory.specs.Map.{landingOf};
 ghost use Rattle.memory.specs.Writes.{listed, writesOf};
 ghost use Rattle.machine.specs.Record.{header, headerLength};
 ghost use Rattle.journal.specs.Record.{most, entryLength, entriesAt, recordLength, entries, encode};
-ghost use Rattle.journal.specs.Recorded.{inHand, Leaves, savedAt, savedFor, admitted, concluded, whileWaiting, stepped, interrupted, wasReset};
+ghost use Rattle.journal.specs.Recorded.{inHand, Typed, Leaves, savedAt, savedFor, admitted, concluded, whileWaiting, stepped, interrupted, wasReset};
 use super::COUNT;
 use super::ENTRIES;
 use super::ENTRY;
@@ -20,7 +20,9 @@ use answers::Answer;
 use answers::Refusal;
 use calls::InterruptType;
 use calls::Plan;
+use machine::CYCLES;
 use machine::HEADER;
+use machine::INSTRUCTIONS;
 use machine::Machine;
 use machine::Settings;
 use machine::Wait;
@@ -55,9 +57,13 @@ fn write_header(rest: &mut [u8], machine: Machine)
     requires { ⌜ recordLength ≤ length (now rest) ⌝ }
     ensures { λ _. ⌜ now (rest .exit) ≡ header machine ++ (replicate (recordLength - headerLength) 0 ++ drop recordLength (now (rest .entry))) ⌝ }
 {
-    let first = machine::header_of(machine);
+    let front = machine::front_of(machine);
+    let cycles = machine::counter_of(machine.cycles);
+    let instructions = machine::counter_of(machine.instructions);
     let unused = [0u8; RECORD - HEADER];
-    lay(rest, 0, &first);
+    lay(rest, 0, &front);
+    lay(rest, CYCLES, &cycles);
+    lay(rest, INSTRUCTIONS, &instructions);
     lay(rest, COUNT, &unused);
 }
 
@@ -176,6 +182,7 @@ fn waiting(wait: Wait) -> Answer
 
 pub fn step(mem: &mut [u8], journal: &mut [u8], twin: Twin, settings: Settings) -> Outcome
     ensures { λ r. ⌜ Leaves r (now (mem .exit)) (now (journal .exit)) (stepped settings (inHand (now (mem .entry)) (now (journal .entry)) twin)) ⌝ }
+    ensures { λ _. ⌜ Typed (inHand (now (mem .entry)) (now (journal .entry)) twin) ⌝ }
 {
     let machine = twin.machine;
     let wait = machine.wait;
@@ -196,6 +203,7 @@ pub fn interrupt(
     which: InterruptType,
 ) -> Outcome
     ensures { λ r. ⌜ Leaves r (now (mem .exit)) (now (journal .exit)) (interrupted settings which (inHand (now (mem .entry)) (now (journal .entry)) twin)) ⌝ }
+    ensures { λ _. ⌜ Typed (inHand (now (mem .entry)) (now (journal .entry)) twin) ⌝ }
 {
     let machine = twin.machine;
     match admits(mem.len(), journal.len(), twin.used, Answer::Done) {
@@ -209,6 +217,7 @@ pub fn interrupt(
 
 pub fn reset(mem: &mut [u8], journal: &mut [u8], twin: Twin, settings: Settings) -> Outcome
     ensures { λ r. ⌜ Leaves r (now (mem .exit)) (now (journal .exit)) (wasReset settings (inHand (now (mem .entry)) (now (journal .entry)) twin)) ⌝ }
+    ensures { λ _. ⌜ Typed (inHand (now (mem .entry)) (now (journal .entry)) twin) ⌝ }
 {
     let machine = twin.machine;
     match admits(mem.len(), journal.len(), twin.used, Answer::Done) {

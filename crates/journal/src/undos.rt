@@ -1,10 +1,10 @@
 // Undo, and the newest record as a part of the journal.
 ghost use mathlib.Core.Path.{_≡_};
-ghost use Prim.Native.Nat.{_≤_};
+ghost use Prim.Native.Nat.{_+_, _≤_};
 ghost use lib.ListN.{length, drop};
-ghost use Rattle.journal.specs.Record.{most, entriesAt, recordLength, read};
-ghost use Rattle.journal.specs.Recorded.{inHand, Leaves};
-ghost use Rattle.journal.specs.Undos.{newestOf, putBack, undone};
+ghost use Rattle.journal.specs.Record.{most, entriesAt, recordLength, readEntries};
+ghost use Rattle.journal.specs.Recorded.{inHand, Typed, Leaves};
+ghost use Rattle.journal.specs.Undos.{newestOf, newestFrom, putBack, undone};
 use super::COUNT;
 use super::ENTRIES;
 use super::ENTRY;
@@ -21,7 +21,7 @@ use memory::Writes;
 // The old bytes of a record's first n entries, put back raw, last entry first.
 fn put_back(mem: &mut [u8], r: &[u8], n: usize)
     requires { ⌜ (length (now mem) ≡ 65536) × ((length (now r) ≡ recordLength) × (n ≤ most)) ⌝ }
-    ensures { λ _. ⌜ now (mem .exit) ≡ putBack (now (mem .entry)) (read n (drop entriesAt (now (r .entry)))) ⌝ }
+    ensures { λ _. ⌜ now (mem .exit) ≡ putBack (now (mem .entry)) (readEntries n (drop entriesAt (now (r .entry)))) ⌝ }
 {
     let mut k = 0;
     while k < n {
@@ -35,6 +35,7 @@ fn put_back(mem: &mut [u8], r: &[u8], n: usize)
 // The newest record is taken back. The journal's bytes stay, and its room is used by the next record.
 pub fn undo(mem: &mut [u8], journal: &[u8], twin: Twin) -> Outcome
     ensures { λ r. ⌜ Leaves r (now (mem .exit)) (now (journal .entry)) (undone (inHand (now (mem .entry)) (now (journal .entry)) twin)) ⌝ }
+    ensures { λ _. ⌜ Typed (inHand (now (mem .entry)) (now (journal .entry)) twin) ⌝ }
 {
     let used = twin.used;
     if mem.len() != 65536 {
@@ -71,6 +72,7 @@ pub fn undo(mem: &mut [u8], journal: &[u8], twin: Twin) -> Outcome
 // The newest record, as a part of the journal; an empty part where no whole record is there.
 pub fn newest(journal: &[u8], used: usize) -> &[u8]
     ensures { λ r. ⌜ now r ≡ newestOf (now (journal .entry)) used ⌝ }
+    ensures { λ r. ⌜ r .ptr ≡ (journal .entry .ptr .0, newestFrom (now (journal .entry)) used + journal .entry .ptr .1) ⌝ }
 {
     if used == 0 {
         return &journal[..0];

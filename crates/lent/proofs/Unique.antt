@@ -7,9 +7,9 @@ use Rattle.lent.proofs
 pub step : DeterminesIn proofs.step.ended (λ M 𝓤 H A mem run. proofs.step.clauses 𝓤 H A mem run)
 step M 𝓤 H A mem run κs a g x y ws vs =
     facts 𝓤 (λ p q.
-    (p .result ∙ sym (q .result), λ i. ((p .twin-is ∙ sym (q .twin-is)) i, ((p .memory-is ∙ sym (q .memory-is)) i, ((p .journal-is ∙ sym (q .journal-is)) i, (tt, tt))))))
+    (p .0 .result ∙ sym (q .0 .result), λ i. ((p .0 .twin-is ∙ sym (q .0 .twin-is)) i, ((p .0 .memory-is ∙ sym (q .0 .memory-is)) i, ((p .0 .journal-is ∙ sym (q .0 .journal-is)) i, (tt, tt))))))
 
 -- the journal is lent to be read only
 pub undo : DeterminesIn proofs.undo.ended (λ M 𝓤 H A mem run. proofs.undo.clauses 𝓤 H A mem run)
 undo M 𝓤 H A mem run κs a g x y ws vs =
-    facts 𝓤 (λ p q. (p .result ∙ sym (q .result), λ i. ((p .twin-is ∙ sym (q .twin-is)) i, ((p .memory-is ∙ sym (q .memory-is)) i, (tt, tt)))))
+    facts 𝓤 (λ p q. (p .0 .result ∙ sym (q .0 .result), λ i. ((p .0 .twin-is ∙ sym (q .0 .twin-is)) i, ((p .0 .memory-is ∙ sym (q .0 .memory-is)) i, (tt, tt)))))

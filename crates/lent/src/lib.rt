@@ -1,6 +1,6 @@
 // The machine lent by its owner: step and undo on a twin behind a `&mut`, over the recorded calls on values.
-// Each is three statements, whatever the call does: every test and every refusal is below.
-ghost use Rattle.journal.specs.Recorded.{inHand, stepped};
+// Each is three lines: every test and every refusal is in the call on values.
+ghost use Rattle.journal.specs.Recorded.{inHand, Typed, stepped};
 ghost use Rattle.journal.specs.Undos.{undone};
 ghost use Rattle.lent.specs.Lending.{Returns, Leaves};
 use answers::Answer;
@@ -21,7 +21,7 @@ pub struct Returned {
 }
 
 fn step_value(twin: Twin, mem: &mut [u8], journal: &mut [u8], settings: Settings) -> Returned
-    ensures { λ r. ⌜ Returns r (now (mem .exit)) (now (journal .exit)) (stepped settings (inHand (now (mem .entry)) (now (journal .entry)) twin)) ⌝ }
+    ensures { λ r. ⌜ Returns r (now (mem .exit)) (now (journal .exit)) (stepped settings (inHand (now (mem .entry)) (now (journal .entry)) twin)) × Typed (inHand (now (mem .entry)) (now (journal .entry)) twin) ⌝ }
 {
     let outcome = journal::step(mem, journal, twin, settings);
     let devices = outcome.devices;
@@ -34,7 +34,7 @@ fn step_value(twin: Twin, mem: &mut [u8], journal: &mut [u8], settings: Settings
 }
 
 fn undo_value(twin: Twin, mem: &mut [u8], journal: &[u8]) -> Returned
-    ensures { λ r. ⌜ Returns r (now (mem .exit)) (now (journal .entry)) (undone (inHand (now (mem .entry)) (now (journal .entry)) twin)) ⌝ }
+    ensures { λ r. ⌜ Returns r (now (mem .exit)) (now (journal .entry)) (undone (inHand (now (mem .entry)) (now (journal .entry)) twin)) × Typed (inHand (now (mem .entry)) (now (journal .entry)) twin) ⌝ }
 {
     let outcome = journal::undo(mem, journal, twin);
     let devices = outcome.devices;
@@ -48,7 +48,7 @@ fn undo_value(twin: Twin, mem: &mut [u8], journal: &[u8]) -> Returned
 
 // The recorded step of a lent twin.
 pub fn step(twin: &mut Twin, mem: &mut [u8], journal: &mut [u8], settings: Settings) -> Reported
-    ensures { λ r. ⌜ Leaves r (now (twin .exit)) (now (mem .exit)) (now (journal .exit)) (stepped settings (inHand (now (mem .entry)) (now (journal .entry)) (now (twin .entry)))) ⌝ }
+    ensures { λ r. ⌜ Leaves r (now (twin .exit)) (now (mem .exit)) (now (journal .exit)) (stepped settings (inHand (now (mem .entry)) (now (journal .entry)) (now (twin .entry)))) × Typed (inHand (now (mem .entry)) (now (journal .entry)) (now (twin .entry))) ⌝ }
 {
     let done = step_value(*twin, mem, journal, settings);
     *twin = done.twin;
@@ -57,7 +57,7 @@ pub fn step(twin: &mut Twin, mem: &mut [u8], journal: &mut [u8], settings: Setti
 
 // The newest recorded call of a lent twin is taken back. The journal is only read.
 pub fn undo(twin: &mut Twin, mem: &mut [u8], journal: &[u8]) -> Reported
-    ensures { λ r. ⌜ Leaves r (now (twin .exit)) (now (mem .exit)) (now (journal .entry)) (undone (inHand (now (mem .entry)) (now (journal .entry)) (now (twin .entry)))) ⌝ }
+    ensures { λ r. ⌜ Leaves r (now (twin .exit)) (now (mem .exit)) (now (journal .entry)) (undone (inHand (now (mem .entry)) (now (journal .entry)) (now (twin .entry)))) × Typed (inHand (now (mem .entry)) (now (journal .entry)) (now (twin .entry))) ⌝ }
 {
     let done = undo_value(*twin, mem, journal);
     *twin = done.twin;

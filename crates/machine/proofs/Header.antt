@@ -11,7 +11,7 @@ use lib.Dec.{lit<, lit≤}
 use lib.ListN.{length, getD}
 use Rattle.registers.specs.Fits.{Fits}
 use Rattle.machine.specs.Machine.{MachineFits}
-use Rattle.machine.specs.Record.{bytes, numberAt, waitByte, waitOf, header, machineOf, headerLength, HeaderBack}
+use Rattle.machine.specs.Record.{bytes, numberAt, Cycles, waitByte, waitOf, width, offset, header, front, counter, machineOf, headerLength, HeaderInParts, HeaderBack}
 use Rattle.machine.specs.declared.Machine.{Machine}
 use Rattle.machine.specs.declared.Wait.{Wait}
 use Rattle.machine.specs.declared.Wait.the-variants.{Running, Cwai, Sync}
@@ -31,8 +31,8 @@ unfolding bytes
 one x h = let b : x / 1 % 256 ≡ x = omega arith in λ i. b i ∷ []
 
 pub eight : (x : ℕ)
-    → bytes 8 x ≡ x / 0x100_0000_0000_0000 % 256 ∷ x / 0x1_0000_0000_0000 % 256 ∷ x / 0x100_0000_0000 % 256 ∷ x / 0x1_0000_0000 % 256 ∷ x / 0x100_0000 % 256 ∷ x / 0x1_0000 % 256 ∷ x / 0x100 % 256 ∷ x % 256 ∷ []
-unfolding bytes
+    → counter x ≡ x / 0x100_0000_0000_0000 % 256 ∷ x / 0x1_0000_0000_0000 % 256 ∷ x / 0x100_0000_0000 % 256 ∷ x / 0x1_0000_0000 % 256 ∷ x / 0x100_0000 % 256 ∷ x / 0x1_0000 % 256 ∷ x / 0x100 % 256 ∷ x % 256 ∷ []
+unfolding counter bytes
 eight x =
     let b : x / 1 % 256 ≡ x % 256 = omega arith in
     λ i. x / 0x100_0000_0000_0000 % 256 ∷ x / 0x1_0000_0000_0000 % 256 ∷ x / 0x100_0000_0000 % 256 ∷ x / 0x1_0000_0000 % 256 ∷ x / 0x100_0000 % 256 ∷ x / 0x1_0000 % 256 ∷ x / 0x100 % 256 ∷ b i ∷ []
@@ -104,12 +104,10 @@ wait-rest (suc (suc n)) h k = refl
 
 -- byte by byte
 pub spelled : (m : Machine) → Fits (m .regs)
-    → header m
+    → front m
     ≡ let r = m .regs in
-    r .a ∷ r .b ∷ r .x / 256 ∷ r .x % 256 ∷ r .y / 256 ∷ r .y % 256 ∷ r .u / 256 ∷ r .u % 256 ∷ r .s / 256 ∷ r .s % 256 ∷ r .pc / 256 ∷ r .pc % 256 ∷ r .dp ∷ r .cc .reg ∷ waitByte (m .wait)
-    ∷ m .cycles / 0x100_0000_0000_0000 % 256 ∷ m .cycles / 0x1_0000_0000_0000 % 256 ∷ m .cycles / 0x100_0000_0000 % 256 ∷ m .cycles / 0x1_0000_0000 % 256 ∷ m .cycles / 0x100_0000 % 256 ∷ m .cycles / 0x1_0000 % 256 ∷ m .cycles / 0x100 % 256 ∷ m .cycles % 256
-    ∷ m .instructions / 0x100_0000_0000_0000 % 256 ∷ m .instructions / 0x1_0000_0000_0000 % 256 ∷ m .instructions / 0x100_0000_0000 % 256 ∷ m .instructions / 0x1_0000_0000 % 256 ∷ m .instructions / 0x100_0000 % 256 ∷ m .instructions / 0x1_0000 % 256 ∷ m .instructions / 0x100 % 256 ∷ m .instructions % 256 ∷ []
-unfolding header
+    r .a ∷ r .b ∷ r .x / 256 ∷ r .x % 256 ∷ r .y / 256 ∷ r .y % 256 ∷ r .u / 256 ∷ r .u % 256 ∷ r .s / 256 ∷ r .s % 256 ∷ r .pc / 256 ∷ r .pc % 256 ∷ r .dp ∷ r .cc .reg ∷ waitByte (m .wait) ∷ []
+unfolding front
 spelled m f =
     let r = m .regs in
     rw (
@@ -123,9 +121,19 @@ spelled m f =
       one (r .dp) (f .dp),
       one (r .cc .reg) (f .cc),
       one (waitByte (m .wait)) (omega (arith, wait-small (m .wait))),
-      eight (m .cycles),
-      eight (m .instructions),
     )
+
+pub header-in-parts : HeaderInParts
+unfolding header front counter bytes
+header-in-parts m = refl
+
+pub length-front : (m : Machine) → length (front m) ≡ offset Cycles
+unfolding front bytes
+length-front m = refl
+
+pub length-counter : (n : ℕ) → length (counter n) ≡ width Cycles
+unfolding counter bytes
+length-counter n = refl
 
 pub length-header : (m : Machine) → length (header m) ≡ headerLength
 unfolding header bytes

@@ -22,8 +22,11 @@ stores κs a x y ws vs p q = (p ∙ sym q, refl)
 pub refuses : Determines 0 Effect.refuses.Kinds.ps Effect.refuses.Kinds.r Effect.refuses.Reads.Post
 refuses κs a x y ws vs p q = (p ∙ sym q, refl)
 
-pub header-of : Determines 0 record.header_of.Kinds.ps record.header_of.Kinds.r record.header_of.Reads.Post
-header-of κs a x y ws vs p q = (p ∙ sym q, refl)
+pub front-of : Determines 0 record.front_of.Kinds.ps record.front_of.Kinds.r record.front_of.Reads.Post
+front-of κs a x y ws vs p q = (p ∙ sym q, refl)
+
+pub counter-of : Determines 0 record.counter_of.Kinds.ps record.counter_of.Kinds.r record.counter_of.Reads.Post
+counter-of κs a x y ws vs p q = (p ∙ sym q, refl)
 
 pub machine-of : Determines 1 record.machine_of.Kinds.ps record.machine_of.Kinds.r record.machine_of.Reads.Post
 machine-of κs a x y ws vs p q = (p ∙ sym q, refl)

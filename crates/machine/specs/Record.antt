@@ -96,6 +96,14 @@ laid (f ∷ fs) m = bytes (width f) (fieldOf f m) ++ laid fs m
 unfoldable pub header : Machine → List ℕ
 header m = laid fields m
 
+-- the fields before the counters
+unfoldable pub front : Machine → List ℕ
+front m = laid (take (rank Cycles) fields) m
+
+-- a counter's bytes
+unfoldable pub counter : ℕ → List ℕ
+counter n = bytes (width Cycles) n
+
 -- the bytes of some fields
 abbrev pub widths : List Field → ℕ
 widths [] = 0
@@ -131,6 +139,9 @@ machineOf r =
       wait = waitOf (held Waiting r);
     }
 
--- the law: what is read back is what was written, whatever follows it
+-- the laws: the header is the fields before the counters and the two counters; what is read back is what was written, whatever follows it
+abbrev pub HeaderInParts : Type 0
+HeaderInParts = (m : Machine) → (front m ++ counter (m .cycles)) ++ counter (m .instructions) ≡ header m
+
 abbrev pub HeaderBack : Type 0
 HeaderBack = (m : Machine) (rest : List ℕ) → MachineFits m → machineOf (header m ++ rest) ≡ m

@@ -2,7 +2,7 @@
 ghost use mathlib.Core.Path.{_≡_};
 ghost use Prim.Native.Nat.{_+_, _^_, _≤_, _<_};
 ghost use lib.ListN.{getD};
-ghost use Rattle.machine.specs.Record.{bytes, numberAt, waitByte, waitOf, header, machineOf};
+ghost use Rattle.machine.specs.Record.{bytes, numberAt, waitByte, waitOf, front, counter, machineOf};
 use super::Machine;
 use super::Wait;
 use registers::CCBits;
@@ -29,12 +29,15 @@ const CC: usize = DP + 1;
 
 pub const WAIT: usize = CC + 1;
 
-const CYCLES: usize = WAIT + 1;
+pub const CYCLES: usize = WAIT + 1;
 
-const INSTRUCTIONS: usize = CYCLES + 8;
+// The bytes of a counter.
+const COUNTER: usize = 8;
+
+pub const INSTRUCTIONS: usize = CYCLES + COUNTER;
 
 // How many bytes the fields take.
-pub const HEADER: usize = INSTRUCTIONS + 8;
+pub const HEADER: usize = INSTRUCTIONS + COUNTER;
 
 fn wait_byte(wait: Wait) -> u8
     ensures { λ r. ⌜ r ≡ waitByte wait ⌝ }
@@ -46,15 +49,15 @@ fn wait_byte(wait: Wait) -> u8
     }
 }
 
-pub fn header_of(machine: Machine) -> [u8; HEADER]
-    ensures { λ r. ⌜ r ≡ header machine ⌝ }
+// The fields before the counters. The counters are apart from them, since the compiler stores an array of eight shifted bytes as one
+// number and one of 31 byte by byte (docs/PERFORMANCE.md).
+pub fn front_of(machine: Machine) -> [u8; CYCLES]
+    ensures { λ r. ⌜ r ≡ front machine ⌝ }
 {
     let wait = machine.wait;
     let w = wait_byte(wait);
     let regs = machine.regs;
     let cc = regs.cc.get_as_byte();
-    let c = machine.cycles;
-    let i = machine.instructions;
     [
         regs.a,
         regs.b,
@@ -71,22 +74,21 @@ pub fn header_of(machine: Machine) -> [u8; HEADER]
         regs.dp,
         cc,
         w,
-        (c / 0x100_0000_0000_0000 % 256) as u8,
-        (c / 0x1_0000_0000_0000 % 256) as u8,
-        (c / 0x100_0000_0000 % 256) as u8,
-        (c / 0x1_0000_0000 % 256) as u8,
-        (c / 0x100_0000 % 256) as u8,
-        (c / 0x1_0000 % 256) as u8,
-        (c / 0x100 % 256) as u8,
-        (c % 256) as u8,
-        (i / 0x100_0000_0000_0000 % 256) as u8,
-        (i / 0x1_0000_0000_0000 % 256) as u8,
-        (i / 0x100_0000_0000 % 256) as u8,
-        (i / 0x1_0000_0000 % 256) as u8,
-        (i / 0x100_0000 % 256) as u8,
-        (i / 0x1_0000 % 256) as u8,
-        (i / 0x100 % 256) as u8,
-        (i % 256) as u8,
+    ]
+}
+
+pub fn counter_of(n: u64) -> [u8; COUNTER]
+    ensures { λ r. ⌜ r ≡ counter n ⌝ }
+{
+    [
+        (n / 0x100_0000_0000_0000 % 256) as u8,
+        (n / 0x1_0000_0000_0000 % 256) as u8,
+        (n / 0x100_0000_0000 % 256) as u8,
+        (n / 0x1_0000_0000 % 256) as u8,
+        (n / 0x100_0000 % 256) as u8,
+        (n / 0x1_0000 % 256) as u8,
+        (n / 0x100 % 256) as u8,
+        (n % 256) as u8,
     ]
 }
 
@@ -133,8 +135,8 @@ pub fn machine_of(r: &[u8]) -> Machine
     let s = number_at(r, S, 2) as u16;
     let pc = number_at(r, PC, 2) as u16;
     let wait = wait_of(byte_at(r, WAIT));
-    let cycles = number_at(r, CYCLES, 8);
-    let instructions = number_at(r, INSTRUCTIONS, 8);
+    let cycles = number_at(r, CYCLES, COUNTER);
+    let instructions = number_at(r, INSTRUCTIONS, COUNTER);
     Machine {
         cycles,
         instructions,

@@ -1,18 +1,18 @@
 -- A call that writes one value, from what its parts found.
 -- Assumes nothing.
-use mathlib.Core.Path.{_≡_, refl, sym, _∙_}
+use mathlib.Core.Path.{_≡_, refl}
 use mathlib.Core.List.{List, []}
 use Prim.Native.Nat.{ℕ}
 use lib.ListN.{length}
 use Rattle.u8oru16.specs.declared.u8u16.{u8u16}
 use Rattle.memory.specs.Map.{isSystem}
 use Rattle.memory.specs.Writes.{writesOf, listed, valueWrites, stored, reported}
-use Rattle.memory.specs.Calls.{writeAnswer, wroteOf, memoryAfter}
+use Rattle.memory.specs.Access.{writeAnswer, wroteOf, memoryAfter}
 use Rattle.memory.specs.declared.AccessType.{AccessType}
 use Rattle.answers.specs.declared.Answer.{Answer}
 use Rattle.answers.specs.declared.Answer.the-variants.{Done, Refused}
 use Rattle.answers.specs.declared.Refusal.{Refusal}
-use Rattle.memory.specs.declared.Writes.{Writes}
+use Rattle.memory.specs.declared.writes.Writes.{Writes}
 use Rattle.memory.specs.declared.Wrote.{Wrote}
 use Rattle.memory.proofs.Folds.{listed-back}
 

@@ -1,8 +1,8 @@
 -- One write more: memory, the device writes, and the twelve places.
 -- Assumes nothing.
-use Prim.Native.Nat.{ℕ, zero, suc, _+_, _-_, _≤_, _<_}
+use Prim.Native.Nat.{ℕ, suc, _+_, _-_, _≤_, _<_}
 use mathlib.Core.Path.{_≡_, refl, sym, ap, _∙_}
-use mathlib.Core.Bool.{Bool, true, false, cond, _&&_}
+use mathlib.Core.Bool.{true, false, cond, _&&_}
 use mathlib.Core.List.{List, [], _∷_, _++_, append-assoc, append-nil}
 use mathlib.Core.Logic.{_⊎_, ⊎-elim}
 use native.Mathlib.Omega.{arith}
@@ -16,8 +16,8 @@ use Rattle.memory.specs.Map.{placeOf, byteAt, landingOf}
 use Rattle.memory.specs.Writes.{putAt, deviceAt, isDevice, overOf, stored, reported, twelve, writesOf, added, listed}
 use Rattle.memory.specs.declared.Landing.{Landing}
 use Rattle.memory.specs.declared.Landing.the-variants.{Stored, Device, Ignored}
-use Rattle.memory.specs.declared.Write.{Write}
-use Rattle.memory.specs.declared.Writes.{Writes}
+use Rattle.memory.specs.declared.writes.Write.{Write}
+use Rattle.memory.specs.declared.writes.Writes.{Writes}
 
 length-put : (l : Landing) (b : ℕ) (mem : List ℕ) → length (putAt l b mem) ≡ length mem
 length-put (Stored p) b mem = length-set mem p b

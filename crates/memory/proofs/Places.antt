@@ -1,20 +1,20 @@
 -- Where stores go: every place is below FF00, and a store changes its own place alone.
 -- Assumes nothing.
 use Prim.Native.Nat.{ℕ, _-_, _≤_, _<_}
-use mathlib.Core.Path.{_≡_, refl, sym, ap, _∙_}
+use mathlib.Core.Path.{_≡_, refl, _∙_}
 use mathlib.Core.Bool.{Bool, true, false, not, _&&_}
 use mathlib.Core.List.{List, [], _∷_}
-use mathlib.Core.Logic.{_≢_, _⊎_, inl, inr}
+use mathlib.Core.Logic.{_⊎_, inl, inr}
 use native.Mathlib.Decide.{decLt}
 use native.Mathlib.Omega.{arith}
 use lib.Dec.{ltb}
 use lib.ListN.{getD}
 use lib.Seq.{getD-set-other}
+use Rattle.memory.specs.Laws.{StoredBelow, TopStays}
 use Rattle.memory.specs.Map.{placeOf, landingOf}
 use Rattle.memory.specs.Writes.{putAt, stored}
 use Rattle.memory.specs.declared.Landing.{Landing}
 use Rattle.memory.specs.declared.Landing.the-variants.{Stored, Device, Ignored}
-use Rattle.memory.specs.declared.Write.{Write}
 use Rattle.memory.proofs.Ranges.{place-high, place-low, first-devices, unused, second-devices, above, kept}
 
 -- a landing that, if it is a store, goes below FF00
@@ -40,22 +40,15 @@ low at top system l = go (decLt at 0xFF00) (decLt at 0xFF40) (decLt at 0xFFC0) (
         let p : at - 0x4000 < 0xFF00 = omega arith in
         judged (inr h) (rw (← (place-high at h l)) p) (ltb top at && not system) refl
 
--- no write stores at FF00 or above
-pub stored-below : (at top : ℕ) (system : Bool) (p : ℕ) → at < 65536 → landingOf at top system ≡ Stored p → p < 0xFF00
+pub stored-below : StoredBelow
 stored-below at top system p l e = rw e at (low at top system l)
-
--- what every write of a list satisfies
-abbrev pub InMap : List Write → Type 0
-InMap [] = Unit
-InMap (w ∷ ws) = (w .at < 65536) × InMap ws
 
 put-other : (l : Landing) (b k : ℕ) (mem : List ℕ) → Low l → 0xFF00 ≤ k → getD (putAt l b mem) k 0 ≡ getD mem k 0
 put-other (Stored p) b k mem h g = getD-set-other mem p k b 0 (omega arith)
 put-other Device b k mem h g = refl
 put-other Ignored b k mem h g = refl
 
--- so a list of writes leaves FF00-FFFF of memory as it is
-pub top-stays : (top : ℕ) (ws : List Write) (mem : List ℕ) (k : ℕ) → InMap ws → 0xFF00 ≤ k → getD (stored top ws mem) k 0 ≡ getD mem k 0
+pub top-stays : TopStays
 unfolding stored
 top-stays top [] mem k h g = refl
 top-stays top (w ∷ ws) mem k h g =

@@ -1,15 +1,15 @@
 -- The twelve places of a list of writes: no call of `added` changes their number, so at most twelve writes are listed.
 -- Assumes nothing.
-use Prim.Native.Nat.{ℕ, _+_, _≤_}
+use Prim.Native.Nat.{_+_, _≤_}
 use mathlib.Core.Path.{_≡_, refl, _∙_}
 use mathlib.Core.Bool.{Bool, true, false, cond}
 use mathlib.Core.List.{List, [], _∷_}
 use native.Mathlib.Omega.{arith}
 use lib.Dec.{ltb}
-use lib.ListN.{length, take, set, length-set, length-take}
+use lib.ListN.{length, set, length-set, length-take}
 use Rattle.memory.specs.Writes.{twelve, writesOf, listed, added, addedAll}
-use Rattle.memory.specs.declared.Write.{Write}
-use Rattle.memory.specs.declared.Writes.{Writes}
+use Rattle.memory.specs.declared.writes.Write.{Write}
+use Rattle.memory.specs.declared.writes.Writes.{Writes}
 
 pub record Full (w : Writes) : Type 0 where
   pub places : length (w .list) ≡ 12

@@ -1,4 +1,5 @@
 pub mod Map
 pub mod Writes
+pub mod Access
 pub mod Fits
-pub mod Calls
+pub mod Laws

@@ -10,16 +10,16 @@ use Rattle.u8oru16.specs.declared.u8u16.{u8u16}
 use Rattle.u8oru16.specs.declared.u8u16.the-variants.{u8, u16}
 use Rattle.memory.specs.declared.Landing.{Landing}
 use Rattle.memory.specs.declared.Landing.the-variants.{Stored, Device, Ignored}
-use Rattle.memory.specs.declared.Write.{Write}
-use Rattle.memory.specs.declared.Writes.{Writes}
+use Rattle.memory.specs.declared.writes.Write.{Write}
+use Rattle.memory.specs.declared.writes.Writes.{Writes}
 
--- memory after a byte that lands so
+-- memory after byte b is written, by where the write lands
 abbrev pub putAt : Landing → ℕ → List ℕ → List ℕ
 putAt (Stored p) b mem = set mem p b
 putAt Device b mem = mem
 putAt Ignored b mem = mem
 
--- a write that lands so, if it is a device's
+-- the write itself if it goes to a device, else nothing
 abbrev pub deviceAt : Landing → Write → List Write
 deviceAt (Stored p) w = []
 deviceAt Device w = w ∷ []
@@ -30,7 +30,7 @@ isDevice (Stored p) = false
 isDevice Device = true
 isDevice Ignored = false
 
--- a byte b at a place p, after a write that lands so
+-- the byte at place p, which was b, after v is written, by where the write lands
 abbrev pub overOf : ℕ → ℕ → ℕ → Landing → ℕ → ℕ
 overOf b p size (Stored q) v = cond (eqb q p && ltb p size) v b
 overOf b p size Device v = b

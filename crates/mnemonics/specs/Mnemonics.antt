@@ -9,7 +9,7 @@ use mathlib.Core.List.{List, [], _∷_, _++_}
 use lib.Dec.{ltb}
 use lib.ListN.{length, replicate, getD}
 use Rattle.registers.specs.ConditionCodes.{ascii}
-use Rattle.registers.specs.RegisterSet.{textOf, wordName, indexWord, stackWord}
+use Rattle.registers.specs.Names.{textOf, wordName, indexWord, stackWord}
 use Rattle.registers.specs.declared.Word.{Word}
 use Rattle.opcodes.specs.Manual.{Row, Column, rows, each}
 use Rattle.opcodes.specs.declared.Acc.{Acc}

@@ -39,23 +39,16 @@ pub fn put_text(line: Line, text: &[u8], n: usize) -> Line {
     out
 }
 
-fn digit(n: u8) -> u8 {
-    let d = n % 16;
-    if d < 10 { b'0' + d } else { b'A' - 10 + d }
-}
-
 // Two hexadecimal digits.
 pub fn put_hex(line: Line, n: u8) -> Line {
-    put(put(line, digit(n / 16)), digit(n))
+    let digits = text::hex2(n);
+    put_text(line, &digits, 2)
 }
 
-// A number below 100.
 pub fn put_decimal(line: Line, n: u8) -> Line {
-    if n < 10 {
-        put(line, digit(n))
-    } else {
-        put(put(line, digit(n / 10 % 10)), digit(n % 10))
-    }
+    let number = text::decimal(n as u64);
+    let digits = number.bytes;
+    put_text(line, &digits, number.len)
 }
 
 fn write_first(bytes: &[u8], n: usize) {

@@ -56,7 +56,7 @@ fn print_page(prefix: u8, places: [Place; 256]) {
 }
 
 fn main() {
-    let pages = opcodes::pages();
+    let pages = pages::all();
     print_page(0x00, pages[0]);
     print_page(0x10, pages[1]);
     print_page(0x11, pages[2]);

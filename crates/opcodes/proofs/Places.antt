@@ -13,7 +13,7 @@ use Rattle.opcodes.specs.declared.Place.{Place}
 use Rattle.opcodes.specs.declared.Place.the-variants.{Instruction, None}
 use Rattle.opcodes.specs.declared.Page.{Page}
 use Rattle.opcodes.specs.declared.Page.the-variants.{Plain, Ten, Eleven}
-use Rattle.opcodes.specs.Table.{values}
+use Rattle.opcodes.specs.Rows.{values}
 use Rattle.opcodes.proofs.Rows.{alike}
 
 -- the first of what the rows say, none where they say nothing

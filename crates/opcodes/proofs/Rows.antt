@@ -10,7 +10,7 @@ use native.Mathlib.Omega.{arith}
 use borrow.Author.Tests.{ne-eqb}
 use lib.Dec.{eqb}
 use lib.ListN.{getD}
-use Rattle.opcodes.specs.Table.{values}
+use Rattle.opcodes.specs.Rows.{values}
 
 -- a list, place by place
 infixr 25 _∷≡_

@@ -1,3 +1,3 @@
 pub mod Manual
 pub mod Places
-pub mod Table
+pub mod Rows

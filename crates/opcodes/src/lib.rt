@@ -1,15 +1,20 @@
-// The opcode table: three pages of 256 places (plain, after 10, after 11), the manual's documented instructions only.
-mod eleven;
+// What stands in the opcode table: operations, modes, entries, and the manual's rows. The table itself is crate `pages`.
 mod entries;
-mod plain;
-mod table;
-mod ten;
+mod row;
 
+pub use entries::alu8;
+pub use entries::branch;
+pub use entries::compare16;
+pub use entries::load16;
+pub use entries::memory;
+pub use entries::on_acc;
+pub use entries::on_memory;
+pub use entries::registers;
+pub use entries::store16;
 use registers::Index;
 use registers::Stack;
 use registers::Word;
-pub use table::lookup;
-pub use table::pages;
+pub use row::at_digit;
 
 // The manual's addressing modes. The mode says how wide an immediate operand or a branch's offset is.
 pub enum Mode {

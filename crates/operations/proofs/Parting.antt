@@ -5,8 +5,7 @@ use mathlib.Core.Path.{_≡_, refl, ap}
 use mathlib.Core.Logic.{_≢_, _↔_}
 use native.Mathlib.Omega.{arith}
 use Rattle.registers.specs.ConditionCodes.{flag}
-use Rattle.registers.specs.Page.{Operation, ADD, ADC, SUB, SBC, DEC, INC, top, out8}
-use Rattle.registers.specs.Manual.{manual}
+use Rattle.registers.specs.Arithmetic.{Operation, ADD, ADC, SUB, SBC, DEC, INC, top, out8, manual}
 use Rattle.registers.specs.Bought.{bought}
 use Rattle.registers.specs.Settings.{Parts}
 use Rattle.registers.specs.declared.CCBit.{CCBit}
@@ -25,7 +24,7 @@ use Rattle.opcodes.specs.declared.Alu.the-variants.{Add, Adc, Sub, Sbc, Cmp, An
 use Rattle.opcodes.specs.declared.RegisterOp.the-variants.{Alu, OnAcc, TestAcc, TestMemory, Addd, Subd, Load16, Cmp16, Lea, Branch, Jmp, Nop, Daa, Sex, Mul, Abx, Andcc, Orcc, Exg, Tfr}
 use Rattle.opcodes.specs.declared.Unary.{Unary}
 use Rattle.opcodes.specs.declared.Unary.the-variants.{Neg, Com, Lsr, Ror, Asr, Asl, Rol, Dec, Inc, Clr}
-use Rattle.operations.specs.Bytes.{accumulator, withAccumulator, aluOf, unaryOf, oneWrite, onMemory}
+use Rattle.operations.specs.EightBit.{accumulator, withAccumulator, aluOf, unaryOf, oneWrite, onMemory}
 use Rattle.operations.specs.Parting.{PartInV, ChangedPart, both-after, both-refused, EffectsPart, AluParts, adc, sbc, UnaryParts, dec, inc, OpParts, with-operand, on-accumulator, ChangesPart, OnMemoryParts}
 use Rattle.operations.specs.declared.Changed.{Changed}
 use Rattle.operations.specs.declared.Changed.the-variants.{After, Refused}

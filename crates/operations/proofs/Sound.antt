@@ -9,7 +9,7 @@ use Rattle.answers.specs.declared.Answer.the-variants.{Done, Refused}
 use Rattle.answers.specs.declared.Refusal.{Refusal}
 use Rattle.answers.specs.declared.Refusal.the-variants.{WordAtTop}
 use Rattle.registers.specs.Fits.{Fits}
-use Rattle.registers.specs.Manual.{logical}
+use Rattle.registers.specs.Arithmetic.{logical}
 use Rattle.registers.specs.RegisterSet.{wordOf}
 use Rattle.registers.specs.declared.Flags.{Flags}
 use Rattle.registers.specs.declared.Set.{Set}
@@ -17,7 +17,7 @@ use Rattle.registers.specs.declared.Word.{Word}
 use Rattle.memory.specs.Fits.{AllFit}
 use Rattle.memory.specs.Map.{byteAt, wordFits}
 use Rattle.memory.specs.Writes.{writesOf, wordWrites}
-use Rattle.memory.specs.declared.Writes.{Writes}
+use Rattle.memory.specs.declared.writes.Writes.{Writes}
 use Rattle.memory.proofs.Fits.{byte-fits, none-fit, added-fit, all-fit, word-writes-fit}
 use Rattle.memory.proofs.Twelve.{Full, none-full, added-full, all-full}
 use Rattle.machine.specs.Effect.{stores, changes, refuses}
@@ -26,7 +26,7 @@ use Rattle.machine.specs.declared.Wait.{Wait}
 use Rattle.machine.specs.declared.Wait.the-variants.{Running}
 use Rattle.opcodes.specs.declared.Acc.{Acc}
 use Rattle.opcodes.specs.declared.Unary.{Unary}
-use Rattle.operations.specs.Bytes.{accumulator, unaryOf, onMemory, store8}
+use Rattle.operations.specs.EightBit.{accumulator, unaryOf, onMemory, store8}
 use Rattle.operations.specs.Sound.{Sound, Given}
 use Rattle.operations.specs.Words.{store16}
 use Rattle.operations.proofs.Widths.{word-in, acc-fits, codes-fits, page-fits, OutFits, unary-out}

@@ -4,7 +4,7 @@ use mathlib.Core.Path.{refl, sym, _∙_}
 use Rattle.answers.proofs.Determined.{Determines}
 use Rattle.operations.proofs
 use Rattle.operations.proofs.branches
-use Rattle.operations.proofs.bytes
+use Rattle.operations.proofs.eight_bit
 use Rattle.operations.proofs.codes
 use Rattle.operations.proofs.words
 
@@ -14,10 +14,10 @@ change κs a x y ws vs p q = (p ∙ sym q, refl)
 pub jump : Determines 0 branches.jump.Kinds.ps branches.jump.Kinds.r branches.jump.Reads.Post
 jump κs a x y ws vs p q = (p ∙ sym q, refl)
 
-pub on-memory : Determines 1 bytes.on_memory.Kinds.ps bytes.on_memory.Kinds.r bytes.on_memory.Reads.Post
+pub on-memory : Determines 1 eight_bit.on_memory.Kinds.ps eight_bit.on_memory.Kinds.r eight_bit.on_memory.Reads.Post
 on-memory κs a x y ws vs p q = (p ∙ sym q, refl)
 
-pub store8 : Determines 0 bytes.store8.Kinds.ps bytes.store8.Kinds.r bytes.store8.Reads.Post
+pub store8 : Determines 0 eight_bit.store8.Kinds.ps eight_bit.store8.Kinds.r eight_bit.store8.Reads.Post
 store8 κs a x y ws vs p q = (p ∙ sym q, refl)
 
 pub and-codes : Determines 0 codes.and_codes.Kinds.ps codes.and_codes.Kinds.r codes.and_codes.Reads.Post

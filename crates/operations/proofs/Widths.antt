@@ -14,9 +14,9 @@ use Rattle.u8oru16.specs.Value.{valueOf}
 use Rattle.u8oru16.specs.declared.u8u16.{u8u16}
 use Rattle.u8oru16.specs.declared.u8u16.the-variants.{u8, u16}
 use Rattle.registers.specs.Fits.{Fits, InWidth}
-use Rattle.registers.specs.Manual.{manual, logical}
-use Rattle.registers.specs.Page.{Operation, ADD, ADC, ADDD, SUB, SBC, SUBD, DEC, INC, AND, OR, EOR, COM, NEG, ASL, LSR, ASR, ROL, ROR, MUL, Line, _:=_, Page, out8, codes}
-use Rattle.registers.specs.RegisterSet.{read, wordName, wordOf, withWord}
+use Rattle.registers.specs.Arithmetic.{manual, logical, Operation, ADD, ADC, ADDD, SUB, SBC, SUBD, DEC, INC, AND, OR, EOR, COM, NEG, ASL, LSR, ASR, ROL, ROR, MUL, Line, _:=_, Page, out8, codes}
+use Rattle.registers.specs.Names.{wordName}
+use Rattle.registers.specs.RegisterSet.{read, wordOf, withWord}
 use Rattle.registers.specs.Settings.{by}
 use Rattle.registers.specs.declared.CCBit.the-variants.{C, «V», Z, N}
 use Rattle.registers.specs.declared.CCBits.{CCBits}
@@ -42,7 +42,7 @@ use Rattle.opcodes.specs.declared.RegisterOp.the-variants.{Alu, OnAcc, TestAcc,
 use Rattle.opcodes.specs.declared.Unary.{Unary}
 use Rattle.opcodes.specs.declared.Unary.the-variants.{Neg, Com, Lsr, Ror, Asr, Asl, Rol, Dec, Inc, Clr}
 use Rattle.operations.specs.Branches.{condition, jumped}
-use Rattle.operations.specs.Bytes.{accumulator, withAccumulator, aluOf, unaryOf}
+use Rattle.operations.specs.EightBit.{accumulator, withAccumulator, aluOf, unaryOf}
 use Rattle.operations.specs.Codes.{withCodes, andCodes, orCodes}
 use Rattle.operations.specs.Inherent.{corrected, daaFlags, sexFlags}
 use Rattle.operations.specs.Sound.{Given, ChangedFits, ChangesFit}

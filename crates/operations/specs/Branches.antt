@@ -2,12 +2,10 @@
 -- Assumes nothing.
 use Prim.Native.Nat.{ℕ}
 use mathlib.Core.Bool.{Bool, true, false, not, cond, _||_}
-use Rattle.u8oru16.specs.declared.u8u16.the-variants.{u16}
 use Rattle.registers.specs.ConditionCodes.{exclusiveOr, flag}
-use Rattle.registers.specs.RegisterSet.{written}
+use Rattle.registers.specs.RegisterSet.{withPc}
 use Rattle.registers.specs.declared.CCBit.the-variants.{C, «V», Z, N}
 use Rattle.registers.specs.declared.CCBits.{CCBits}
-use Rattle.registers.specs.declared.Name.the-variants.{PC}
 use Rattle.registers.specs.declared.Set.{Set}
 use Rattle.opcodes.specs.declared.Cond.{Cond}
 use Rattle.opcodes.specs.declared.Cond.the-variants.{Ra, Rn, Hi, Ls, Cc, Cs, Ne, Eq, Vc, Vs, Pl, Mi, Ge, Lt, Gt, Le}
@@ -37,7 +35,7 @@ condition Le cc = flag Z cc || less cc
 
 -- PC is the address
 abbrev pub jumped : Set → ℕ → Set
-jumped r ea = written r PC (u16 ea)
+jumped r ea = withPc r ea
 
 abbrev pub branched : Cond → Set → ℕ → Set
 branched c r ea = cond (condition c (r .cc)) (jumped r ea) r

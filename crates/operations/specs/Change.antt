@@ -9,7 +9,7 @@ use Rattle.memory.specs.Map.{byteAt}
 use Rattle.opcodes.specs.declared.RegisterOp.{RegisterOp}
 use Rattle.opcodes.specs.declared.RegisterOp.the-variants.{Alu, OnAcc, TestAcc, TestMemory, Addd, Subd, Load16, Cmp16, Lea, Branch, Jmp, Nop, Daa, Sex, Mul, Abx, Andcc, Orcc, Exg, Tfr}
 use Rattle.operations.specs.Branches.{branched, jumped}
-use Rattle.operations.specs.Bytes.{accumulator, withOperand, onAccumulator, tested}
+use Rattle.operations.specs.EightBit.{accumulator, onOperand, onAccumulator, tested}
 use Rattle.operations.specs.Codes.{andCodes, orCodes}
 use Rattle.operations.specs.Inherent.{daaOf, sexOf, mulOf, abxOf}
 use Rattle.operations.specs.Transfers.{transfer, exchange}
@@ -18,7 +18,7 @@ use Rattle.operations.specs.declared.Changed.{Changed}
 use Rattle.operations.specs.declared.Changed.the-variants.{After}
 
 abbrev pub changedOf : RegisterOp → Flags → List ℕ → Set → ℕ → Changed
-changedOf (Alu op acc) s mem r ea = After (withOperand op acc s r (byteAt mem ea))
+changedOf (Alu op acc) s mem r ea = After (onOperand op acc s r (byteAt mem ea))
 changedOf (OnAcc op acc) s mem r ea = After (onAccumulator op acc s r)
 changedOf (TestAcc acc) s mem r ea = After (tested r (accumulator acc r))
 changedOf TestMemory s mem r ea = After (tested r (byteAt mem ea))

@@ -8,15 +8,14 @@ use Rattle.u8oru16.specs.Negated.{extended}
 use Rattle.u8oru16.specs.Value.{valueOf}
 use Rattle.u8oru16.specs.declared.u8u16.the-variants.{u8}
 use Rattle.registers.specs.ConditionCodes.{flag}
-use Rattle.registers.specs.Page.{MUL, Line, _:=_, codes}
-use Rattle.registers.specs.Manual.{manual}
+use Rattle.registers.specs.Arithmetic.{MUL, Line, _:=_, codes, manual}
 use Rattle.registers.specs.RegisterSet.{withWord}
 use Rattle.registers.specs.declared.CCBit.the-variants.{C, Z, N, H}
 use Rattle.registers.specs.declared.CCBits.{CCBits}
 use Rattle.registers.specs.declared.Set.{Set}
 use Rattle.registers.specs.declared.Word.the-variants.{D, X}
 use Rattle.opcodes.specs.declared.Acc.the-variants.{A}
-use Rattle.operations.specs.Bytes.{withAccumulator}
+use Rattle.operations.specs.EightBit.{withAccumulator}
 use Rattle.operations.specs.Codes.{withCodes}
 
 -- DAA: the low digit is corrected by 6 if H is set or it is above 9; the high digit if C is set, or it is above 9, or it is above 8

@@ -1,6 +1,6 @@
 pub mod Codes
 pub mod Branches
-pub mod Bytes
+pub mod EightBit
 pub mod Words
 pub mod Transfers
 pub mod Inherent

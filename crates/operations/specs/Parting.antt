@@ -6,7 +6,7 @@ use mathlib.Core.List.{List}
 use mathlib.Core.Logic.{_≢_, _↔_}
 use Rattle.answers.specs.declared.Refusal.{Refusal}
 use Rattle.registers.specs.ConditionCodes.{flag}
-use Rattle.registers.specs.Page.{ADC, SBC, DEC, INC}
+use Rattle.registers.specs.Arithmetic.{ADC, SBC, DEC, INC}
 use Rattle.registers.specs.Settings.{Parts}
 use Rattle.registers.specs.declared.CCBit.{CCBit}
 use Rattle.registers.specs.declared.CCBit.the-variants.{«V»}
@@ -22,7 +22,7 @@ use Rattle.opcodes.specs.declared.RegisterOp.{RegisterOp}
 use Rattle.opcodes.specs.declared.RegisterOp.the-variants.{Alu, OnAcc}
 use Rattle.opcodes.specs.declared.Unary.{Unary}
 use Rattle.opcodes.specs.declared.Unary.the-variants.{Dec, Inc}
-use Rattle.operations.specs.Bytes.{accumulator, onMemory}
+use Rattle.operations.specs.EightBit.{accumulator, onMemory}
 use Rattle.operations.specs.Change.{changedOf}
 use Rattle.operations.specs.declared.Changed.{Changed}
 use Rattle.operations.specs.declared.Changed.the-variants.{After, Refused}

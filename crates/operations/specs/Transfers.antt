@@ -1,11 +1,11 @@
 -- TFR and EXG (manual, appendix A): the post-byte names two registers, the source or first in its high half.
 -- Assumes nothing.
-use Prim.Native.Nat.{ℕ, zero, suc, _+_, _/_, _%_}
+use Prim.Native.Nat.{ℕ, _/_, _%_}
 use mathlib.Core.Bool.{Bool, cond, _&&_, _||_}
 use mathlib.Core.Path.{_≡_}
 use lib.Dec.{eqb, ltb}
+use Rattle.answers.specs.Counting.{counted}
 use Rattle.answers.specs.declared.Refusal.the-variants.{TransferCode}
-use Rattle.registers.specs.ConditionCodes.{digit}
 use Rattle.registers.specs.RegisterSet.{read, written}
 use Rattle.registers.specs.declared.Name.{Name}
 use Rattle.registers.specs.declared.Name.the-variants.{A, B, D, X, Y, U, S, PC, DP, CC}
@@ -40,11 +40,6 @@ exchange r m =
     let first = transferName (m / 16) in
     let second = transferName (m % 16) in
     cond (transferable m) (After (written (written r first (read r second)) second (read r first))) (Refused TransferCode)
-
--- of how many numbers below n a test holds
-abbrev pub counted : ℕ → (ℕ → Bool) → ℕ
-counted zero f = 0
-counted (suc n) f = digit (f n) + counted n f
 
 -- the law: 52 of the 256 post-bytes are taken
 abbrev pub TransferPostBytes : Type 0

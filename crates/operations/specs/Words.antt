@@ -6,8 +6,7 @@ use mathlib.Core.List.{List, []}
 use lib.Dec.{eqb}
 use Rattle.answers.specs.declared.Refusal.the-variants.{WordAtTop}
 use Rattle.registers.specs.ConditionCodes.{put}
-use Rattle.registers.specs.Page.{ADDD, SUBD, Page, codes}
-use Rattle.registers.specs.Manual.{logical, manual}
+use Rattle.registers.specs.Arithmetic.{ADDD, SUBD, Page, codes, logical, manual}
 use Rattle.registers.specs.RegisterSet.{wordOf, withWord}
 use Rattle.registers.specs.declared.CCBit.the-variants.{Z as zero}
 use Rattle.registers.specs.declared.Index.{Index}

@@ -39,19 +39,7 @@ fn condition(cc: CCBits, cond: Cond) -> bool
 pub fn jump(regs: Set, ea: u16) -> Set
     ensures { λ r. ⌜ r ≡ jumped regs ea ⌝ }
 {
-    // As `advance` of `addressing` does it: the whole set, not PC alone.
-    let cc = regs.cc;
-    Set {
-        x: regs.x,
-        y: regs.y,
-        u: regs.u,
-        s: regs.s,
-        pc: ea,
-        a: regs.a,
-        b: regs.b,
-        dp: regs.dp,
-        cc,
-    }
+    regs.with_pc(ea)
 }
 
 pub fn branch(regs: Set, cond: Cond, ea: u16) -> Set

@@ -2,8 +2,8 @@
 ghost use mathlib.Core.Path.{_≡_};
 ghost use Prim.Native.Nat.{_≤_};
 ghost use Rattle.operations.specs.Inherent.{correction, corrected, daaOf, sexOf, mulOf, abxOf};
-use super::bytes::with_accumulator;
 use super::codes::with_codes;
+use super::eight_bit::with_accumulator;
 use opcodes::Acc;
 use registers::CCBit;
 use registers::CCBits;

@@ -1,8 +1,8 @@
 // What each operation does to the registers, by subject: the manual's instruction pages.
 // The registers come with PC at the next instruction and the index register changed; `ea` is the effective address.
 mod branches;
-mod bytes;
 mod codes;
+mod eight_bit;
 mod inherent;
 mod transfers;
 mod words;
@@ -11,11 +11,11 @@ ghost use mathlib.Core.Path.{_≡_};
 ghost use Rattle.operations.specs.Change.{changedOf};
 use answers::Refusal;
 pub use branches::jump;
-pub use bytes::on_memory;
-pub use bytes::store8;
 pub use codes::and_codes;
 pub use codes::or_codes;
 pub use codes::with_codes;
+pub use eight_bit::on_memory;
+pub use eight_bit::store8;
 use opcodes::RegisterOp;
 use registers::Flags;
 use registers::Set;
@@ -33,16 +33,16 @@ pub fn change(op: RegisterOp, flags: Flags, mem: &[u8], regs: Set, ea: u16) -> C
     match op {
         RegisterOp::Alu(alu, acc) => {
             let m = memory::read_u8(mem, ea);
-            Changed::After(bytes::with_operand(flags, alu, acc, regs, m))
+            Changed::After(eight_bit::with_operand(flags, alu, acc, regs, m))
         }
         RegisterOp::OnAcc(unary, acc) => {
-            Changed::After(bytes::on_accumulator(flags, unary, acc, regs))
+            Changed::After(eight_bit::on_accumulator(flags, unary, acc, regs))
         }
-        RegisterOp::TestAcc(acc) => Changed::After(bytes::test(
+        RegisterOp::TestAcc(acc) => Changed::After(eight_bit::test(
             regs,
-            bytes::accumulator(regs, acc),
+            eight_bit::accumulator(regs, acc),
         )),
-        RegisterOp::TestMemory => Changed::After(bytes::test(regs, memory::read_u8(mem, ea))),
+        RegisterOp::TestMemory => Changed::After(eight_bit::test(regs, memory::read_u8(mem, ea))),
         RegisterOp::Addd => words::add_d(mem, regs, ea),
         RegisterOp::Subd => words::subtract_d(mem, regs, ea),
         RegisterOp::Load16(word) => words::load16(mem, regs, word, ea),

@@ -25,7 +25,7 @@ use Rattle.runfile.specs.declared.Next.the-variants.{Is}
 use Rattle.runfile.specs.declared.Start.{Start}
 use Rattle.runfile.specs.declared.Loaded.the-variants.{Ready, Refused as NotLoaded}
 use Rattle.runfile.proofs.Operations.{in-order, they-fit, not-longer}
-use Rattle.player.specs.Plays.{acted, lineOf, refusalLine, lineFor, lines, played}
+use Rattle.player.specs.Plays.{acted, callLine, refusalLine, lineFor, lines, played}
 
 -- an answer's number is a byte
 number-fits : (a : Answer) → numberOfAnswer a < 256
@@ -55,7 +55,7 @@ number-fits (Refused x) = go x
     go PastTop = omega arith
     go NoEnd = omega arith
 
-pub line-bound : (a : Answer) (m : Machine) → length (lineOf a m) ≤ 33
+pub line-bound : (a : Answer) (m : Machine) → length (callLine a m) ≤ 33
 line-bound a m = line-fits (numberOfAnswer a) (m .regs .pc) (m .regs .cc .reg) (m .cycles) (number-fits a)
 
 -- what is in hand after some operations
@@ -94,13 +94,13 @@ module _ (t : Settings) (os : List Operation) (s₀ : State) (out₀ : List ℕ)
 
   pub turn : (i used : ℕ) (out : List ℕ) (s : State) → Sofar t os s₀ out₀ i used out s → i < length os
       → {o : Operation} → o ≡ getD os i Step → {r : Outcome} {mem journal : List ℕ} → Leaves r mem journal (acted t o s)
-      → {size : ℕ} {out′ : List ℕ} → size ≡ length (lineOf (r .answer) (r .twin .machine)) → out′ ≡ sets out used (lineOf (r .answer) (r .twin .machine))
+      → {size : ℕ} {out′ : List ℕ} → size ≡ length (callLine (r .answer) (r .twin .machine)) → out′ ≡ sets out used (callLine (r .answer) (r .twin .machine))
       → Sofar t os s₀ out₀ (i + 1) (used + size) out′ (inHand mem journal (r .twin))
   turn i used out s h k {o} eo {r} {mem} {journal} l {size} {out′} eu et =
       let f : take (i + 1) os ≡ take i os ++ (o ∷ []) = rw (add-one, eo) (take-suc os i Step k) in
       let y = lines-more t (take i os) o s₀ in
-      let x = lineOf (r .answer) (r .twin .machine) in
-      let e : x ≡ lineFor (acted t o (after t (take i os) s₀)) = ap (λ (q : Outcome). lineOf (q .answer) (q .twin .machine)) (l .result) ∙ rw (h .state) in
+      let x = callLine (r .answer) (r .twin .machine) in
+      let e : x ≡ lineFor (acted t o (after t (take i os) s₀)) = ap (λ (q : Outcome). callLine (q .answer) (q .twin .machine)) (l .result) ∙ rw (h .state) in
       let z : used ≡ 0 + length (lines t (take i os) s₀) = omega (arith, h .count) in
       record {
         count = rw (eu, f, y, ← e, h .count) (sym (length-append (lines t (take i os) s₀) x));

@@ -26,7 +26,7 @@ use Rattle.journal.proofs.Laying.{saved-few}
 use Rattle.journal.proofs.Reading.{length-encode}
 use Rattle.journal.proofs.Chain.{length-withRecord}
 use Rattle.runfile.specs.declared.Operation.the-variants.{Step}
-use Rattle.player.specs.Plays.{zeros, journalLength, lineOf, lineFor, lines}
+use Rattle.player.specs.Plays.{zeros, journalLength, callLine, lineFor, lines}
 use Rattle.player.specs.Boots.{stepLines, runLines, AsRecorded}
 
 -- ---- one call
@@ -36,7 +36,7 @@ planIn c s = planOf c (s .memory) (s .twin .machine)
 
 -- a recorded call that ended so shows what the call's plan says, and leaves room for k records more
 record Shows (c : Call) (s : State) (k : ℕ) (e : Ended) : Type 0 where
-  line : lineFor e ≡ lineOf (planIn c s .answer) (planIn c s .machine)
+  line : lineFor e ≡ callLine (planIn c s .answer) (planIn c s .machine)
   machine : e .state .twin .machine ≡ planIn c s .machine
   memory : e .state .memory ≡ memoryWith (settingsIn c) (planIn c s) (s .memory)
   room : (e .state .twin .used + k) * recordLength ≤ length (e .state .journal)
@@ -94,7 +94,7 @@ still-whole {c} {s} h size =
 module _ (t : Settings) where
   following : {c : Call} {s : State} {k : ℕ} {e : Ended} → Shows c s k e
       → stepLines t k (e .state .memory) (e .state .twin .machine) ≡ lines t (replicate k Step) (e .state)
-      → lineOf (planIn c s .answer) (planIn c s .machine)
+      → callLine (planIn c s .answer) (planIn c s .machine)
       ++ stepLines t k (memoryWith (settingsIn c) (planIn c s) (s .memory)) (planIn c s .machine)
       ≡ lineFor e ++ lines t (replicate k Step) (e .state)
   following h rest = rw (h .line, ← h .memory, ← h .machine, rest)

@@ -22,7 +22,7 @@ use Rattle.calls.specs.declared.Report.{Report}
 use Rattle.journal.specs.Recorded.{freshTwin, inHand}
 use Rattle.runfile.specs.Format.{wordIn}
 use Rattle.runfile.specs.declared.Operation.the-variants.{Step, Reset}
-use Rattle.player.specs.Plays.{lineOf, refusalLine, lines, zeros, journalLength}
+use Rattle.player.specs.Plays.{callLine, refusalLine, lines, zeros, journalLength}
 
 -- ---- the head
 
@@ -47,18 +47,18 @@ isWhole input = leb 5 (length input) && leb (length input) (5 + 0x100000)
 
 -- the line of a call that is not recorded
 abbrev pub shown : Report → List ℕ
-shown r = lineOf (r .answer) (r .machine)
+shown r = callLine (r .answer) (r .machine)
 
--- so many steps, one after the other, a line for each
+-- n steps, a line for each
 unfoldable pub stepLines : Settings → ℕ → List ℕ → Machine → List ℕ
 stepLines t zero mem m = []
 stepLines t (suc n) mem m = shown (stepOf mem m t) ++ stepLines t n (memoryAfterStep mem m t) (stepOf mem m t .machine)
 
--- a reset of a fresh machine, and then so many steps
+-- a reset of a fresh machine, and then n steps
 unfoldable pub runLines : Settings → ℕ → List ℕ → List ℕ
 runLines t n mem = shown (resetOf mem fresh t) ++ stepLines t n (memoryAfterReset mem fresh t) (resetOf mem fresh t .machine)
 
--- a file that was answered so and left this memory: a refused one prints the number of its refusal
+-- by the answer to the file: a refused file prints the number of its refusal, a sound one is run in the memory that it left
 abbrev pub loadedLines : Answer → Settings → ℕ → List ℕ → List ℕ
 loadedLines (Refused x) t n mem = refusalLine x
 loadedLines Done t n mem = runLines t n mem

@@ -27,24 +27,24 @@ acted t Nmi s = interrupted t NMI s
 acted t Reset s = wasReset t s
 acted t Undo s = undone s
 
--- the line of a call that was answered so and left this machine
-abbrev pub lineOf : Answer → Machine → List ℕ
-lineOf a m = line (numberOfAnswer a) (m .regs .pc) (m .regs .cc .reg) (m .cycles)
+-- the line of a call, from its answer and the machine after it
+abbrev pub callLine : Answer → Machine → List ℕ
+callLine a m = line (numberOfAnswer a) (m .regs .pc) (m .regs .cc .reg) (m .cycles)
 
 -- the one line of a refused input
 abbrev pub refusalLine : Refusal → List ℕ
 refusalLine x = alone (numberOf x)
 
--- the line of an operation that ended so
+-- the line of a recorded call
 abbrev pub lineFor : Ended → List ℕ
-lineFor e = lineOf (e .answer) (e .state .twin .machine)
+lineFor e = callLine (e .answer) (e .state .twin .machine)
 
 -- a line for each operation, in order
 unfoldable pub lines : Settings → List Operation → State → List ℕ
 lines t [] s = []
 lines t (o ∷ os) s = lineFor (acted t o s) ++ lines t os (acted t o s .state)
 
--- with this in hand at the start, a sound file's operations are played; a malformed one prints its number, 16
+-- a sound file's operations are played from the state s on; a malformed file prints its number, 16
 abbrev pub played : Parsed → State → List ℕ
 played (says f) s = lines (f .settings) (f .operations) s
 played malformed s = refusalLine Malformed

@@ -1,6 +1,6 @@
 // What the boot program prints: firmware in S-records is loaded, then a reset and a count of steps, none of them recorded.
 ghost use mathlib.Core.Path.{_≡_};
-ghost use Prim.Native.Nat.{_+_, _*_, _≤_};
+ghost use Prim.Native.Nat.{_+_, _≤_};
 ghost use lib.ListN.{length};
 ghost use lib.Seq.{sets};
 ghost use Rattle.player.specs.Boots.{stepLines, runLines, bootLines, bootPrinted};
@@ -68,13 +68,6 @@ fn boot_text(text: &[u8], out: &mut [u8], settings: Settings, count: u16) -> usi
     }
 }
 
-// The number of two bytes, high byte first.
-fn word(high: u8, low: u8) -> u16
-    ensures { λ r. ⌜ r ≡ 256 * high + low ⌝ }
-{
-    256 * high as u16 + low as u16
-}
-
 // Writes what the boot program prints at the front of `out`, and returns its length.
 pub fn boot(input: &[u8], out: &mut [u8]) -> usize
     ensures { λ r. ⌜ (r ≡ length (bootPrinted (now (input .entry)))) × (now (out .exit) ≡ sets (now (out .entry)) 0 (bootPrinted (now (input .entry)))) ⌝ }
@@ -85,8 +78,8 @@ pub fn boot(input: &[u8], out: &mut [u8]) -> usize
     if LONGEST < input.len() {
         return put_refusal(out, Refusal::Malformed);
     }
-    let ram_top = word(input[0], input[1]);
-    let count = word(input[3], input[4]);
+    let ram_top = runfile::word(input, 0);
+    let count = runfile::word(input, 3);
     let text = &input[HEAD..];
     match input[2] {
         0 => boot_text(text, out, Settings::new(ram_top, Flags::Bought), count),

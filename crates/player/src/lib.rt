@@ -5,7 +5,7 @@ mod plays;
 ghost use mathlib.Core.Path.{_≡_};
 ghost use lib.ListN.{length};
 ghost use lib.Seq.{sets};
-ghost use Rattle.player.specs.Plays.{zeros, lineOf, refusalLine};
+ghost use Rattle.player.specs.Plays.{zeros, callLine, refusalLine};
 use answers::Answer;
 use answers::Refusal;
 pub use boots::boot;
@@ -22,7 +22,7 @@ fn zeroed_memory() -> [u8; MEMORY]
 
 // Writes the line of a call at a place, and returns its length.
 fn put_call(out: &mut [u8], at: usize, answer: Answer, machine: Machine) -> usize
-    ensures { λ r. ⌜ (r ≡ length (lineOf answer machine)) × (now (out .exit) ≡ sets (now (out .entry)) at (lineOf answer machine)) ⌝ }
+    ensures { λ r. ⌜ (r ≡ length (callLine answer machine)) × (now (out .exit) ≡ sets (now (out .entry)) at (callLine answer machine)) ⌝ }
 {
     let regs = machine.regs;
     let cc = regs.cc;

@@ -1,25 +1,20 @@
 -- Results, condition codes and registers fit their widths.
 -- Assumes nothing.
-use Prim.Native.Nat.{ℕ, _+_, _-_, _*_, _/_, _%_, _<_}
-use mathlib.Core.Path.{_≡_, refl, sym, ap, _∙_}
+use Prim.Native.Nat.{ℕ, _+_, _-_, _*_, _/_, _<_}
 use mathlib.Core.Bool.{Bool, true, false}
-use mathlib.Core.List.{List, [], _∷_}
+use mathlib.Core.List.{[], _∷_}
 use native.Mathlib.Omega.{arith}
 use native.Mathlib.Nat.{mod-lt}
-use lib.Bits.{bitAnd, bitOr, bitXor, and-lt, or-lt, xor-lt}
+use lib.Bits.{and-lt, or-lt, xor-lt}
 use lib.Dec.{lit<}
-use Rattle.u8oru16.specs.declared.u8u16.{u8u16}
 use Rattle.u8oru16.specs.declared.u8u16.the-variants.{u8, u16}
 use Rattle.registers.specs.ConditionCodes.{withBit, digit, put, flag}
-use Rattle.registers.specs.Fits.{Fits, InWidth}
-use Rattle.registers.specs.Manual.{manual}
-use Rattle.registers.specs.Page.{Operation, ADD, ADC, ADDD, SUB, SBC, SUBD, DEC, INC, AND, AND16, OR, EOR, COM, NEG, ASL, LSR, ASR, ROL, ROR, MUL, Line, _:=_, top, codes, carry}
-use Rattle.registers.specs.RegisterSet.{read, written}
-use Rattle.registers.specs.Settings.{by, DifferInV}
+use Rattle.registers.specs.Fits.{Fits, InWidth, CodesFit, resultTop, ResultFits, WrittenFits}
+use Rattle.registers.specs.Arithmetic.{manual, Operation, ADD, ADC, ADDD, SUB, SBC, SUBD, DEC, INC, AND, AND16, OR, EOR, COM, NEG, ASL, LSR, ASR, ROL, ROR, MUL, _:=_, top, codes, carry}
+use Rattle.registers.specs.RegisterSet.{read}
 use Rattle.registers.specs.declared.CCBit.{CCBit}
 use Rattle.registers.specs.declared.CCBit.the-variants.{C, «V», Z, N, I, H, F, E}
 use Rattle.registers.specs.declared.CCBits.{CCBits}
-use Rattle.registers.specs.declared.Flags.{Flags}
 use Rattle.registers.specs.declared.Flags.the-variants.{Bought, Manual}
 use Rattle.registers.specs.declared.Name.{Name}
 use Rattle.registers.specs.declared.Name.the-variants.{A, B, D, X, Y, U, S as SP, PC, DP, CC}
@@ -48,34 +43,11 @@ put-fits F false cc h = omega arith
 put-fits E true cc h = omega arith
 put-fits E false cc h = omega arith
 
-pub codes-fit : (cc : CCBits) (l : List Line) → cc .reg < 256 → codes cc l .reg < 256
+pub codes-fit : CodesFit
 codes-fit cc [] h = h
 codes-fit cc ((f := v) ∷ l) h = put-fits f v (codes cc l) (codes-fit cc l h)
 
 -- ---- results
-
--- the product of two bytes is a word; every other result is as wide as its operands
-abbrev pub resultTop : Operation → ℕ
-resultTop ADD = 256
-resultTop ADC = 256
-resultTop ADDD = 65536
-resultTop SUB = 256
-resultTop SBC = 256
-resultTop SUBD = 65536
-resultTop DEC = 256
-resultTop INC = 256
-resultTop AND = 256
-resultTop AND16 = 65536
-resultTop OR = 256
-resultTop EOR = 256
-resultTop COM = 256
-resultTop NEG = 256
-resultTop ASL = 256
-resultTop LSR = 256
-resultTop ASR = 256
-resultTop ROL = 256
-resultTop ROR = 256
-resultTop MUL = 65536
 
 rotated : (v : Bool) (a : ℕ) → a < 256 → digit v * 128 + a / 2 < 256
 rotated true a h = omega arith
@@ -103,43 +75,42 @@ manual-fits ROL cc a b la lb = mod-lt (a * 2 + carry cc) (lit< tt)
 manual-fits ROR cc a b la lb = rotated (flag C cc) a la
 manual-fits MUL cc a b la lb = product a b la lb
 
-pub result-fits : (s : Flags) (o : Operation) (cc : CCBits) (a b : ℕ) → a < top o → b < top o → by s o cc a b .value < resultTop o
+pub result-fits : ResultFits
 result-fits Manual o cc a b la lb = manual-fits o cc a b la lb
 result-fits Bought o cc a b la lb = rw (settings-part o cc a b la lb .value) (manual-fits o cc a b la lb)
 
 -- ---- registers by name
 
-module _ (r : Set) (f : Fits r) where
-  pub read-fits : (n : Name) → InWidth (read r n)
-  read-fits A = f .a
-  read-fits B = f .b
-  read-fits D = let h = f .a in let k = f .b in omega arith
-  read-fits X = f .x
-  read-fits Y = f .y
-  read-fits U = f .u
-  read-fits SP = f .s
-  read-fits PC = f .pc
-  read-fits DP = f .dp
-  read-fits CC = f .cc
+pub read-fits : (r : Set) → Fits r → (n : Name) → InWidth (read r n)
+read-fits r f A = f .a
+read-fits r f B = f .b
+read-fits r f D = let h = f .a in let k = f .b in omega arith
+read-fits r f X = f .x
+read-fits r f Y = f .y
+read-fits r f U = f .u
+read-fits r f SP = f .s
+read-fits r f PC = f .pc
+read-fits r f DP = f .dp
+read-fits r f CC = f .cc
 
-  pub written-fits : (n : Name) (v : u8u16) → InWidth v → Fits (written r n v)
-  written-fits A (u8 b) h = record { x = f .x; y = f .y; u = f .u; s = f .s; pc = f .pc; a = h; b = f .b; dp = f .dp; cc = f .cc }
-  written-fits A (u16 w) h = record { x = f .x; y = f .y; u = f .u; s = f .s; pc = f .pc; a = mod-lt w (lit< tt); b = f .b; dp = f .dp; cc = f .cc }
-  written-fits B (u8 b) h = record { x = f .x; y = f .y; u = f .u; s = f .s; pc = f .pc; a = f .a; b = h; dp = f .dp; cc = f .cc }
-  written-fits B (u16 w) h = record { x = f .x; y = f .y; u = f .u; s = f .s; pc = f .pc; a = f .a; b = mod-lt w (lit< tt); dp = f .dp; cc = f .cc }
-  written-fits D (u8 b) h = record { x = f .x; y = f .y; u = f .u; s = f .s; pc = f .pc; a = omega arith; b = omega arith; dp = f .dp; cc = f .cc }
-  written-fits D (u16 w) h = record { x = f .x; y = f .y; u = f .u; s = f .s; pc = f .pc; a = omega arith; b = omega arith; dp = f .dp; cc = f .cc }
-  written-fits X (u8 b) h = record { x = omega arith; y = f .y; u = f .u; s = f .s; pc = f .pc; a = f .a; b = f .b; dp = f .dp; cc = f .cc }
-  written-fits X (u16 w) h = record { x = h; y = f .y; u = f .u; s = f .s; pc = f .pc; a = f .a; b = f .b; dp = f .dp; cc = f .cc }
-  written-fits Y (u8 b) h = record { x = f .x; y = omega arith; u = f .u; s = f .s; pc = f .pc; a = f .a; b = f .b; dp = f .dp; cc = f .cc }
-  written-fits Y (u16 w) h = record { x = f .x; y = h; u = f .u; s = f .s; pc = f .pc; a = f .a; b = f .b; dp = f .dp; cc = f .cc }
-  written-fits U (u8 b) h = record { x = f .x; y = f .y; u = omega arith; s = f .s; pc = f .pc; a = f .a; b = f .b; dp = f .dp; cc = f .cc }
-  written-fits U (u16 w) h = record { x = f .x; y = f .y; u = h; s = f .s; pc = f .pc; a = f .a; b = f .b; dp = f .dp; cc = f .cc }
-  written-fits SP (u8 b) h = record { x = f .x; y = f .y; u = f .u; s = omega arith; pc = f .pc; a = f .a; b = f .b; dp = f .dp; cc = f .cc }
-  written-fits SP (u16 w) h = record { x = f .x; y = f .y; u = f .u; s = h; pc = f .pc; a = f .a; b = f .b; dp = f .dp; cc = f .cc }
-  written-fits PC (u8 b) h = record { x = f .x; y = f .y; u = f .u; s = f .s; pc = omega arith; a = f .a; b = f .b; dp = f .dp; cc = f .cc }
-  written-fits PC (u16 w) h = record { x = f .x; y = f .y; u = f .u; s = f .s; pc = h; a = f .a; b = f .b; dp = f .dp; cc = f .cc }
-  written-fits DP (u8 b) h = record { x = f .x; y = f .y; u = f .u; s = f .s; pc = f .pc; a = f .a; b = f .b; dp = h; cc = f .cc }
-  written-fits DP (u16 w) h = record { x = f .x; y = f .y; u = f .u; s = f .s; pc = f .pc; a = f .a; b = f .b; dp = mod-lt w (lit< tt); cc = f .cc }
-  written-fits CC (u8 b) h = record { x = f .x; y = f .y; u = f .u; s = f .s; pc = f .pc; a = f .a; b = f .b; dp = f .dp; cc = h }
-  written-fits CC (u16 w) h = record { x = f .x; y = f .y; u = f .u; s = f .s; pc = f .pc; a = f .a; b = f .b; dp = f .dp; cc = mod-lt w (lit< tt) }
+pub written-fits : WrittenFits
+written-fits r f A (u8 b) h = record { x = f .x; y = f .y; u = f .u; s = f .s; pc = f .pc; a = h; b = f .b; dp = f .dp; cc = f .cc }
+written-fits r f A (u16 w) h = record { x = f .x; y = f .y; u = f .u; s = f .s; pc = f .pc; a = mod-lt w (lit< tt); b = f .b; dp = f .dp; cc = f .cc }
+written-fits r f B (u8 b) h = record { x = f .x; y = f .y; u = f .u; s = f .s; pc = f .pc; a = f .a; b = h; dp = f .dp; cc = f .cc }
+written-fits r f B (u16 w) h = record { x = f .x; y = f .y; u = f .u; s = f .s; pc = f .pc; a = f .a; b = mod-lt w (lit< tt); dp = f .dp; cc = f .cc }
+written-fits r f D (u8 b) h = record { x = f .x; y = f .y; u = f .u; s = f .s; pc = f .pc; a = omega arith; b = omega arith; dp = f .dp; cc = f .cc }
+written-fits r f D (u16 w) h = record { x = f .x; y = f .y; u = f .u; s = f .s; pc = f .pc; a = omega arith; b = omega arith; dp = f .dp; cc = f .cc }
+written-fits r f X (u8 b) h = record { x = omega arith; y = f .y; u = f .u; s = f .s; pc = f .pc; a = f .a; b = f .b; dp = f .dp; cc = f .cc }
+written-fits r f X (u16 w) h = record { x = h; y = f .y; u = f .u; s = f .s; pc = f .pc; a = f .a; b = f .b; dp = f .dp; cc = f .cc }
+written-fits r f Y (u8 b) h = record { x = f .x; y = omega arith; u = f .u; s = f .s; pc = f .pc; a = f .a; b = f .b; dp = f .dp; cc = f .cc }
+written-fits r f Y (u16 w) h = record { x = f .x; y = h; u = f .u; s = f .s; pc = f .pc; a = f .a; b = f .b; dp = f .dp; cc = f .cc }
+written-fits r f U (u8 b) h = record { x = f .x; y = f .y; u = omega arith; s = f .s; pc = f .pc; a = f .a; b = f .b; dp = f .dp; cc = f .cc }
+written-fits r f U (u16 w) h = record { x = f .x; y = f .y; u = h; s = f .s; pc = f .pc; a = f .a; b = f .b; dp = f .dp; cc = f .cc }
+written-fits r f SP (u8 b) h = record { x = f .x; y = f .y; u = f .u; s = omega arith; pc = f .pc; a = f .a; b = f .b; dp = f .dp; cc = f .cc }
+written-fits r f SP (u16 w) h = record { x = f .x; y = f .y; u = f .u; s = h; pc = f .pc; a = f .a; b = f .b; dp = f .dp; cc = f .cc }
+written-fits r f PC (u8 b) h = record { x = f .x; y = f .y; u = f .u; s = f .s; pc = omega arith; a = f .a; b = f .b; dp = f .dp; cc = f .cc }
+written-fits r f PC (u16 w) h = record { x = f .x; y = f .y; u = f .u; s = f .s; pc = h; a = f .a; b = f .b; dp = f .dp; cc = f .cc }
+written-fits r f DP (u8 b) h = record { x = f .x; y = f .y; u = f .u; s = f .s; pc = f .pc; a = f .a; b = f .b; dp = h; cc = f .cc }
+written-fits r f DP (u16 w) h = record { x = f .x; y = f .y; u = f .u; s = f .s; pc = f .pc; a = f .a; b = f .b; dp = mod-lt w (lit< tt); cc = f .cc }
+written-fits r f CC (u8 b) h = record { x = f .x; y = f .y; u = f .u; s = f .s; pc = f .pc; a = f .a; b = f .b; dp = f .dp; cc = h }
+written-fits r f CC (u16 w) h = record { x = f .x; y = f .y; u = f .u; s = f .s; pc = f .pc; a = f .a; b = f .b; dp = f .dp; cc = mod-lt w (lit< tt) }

@@ -1,87 +1,128 @@
--- What both settings keep: the whole sum and difference, the flags without a line, H, and MUL's flags; and that the manual's words for V
--- on its DEC, INC, NEG and ASL pages are the signed range rule. Assumes nothing.
+-- The laws of the arithmetic and of the register set.
+-- Assumes nothing.
 use mathlib.Core.Path.{_≡_, refl, sym, ap, _∙_}
-use mathlib.Core.Bool.{Bool, true, false, _&&_, _||_}
-use mathlib.Core.List.{[], _∷_, _++_}
+use mathlib.Core.Bool.{Bool, true, false, _&&_, _||_, true≢false}
+use mathlib.Core.List.{List, [], _∷_, _++_}
 use mathlib.Core.Logic.{_≢_, _⊎_, inl, inr}
-use Prim.Native.Nat.{ℕ, _+_, _-_, _*_, _/_, _%_, _≤_, _<_}
+use Prim.Native.Nat.{ℕ, _+_, _-_, _*_, _%_, _≤_, _<_}
 use native.Mathlib.Omega.{arith}
 use lib.Dec.{eqb, leb, ltb}
 use borrow.Author.Tests.{leb-true, leb-false, ltb-true, ltb-false, lt-ltb, le-ltb, le-leb, lt-leb, eqb-true, eqb-false}
 use Rattle.u8oru16.specs.Signed.{sumOut, diffOut}
-use Rattle.registers.specs.ConditionCodes.{digit, exclusiveOr, bitAt, flag}
-use Rattle.registers.specs.Page.{Operation, ADD, ADC, ADDD, SUB, SBC, SUBD, DEC, INC, AND, AND16, OR, EOR, COM, NEG, ASL, LSR, ASR, ROL, ROR, MUL, _:=_, Page, codes, absent, negativeAndZero, carryIn, adding, subtracting}
-use Rattle.registers.specs.Settings.{by, addV, subV}
+use Rattle.u8oru16.specs.declared.u8u16.the-variants.{u16}
+use Rattle.registers.specs.ConditionCodes.{place, digit, exclusiveOr, bitAt, flag}
+use Rattle.registers.specs.Arithmetic.{Operation, ADD, ADC, ADDD, SUB, SBC, SUBD, DEC, INC, AND, AND16, OR, EOR, COM, NEG, ASL, LSR, ASR, ROL, ROR, MUL, Line, _:=_, negativeAndZero, carryIn}
+use Rattle.registers.specs.Laws.{untouched, lists, Kept, HalfCarryKept, CarryAlone, AddWhole, SubWhole, MulFlags, DecOverflow, IncOverflow, NegOverflow, AslOverflow, ReadWritten}
+use Rattle.registers.specs.Overflow.{addV, subV}
+use Rattle.registers.specs.Settings.{by, after}
 use Rattle.registers.specs.declared.CCBit.{CCBit}
 use Rattle.registers.specs.declared.CCBit.the-variants.{C, «V», Z, N, H}
 use Rattle.registers.specs.declared.CCBits.{CCBits}
 use Rattle.registers.specs.declared.Flags.{Flags}
 use Rattle.registers.specs.declared.Flags.the-variants.{Bought, Manual}
+use Rattle.registers.specs.declared.Name.the-variants.{A, B, D, X, Y, U, S as SP, PC, DP, CC}
 use Rattle.registers.proofs.Bits.{high-bit, next-bit}
-use Rattle.registers.proofs.Lines.{stays, reads}
-use Rattle.registers.proofs.Pages.{sumLines, sumPage, differencePage, add-page, sub-page, digit-le}
+use Rattle.registers.proofs.Lines.{absent, stays, reads}
+use Rattle.registers.proofs.Pages.{sumLines, add-page, sub-page, digit-le}
+use Rattle.registers.proofs.Reading.{place-inj}
 use Rattle.registers.proofs.Whole.{lifted-sum, lifted-diff}
 
--- a flag after an operation
-abbrev pub after : CCBit → Flags → Operation → CCBits → ℕ → ℕ → Bool
-after f s o cc a b = flag f (codes cc (by s o cc a b .flags))
-
-module _ (s : Flags) (cc : CCBits) (a b : ℕ) (la : a < 256) (lb : b < 256) (w : Bool) where
-  pub add-whole : by s (adding w) cc a b .value + 256 * digit (after C s (adding w) cc a b) ≡ a + b + carryIn w cc
-  add-whole =
-      let c = carryIn w cc in
-      let v = addV s a b c in
-      rw (← (add-page cc a b la lb s w), reads C cc (sumLines a b c ++ ((«V» := v) ∷ [])) [] (leb 256 (a + b + c)) refl)
-      (go (leb 256 (a + b + c)) refl (digit-le (w && flag C cc)))
-    where
-      go : (t : Bool) → leb 256 (a + b + carryIn w cc) ≡ t → carryIn w cc ≤ 1 → (a + b + carryIn w cc) % 256 + 256 * digit t ≡ a + b + carryIn w cc
-      go true e k = omega (arith, leb-true 256 (a + b + carryIn w cc) e)
-      go false e k = omega (arith, leb-false 256 (a + b + carryIn w cc) e)
-
-  pub sub-whole : by s (subtracting w) cc a b .value + b + carryIn w cc ≡ a + 256 * digit (after C s (subtracting w) cc a b)
-  sub-whole =
-      let c = carryIn w cc in
-      let v = subV s a b c in
-      let r = (a + 256 - (b + c)) % 256 in
-      rw (← (sub-page cc a b la lb s w), reads C cc (negativeAndZero 0x80 r ++ ((«V» := v) ∷ [])) [] (ltb a (b + c)) refl)
-      (go (ltb a (b + c)) refl (digit-le (w && flag C cc)))
-    where
-      go : (t : Bool) → ltb a (b + carryIn w cc) ≡ t → carryIn w cc ≤ 1 → (a + 256 - (b + carryIn w cc)) % 256 + b + carryIn w cc ≡ a + 256 * digit t
-      go true e k = omega (arith, ltb-true a (b + carryIn w cc) e)
-      go false e k = omega (arith, ltb-false a (b + carryIn w cc) e)
-
--- a flag with no line keeps its state
-pub kept : (f : CCBit) (s : Flags) (o : Operation) (cc : CCBits) (a b : ℕ) → absent f (by s o cc a b .flags) ≡ true → after f s o cc a b ≡ flag f cc
-kept f s o cc a b e = stays f cc (by s o cc a b .flags) e
-
--- H has a line in ADD and ADC alone
-pub half-carry-kept : (s : Flags) (o : Operation) (cc : CCBits) (a b : ℕ) → o ≢ ADD → o ≢ ADC → after H s o cc a b ≡ flag H cc
-half-carry-kept s o cc a b m n = kept H s o cc a b (go s o m n)
+pub add-whole : AddWhole
+add-whole s cc a b la lb w =
+    let c = carryIn w cc in
+    let v = addV s a b c in
+    rw (← (add-page cc a b la lb s w), reads C cc (sumLines a b c ++ ((«V» := v) ∷ [])) [] (leb 256 (a + b + c)) refl)
+    (go (leb 256 (a + b + c)) refl (digit-le (w && flag C cc)))
   where
-    go : (s : Flags) (o : Operation) → o ≢ ADD → o ≢ ADC → absent H (by s o cc a b .flags) ≡ true
-    go s ADD m n = absurd (m refl)
-    go s ADC m n = absurd (n refl)
-    go s ADDD m n = elim s [ Bought ↦ refl | Manual ↦ refl ]
-    go s SUB m n = elim s [ Bought ↦ refl | Manual ↦ refl ]
-    go s SBC m n = elim s [ Bought ↦ refl | Manual ↦ refl ]
-    go s SUBD m n = elim s [ Bought ↦ refl | Manual ↦ refl ]
-    go s DEC m n = elim s [ Bought ↦ refl | Manual ↦ refl ]
-    go s INC m n = elim s [ Bought ↦ refl | Manual ↦ refl ]
-    go s AND m n = elim s [ Bought ↦ refl | Manual ↦ refl ]
-    go s AND16 m n = elim s [ Bought ↦ refl | Manual ↦ refl ]
-    go s OR m n = elim s [ Bought ↦ refl | Manual ↦ refl ]
-    go s EOR m n = elim s [ Bought ↦ refl | Manual ↦ refl ]
-    go s COM m n = elim s [ Bought ↦ refl | Manual ↦ refl ]
-    go s NEG m n = elim s [ Bought ↦ refl | Manual ↦ refl ]
-    go s ASL m n = elim s [ Bought ↦ refl | Manual ↦ refl ]
-    go s LSR m n = elim s [ Bought ↦ refl | Manual ↦ refl ]
-    go s ASR m n = elim s [ Bought ↦ refl | Manual ↦ refl ]
-    go s ROL m n = elim s [ Bought ↦ refl | Manual ↦ refl ]
-    go s ROR m n = elim s [ Bought ↦ refl | Manual ↦ refl ]
-    go s MUL m n = elim s [ Bought ↦ refl | Manual ↦ refl ]
+    go : (t : Bool) → leb 256 (a + b + carryIn w cc) ≡ t → carryIn w cc ≤ 1 → (a + b + carryIn w cc) % 256 + 256 * digit t ≡ a + b + carryIn w cc
+    go true e k = omega (arith, leb-true 256 (a + b + carryIn w cc) e)
+    go false e k = omega (arith, leb-false 256 (a + b + carryIn w cc) e)
 
--- of the condition codes an operation reads C alone
-pub carry-alone : (s : Flags) (o : Operation) (cc dd : CCBits) (a b : ℕ) → flag C cc ≡ flag C dd → by s o cc a b ≡ by s o dd a b
+pub sub-whole : SubWhole
+sub-whole s cc a b la lb w =
+    let c = carryIn w cc in
+    let v = subV s a b c in
+    let r = (a + 256 - (b + c)) % 256 in
+    rw (← (sub-page cc a b la lb s w), reads C cc (negativeAndZero 0x80 r ++ ((«V» := v) ∷ [])) [] (ltb a (b + c)) refl)
+    (go (ltb a (b + c)) refl (digit-le (w && flag C cc)))
+  where
+    go : (t : Bool) → ltb a (b + carryIn w cc) ≡ t → carryIn w cc ≤ 1 → (a + 256 - (b + carryIn w cc)) % 256 + b + carryIn w cc ≡ a + 256 * digit t
+    go true e k = omega (arith, ltb-true a (b + carryIn w cc) e)
+    go false e k = omega (arith, ltb-false a (b + carryIn w cc) e)
+
+-- none of a list's flags has a line
+abbrev silent : List CCBit → List Line → Bool
+silent [] l = true
+silent (f ∷ fs) l = absent f l && silent fs l
+
+both : (t u : Bool) → (t && u) ≡ true → (t ≡ true) × (u ≡ true)
+both true u e = (refl, e)
+both false u e = absurd (true≢false (sym e))
+
+-- so a listed flag has none
+silent-absent : (fs : List CCBit) (l : List Line) (f : CCBit) → silent fs l ≡ true → lists fs f ≡ true → absent f l ≡ true
+silent-absent [] l f e h = absurd (true≢false (sym h))
+silent-absent (g ∷ fs) l f e h =
+    let k = both (absent g l) (silent fs l) e in
+    go (eqb (place f) (place g)) refl h (k .0) (λ m. silent-absent fs l f (k .1) m)
+  where
+    go : (t : Bool) → eqb (place f) (place g) ≡ t → (t || lists fs f) ≡ true → absent g l ≡ true → (lists fs f ≡ true → absent f l ≡ true) → absent f l ≡ true
+    go true q h a later = rw (place-inj f g (eqb-true (place f) (place g) q)) a
+    go false q h a later = later h
+
+-- the pages have no line for a flag of the table
+table : (s : Flags) (o : Operation) (cc : CCBits) (a b : ℕ) → silent (untouched o) (by s o cc a b .flags) ≡ true
+table s ADD cc a b = elim s [ Bought ↦ refl | Manual ↦ refl ]
+table s ADC cc a b = elim s [ Bought ↦ refl | Manual ↦ refl ]
+table s ADDD cc a b = elim s [ Bought ↦ refl | Manual ↦ refl ]
+table s SUB cc a b = elim s [ Bought ↦ refl | Manual ↦ refl ]
+table s SBC cc a b = elim s [ Bought ↦ refl | Manual ↦ refl ]
+table s SUBD cc a b = elim s [ Bought ↦ refl | Manual ↦ refl ]
+table s DEC cc a b = elim s [ Bought ↦ refl | Manual ↦ refl ]
+table s INC cc a b = elim s [ Bought ↦ refl | Manual ↦ refl ]
+table s AND cc a b = elim s [ Bought ↦ refl | Manual ↦ refl ]
+table s AND16 cc a b = elim s [ Bought ↦ refl | Manual ↦ refl ]
+table s OR cc a b = elim s [ Bought ↦ refl | Manual ↦ refl ]
+table s EOR cc a b = elim s [ Bought ↦ refl | Manual ↦ refl ]
+table s COM cc a b = elim s [ Bought ↦ refl | Manual ↦ refl ]
+table s NEG cc a b = elim s [ Bought ↦ refl | Manual ↦ refl ]
+table s ASL cc a b = elim s [ Bought ↦ refl | Manual ↦ refl ]
+table s LSR cc a b = elim s [ Bought ↦ refl | Manual ↦ refl ]
+table s ASR cc a b = elim s [ Bought ↦ refl | Manual ↦ refl ]
+table s ROL cc a b = elim s [ Bought ↦ refl | Manual ↦ refl ]
+table s ROR cc a b = elim s [ Bought ↦ refl | Manual ↦ refl ]
+table s MUL cc a b = elim s [ Bought ↦ refl | Manual ↦ refl ]
+
+pub kept : Kept
+kept s o cc a b f e = stays f cc (by s o cc a b .flags) (silent-absent (untouched o) (by s o cc a b .flags) f (table s o cc a b) e)
+
+-- H stands in the table but for ADD and ADC
+pub half-carry-kept : HalfCarryKept
+half-carry-kept s o cc a b m n = kept s o cc a b H (go o m n)
+  where
+    go : (o : Operation) → o ≢ ADD → o ≢ ADC → lists (untouched o) H ≡ true
+    go ADD m n = absurd (m refl)
+    go ADC m n = absurd (n refl)
+    go ADDD m n = refl
+    go SUB m n = refl
+    go SBC m n = refl
+    go SUBD m n = refl
+    go DEC m n = refl
+    go INC m n = refl
+    go AND m n = refl
+    go AND16 m n = refl
+    go OR m n = refl
+    go EOR m n = refl
+    go COM m n = refl
+    go NEG m n = refl
+    go ASL m n = refl
+    go LSR m n = refl
+    go ASR m n = refl
+    go ROL m n = refl
+    go ROR m n = refl
+    go MUL m n = refl
+
+pub carry-alone : CarryAlone
 carry-alone s ADD cc dd a b e = elim s [ Bought ↦ refl | Manual ↦ refl ]
 carry-alone s ADC cc dd a b e = elim s [ Bought ↦ rw e | Manual ↦ rw e ]
 carry-alone s ADDD cc dd a b e = elim s [ Bought ↦ refl | Manual ↦ refl ]
@@ -103,11 +144,11 @@ carry-alone s ROL cc dd a b e = elim s [ Bought ↦ rw e | Manual ↦ rw e ]
 carry-alone s ROR cc dd a b e = elim s [ Bought ↦ rw e | Manual ↦ rw e ]
 carry-alone s MUL cc dd a b e = elim s [ Bought ↦ refl | Manual ↦ refl ]
 
--- MUL's C is bit 7 of the product, and N and V stay
-pub mul-flags : (s : Flags) (cc : CCBits) (a b : ℕ)
-    → (after C s MUL cc a b ≡ bitAt 7 (a * b)) × (after N s MUL cc a b ≡ flag N cc) × (after «V» s MUL cc a b ≡ flag «V» cc)
-mul-flags Bought cc a b = (reads C cc ((Z := eqb (a * b) 0) ∷ []) [] _ refl, kept N Bought MUL cc a b refl, kept «V» Bought MUL cc a b refl)
-mul-flags Manual cc a b = (reads C cc ((Z := eqb (a * b) 0) ∷ []) [] _ refl, kept N Manual MUL cc a b refl, kept «V» Manual MUL cc a b refl)
+pub mul-flags : MulFlags
+mul-flags s cc a b =
+    let c : after C s MUL cc a b ≡ bitAt 7 (a * b) =
+    elim s [ Bought ↦ reads C cc ((Z := eqb (a * b) 0) ∷ []) [] _ refl | Manual ↦ reads C cc ((Z := eqb (a * b) 0) ∷ []) [] _ refl ] in
+    (c, kept s MUL cc a b N refl, kept s MUL cc a b «V» refl)
 
 -- a test that holds exactly where one of two bounds is passed
 passed : (p q r t : ℕ) (v : Bool) → (v ≡ true → (p < q) ⊎ (r ≤ t)) → (v ≡ false → (q ≤ p) × (t < r)) → v ≡ (ltb p q || leb r t)
@@ -120,36 +161,36 @@ passed p q r t true f g = go (f refl) (ltb p q) refl
 passed p q r t false f g = rw (le-ltb p q (g refl .0), lt-leb r t (g refl .1))
 
 module _ (a : ℕ) (la : a < 256) where
-  -- DEC: a - 1 leaves the range exactly at 80
-  pub dec-overflow : eqb a 0x80 ≡ diffOut 0x80 a 1 0
-  dec-overflow =
+  -- a - 1 leaves the range exactly at 80
+  dec-out : eqb a 0x80 ≡ diffOut 0x80 a 1 0
+  dec-out =
       let x = (a + 128) % 256 in
       passed (x + 128) 129 (128 + 129) x (eqb a 0x80)
       (λ e. inl (omega (arith, eqb-true a 0x80 e)))
       (λ e. (let n = eqb-false a 0x80 e in omega arith, omega arith))
       ∙ sym (lifted-diff 0x80 a 1 0 la (omega arith) 129 refl)
 
-  -- INC: a + 1 leaves the range exactly at 7F
-  pub inc-overflow : eqb a 0x7F ≡ sumOut 0x80 a 1 0
-  inc-overflow =
+  -- a + 1 leaves the range exactly at 7F
+  inc-out : eqb a 0x7F ≡ sumOut 0x80 a 1 0
+  inc-out =
       let s = (a + 128) % 256 + 129 in
       passed s 128 384 s (eqb a 0x7F)
       (λ e. inr (omega (arith, eqb-true a 0x7F e)))
       (λ e. (omega arith, let n = eqb-false a 0x7F e in omega arith))
       ∙ sym (lifted-sum 0x80 a 1 0 la (omega arith) s (omega arith))
 
-  -- NEG: 0 - a leaves the range exactly at 80
-  pub neg-overflow : eqb a 0x80 ≡ diffOut 0x80 0 a 0
-  neg-overflow =
+  -- 0 - a leaves the range exactly at 80
+  neg-out : eqb a 0x80 ≡ diffOut 0x80 0 a 0
+  neg-out =
       let y = (a + 128) % 256 in
       passed (128 + 128) y (128 + y) 128 (eqb a 0x80)
       (λ e. inr (omega (arith, eqb-true a 0x80 e)))
       (λ e. (omega arith, let n = eqb-false a 0x80 e in omega arith))
       ∙ sym (lifted-diff 0x80 0 a 0 (omega arith) la y (omega arith))
 
-  -- ASL: a + a leaves the range exactly where bits 6 and 7 differ
-  pub asl-overflow : exclusiveOr (bitAt 6 a) (bitAt 7 a) ≡ sumOut 0x80 a a 0
-  asl-overflow =
+  -- a + a leaves the range exactly where bits 6 and 7 differ
+  asl-out : exclusiveOr (bitAt 6 a) (bitAt 7 a) ≡ sumOut 0x80 a a 0
+  asl-out =
       let x = (a + 128) % 256 in
       let s = x + x in
       rw (← (next-bit a 0 (a * 2) (omega arith) (omega arith)), high-bit 7 a la)
@@ -161,3 +202,29 @@ module _ (a : ℕ) (la : a < 256) where
       go true false e f = rw (le-ltb ((a + 128) % 256 + (a + 128) % 256) 128 (omega (arith, leb-true 0x80 (a * 2 % 256) e, leb-false 0x80 a f)), le-leb 384 ((a + 128) % 256 + (a + 128) % 256) (omega (arith, leb-true 0x80 (a * 2 % 256) e, leb-false 0x80 a f)))
       go false true e f = rw (lt-ltb ((a + 128) % 256 + (a + 128) % 256) 128 (omega (arith, leb-false 0x80 (a * 2 % 256) e, leb-true 0x80 a f)))
       go false false e f = rw (le-ltb ((a + 128) % 256 + (a + 128) % 256) 128 (omega (arith, leb-false 0x80 (a * 2 % 256) e, leb-false 0x80 a f)), lt-leb 384 ((a + 128) % 256 + (a + 128) % 256) (omega (arith, leb-false 0x80 (a * 2 % 256) e, leb-false 0x80 a f)))
+
+-- what the page's line says of V, and that it is the signed rule
+pub dec-overflow : DecOverflow
+dec-overflow cc a b la = reads «V» cc (negativeAndZero 0x80 ((a + 255) % 256)) [] (eqb a 0x80) refl ∙ dec-out a la
+
+pub inc-overflow : IncOverflow
+inc-overflow cc a b la = reads «V» cc (negativeAndZero 0x80 ((a + 1) % 256)) [] (eqb a 0x7F) refl ∙ inc-out a la
+
+pub neg-overflow : NegOverflow
+neg-overflow cc a b la = reads «V» cc (negativeAndZero 0x80 ((256 - a) % 256)) ((C := ltb 0 a) ∷ []) (eqb a 0x80) refl ∙ neg-out a la
+
+pub asl-overflow : AslOverflow
+asl-overflow cc a b la =
+    reads «V» cc (negativeAndZero 0x80 (a * 2 % 256)) ((C := bitAt 7 a) ∷ []) (exclusiveOr (bitAt 6 a) (bitAt 7 a)) refl ∙ asl-out a la
+
+pub read-written : ReadWritten
+read-written r A v = refl
+read-written r B v = refl
+read-written r D v = ap u16 (omega arith)
+read-written r X v = refl
+read-written r Y v = refl
+read-written r U v = refl
+read-written r SP v = refl
+read-written r PC v = refl
+read-written r DP v = refl
+read-written r CC v = refl

@@ -4,10 +4,9 @@ pub mod Reading
 pub mod Bits
 pub mod Pages
 pub mod Shifts
-pub mod Overflow
+pub mod Apart
 pub mod Lines
 pub mod Parting
 pub mod Fits
 pub mod Laws
-pub mod Registers
 pub mod Unique

@@ -8,12 +8,17 @@ use Prim.Native.Nat.{ℕ}
 use borrow.Author.Tests.{eqb-false}
 use lib.Dec.{eqb}
 use Rattle.registers.specs.ConditionCodes.{place, flag}
-use Rattle.registers.specs.Page.{Line, _:=_, Page, codes, absent}
+use Rattle.registers.specs.Arithmetic.{Line, _:=_, Page, codes}
 use Rattle.registers.specs.Settings.{DifferInV}
 use Rattle.registers.specs.declared.CCBit.{CCBit}
 use Rattle.registers.specs.declared.CCBit.the-variants.{«V»}
 use Rattle.registers.specs.declared.CCBits.{CCBits}
 use Rattle.registers.proofs.Reading.{flag-same, flag-far, flag-other, flag-kept}
+
+-- a flag with no line
+abbrev pub absent : CCBit → List Line → Bool
+absent f [] = true
+absent f ((g := v) ∷ rest) = not (eqb (place f) (place g)) && absent f rest
 
 -- the first line names another flag, and so do the others
 first : (t u : Bool) → (not t && u) ≡ true → t ≡ false

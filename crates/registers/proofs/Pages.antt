@@ -1,17 +1,18 @@
 -- The page that the code works out in each setting, and that it is the setting's.
 -- Assumes nothing.
 use mathlib.Core.Path.{_≡_, refl, sym, ap, _∙_}
-use mathlib.Core.Bool.{Bool, true, false, not, _&&_, _||_, true≢false}
+use mathlib.Core.Bool.{Bool, true, false, _||_}
 use mathlib.Core.List.{List, [], _∷_, _++_}
 use Prim.Native.Nat.{ℕ, _+_, _-_, _*_, _/_, _%_, _≤_, _<_}
 use native.Mathlib.Nat.{mod-add-mod, mod-add-div'}
 use native.Mathlib.Omega.{arith}
 use lib.Dec.{eqb, leb, ltb}
 use borrow.Author.Tests.{leb-true, leb-false, ltb-true, ltb-false, le-leb, lt-leb, lt-ltb, le-ltb, eq-eqb, ne-eqb}
-use Rattle.registers.specs.ConditionCodes.{digit, bitAt, flag}
-use Rattle.registers.specs.Page.{DEC, INC, Line, _:=_, Page, negativeAndZero, carryIn, adding, subtracting}
+use Rattle.registers.specs.ConditionCodes.{digit, flag}
+use Rattle.registers.specs.Arithmetic.{DEC, INC, Line, _:=_, Page, negativeAndZero, carryIn, adding, subtracting}
 use Rattle.registers.specs.Bought.{add-u8, sub-u8}
-use Rattle.registers.specs.Settings.{by, addV, subV, decV, incV}
+use Rattle.registers.specs.Overflow.{addV, subV, decV, incV}
+use Rattle.registers.specs.Settings.{by}
 use Rattle.registers.specs.declared.CCBit.the-variants.{C, «V», Z, N, H}
 use Rattle.registers.specs.declared.CCBits.{CCBits}
 use Rattle.registers.specs.declared.Flags.{Flags}

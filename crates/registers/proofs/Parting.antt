@@ -4,22 +4,22 @@ use mathlib.Core.Path.{_≡_, refl, sym, ap, _∙_, subst}
 use mathlib.Core.Bool.{Bool, true, false, not, true≢false}
 use mathlib.Core.List.{[], _∷_}
 use mathlib.Core.Logic.{_≢_, _↔_, _⊎_, inl, inr, ⊎-elim}
-use Prim.Native.Nat.{ℕ, _+_, _*_, _/_, _%_, _-_, _≤_, _<_, _^_}
+use Prim.Native.Nat.{ℕ, _+_, _*_, _/_, _%_, _-_, _≤_, _<_}
 use native.Mathlib.Omega.{arith}
 use lib.Bits.{bitAnd, bitOr, bitXor, and-lt, or-lt, xor-lt}
 use lib.Dec.{eqb, leb, ltb}
 use borrow.Author.Tests.{ltb-true, ltb-false, lt-leb, eq-eqb, ne-eqb}
 use Rattle.registers.specs.ConditionCodes.{digit, flag}
-use Rattle.registers.specs.Page.{Operation, ADD, ADC, ADDD, SUB, SBC, SUBD, DEC, INC, AND, AND16, OR, EOR, COM, NEG, ASL, LSR, ASR, ROL, ROR, MUL, _:=_, Page, negativeAndZero, carry}
-use Rattle.registers.specs.Manual.{manual}
+use Rattle.registers.specs.Arithmetic.{Operation, ADD, ADC, ADDD, SUB, SBC, SUBD, DEC, INC, AND, AND16, OR, EOR, COM, NEG, ASL, LSR, ASR, ROL, ROR, MUL, _:=_, Page, negativeAndZero, carry, manual}
 use Rattle.registers.specs.Bought.{bought}
-use Rattle.registers.specs.Settings.{Parts, dec-00, dec-80, inc-7F, inc-FF, adc, sbc, DifferInV, SettingsPart, addV, subV, decV, incV}
-use Rattle.registers.specs.declared.CCBit.the-variants.{C, «V», Z, N, H}
+use Rattle.registers.specs.Overflow.{addV, subV, decV, incV}
+use Rattle.registers.specs.Settings.{Parts, dec-00, dec-80, inc-7F, inc-FF, adc, sbc, DifferInV, SettingsPart}
+use Rattle.registers.specs.declared.CCBit.the-variants.{C}
 use Rattle.registers.specs.declared.CCBits.{CCBits}
 use Rattle.registers.specs.declared.Flags.the-variants.{Bought, Manual}
 use Rattle.registers.proofs.Bits.{high-bit, next-bit, sign-kept}
 use Rattle.registers.proofs.Lines.{part, alike}
-use Rattle.registers.proofs.Overflow.{add-parts, sub-parts, tests-part}
+use Rattle.registers.proofs.Apart.{add-parts, sub-parts, tests-part}
 use Rattle.registers.proofs.Shifts.{rolled, rored}
 use Rattle.registers.proofs.Pages.{sumLines, sumPage, differencePage, add-page, sub-page, dec-page, inc-page, digit-le}
 

@@ -1,16 +1,15 @@
 -- The pages that the code works out for shifts and rotates are the manual's.
 -- Assumes nothing.
-use mathlib.Core.Path.{_≡_, refl, sym, ap, _∙_}
+use mathlib.Core.Path.{_≡_, refl, ap}
 use mathlib.Core.Bool.{Bool, true, false, cond}
 use mathlib.Core.List.{[], _∷_}
-use Prim.Native.Nat.{ℕ, _+_, _*_, _/_, _%_, _≤_, _<_}
+use Prim.Native.Nat.{ℕ, _+_, _*_, _/_, _%_, _<_}
 use native.Mathlib.Omega.{arith}
 use lib.Bits.{bitAnd, bitOr}
 use lib.Dec.{eqb, leb}
 use borrow.Author.Tests.{lt-leb}
-use Rattle.registers.specs.ConditionCodes.{digit, exclusiveOr, bitAt, flag}
-use Rattle.registers.specs.Page.{ASL, LSR, ASR, ROL, ROR, _:=_, Page, shifting, carry}
-use Rattle.registers.specs.Manual.{manual}
+use Rattle.registers.specs.ConditionCodes.{digit, exclusiveOr, flag}
+use Rattle.registers.specs.Arithmetic.{ASL, ROL, ROR, _:=_, Page, shifting, carry, manual}
 use Rattle.registers.specs.declared.CCBit.the-variants.{C, «V», Z, N}
 use Rattle.registers.specs.declared.CCBits.{CCBits}
 use Rattle.registers.proofs.Bits.{high-bit, low-bit, next-bit, into-left, into-right, sign-kept}

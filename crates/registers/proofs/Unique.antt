@@ -9,7 +9,7 @@ use Rattle.registers.proofs.Word
 use Rattle.registers.proofs.Index
 use Rattle.registers.proofs.Stack
 use Rattle.registers.proofs.Set
-use Rattle.registers.proofs
+use Rattle.registers.proofs.names
 
 pub info : Determines 0 CCBit.info.Kinds.ps CCBit.info.Kinds.r CCBit.info.Reads.Post
 info κs a x y ws vs p q = (p ∙ sym q, refl)
@@ -98,7 +98,7 @@ codes-reset κs a x y ws vs p q = (p ∙ sym q, refl)
 pub to-str : Determines 0 Name.to_str.Kinds.ps Name.to_str.Kinds.r Name.to_str.Reads.Post
 to-str κs a x y ws vs p q = (p ∙ sym q, refl)
 
-pub reg-size : Determines 0 proofs.reg_size.Kinds.ps proofs.reg_size.Kinds.r proofs.reg_size.Reads.Post
+pub reg-size : Determines 0 names.reg_size.Kinds.ps names.reg_size.Kinds.r names.reg_size.Reads.Post
 reg-size κs a x y ws vs p q = (p ∙ sym q, refl)
 
 pub set-register : Determines 0 Set.set_register.Kinds.ps Set.set_register.Kinds.r Set.set_register.Reads.Post
@@ -127,3 +127,6 @@ word κs a x y ws vs p q = (p ∙ sym q, refl)
 
 pub with-word : Determines 0 Set.with_word.Kinds.ps Set.with_word.Kinds.r Set.with_word.Reads.Post
 with-word κs a x y ws vs p q = (p ∙ sym q, refl)
+
+pub with-pc : Determines 0 Set.with_pc.Kinds.ps Set.with_pc.Kinds.r Set.with_pc.Reads.Post
+with-pc κs a x y ws vs p q = (p ∙ sym q, refl)

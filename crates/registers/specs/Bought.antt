@@ -1,13 +1,13 @@
 -- The arithmetic as the bought Rust computes it (registers.rs), a clause for each function: partial sums, masks and shifts.
 -- The flags stand in the order of the manual's pages; the Rust sets them one by one. Assumes nothing.
 use Prim.Native.Nat.{ℕ, _+_, _-_, _*_, _/_, _%_}
-use mathlib.Core.Bool.{Bool, true, false, not, cond, _||_}
+use mathlib.Core.Bool.{true, false, not, cond, _||_}
 use mathlib.Core.List.{[], _∷_}
 use lib.Bits.{bitAnd, bitOr, bitXor}
 use lib.Dec.{eqb, leb, ltb}
 use Rattle.u8oru16.specs.Signed.{sumOut, diffOut}
 use Rattle.registers.specs.ConditionCodes.{exclusiveOr, bitAt, flag}
-use Rattle.registers.specs.Page.{Operation, ADD, ADC, ADDD, SUB, SBC, SUBD, DEC, INC, AND, AND16, OR, EOR, COM, NEG, ASL, LSR, ASR, ROL, ROR, MUL, _:=_, Page, carry}
+use Rattle.registers.specs.Arithmetic.{Operation, ADD, ADC, ADDD, SUB, SBC, SUBD, DEC, INC, AND, AND16, OR, EOR, COM, NEG, ASL, LSR, ASR, ROL, ROR, MUL, _:=_, Page, carry}
 use Rattle.registers.specs.declared.CCBit.the-variants.{C, «V», Z, N, H}
 use Rattle.registers.specs.declared.CCBits.{CCBits}
 

@@ -1,7 +1,9 @@
 pub mod ConditionCodes
-pub mod Page
-pub mod Manual
+pub mod Arithmetic
 pub mod Bought
-pub mod Fits
+pub mod Overflow
 pub mod Settings
+pub mod Names
 pub mod RegisterSet
+pub mod Fits
+pub mod Laws

@@ -1,14 +1,11 @@
 -- The two flag settings, and where they part (document 01, section Flags).
 -- Assumes nothing.
-use Prim.Native.Nat.{ℕ, _+_, _-_, _%_, _≤_, _<_}
+use Prim.Native.Nat.{ℕ, _≤_, _<_}
 use mathlib.Core.Path.{_≡_}
-use mathlib.Core.Bool.{Bool, true, _||_}
+use mathlib.Core.Bool.{Bool, true}
 use mathlib.Core.Logic.{_≢_, _↔_}
-use lib.Dec.{eqb}
-use Rattle.u8oru16.specs.Signed.{sumOut, diffOut}
 use Rattle.registers.specs.ConditionCodes.{flag}
-use Rattle.registers.specs.Page.{Operation, ADC, SBC, DEC, INC, top, Page, codes}
-use Rattle.registers.specs.Manual.{manual}
+use Rattle.registers.specs.Arithmetic.{Operation, ADC, SBC, DEC, INC, top, Page, codes, manual}
 use Rattle.registers.specs.Bought.{bought}
 use Rattle.registers.specs.declared.CCBit.{CCBit}
 use Rattle.registers.specs.declared.CCBit.the-variants.{C, «V»}
@@ -20,6 +17,10 @@ use Rattle.registers.specs.declared.Flags.the-variants.{Bought, Manual}
 abbrev pub by : Flags → Operation → CCBits → ℕ → ℕ → Page
 by Manual = manual
 by Bought = bought
+
+-- a flag after an operation
+abbrev pub after : CCBit → Flags → Operation → CCBits → ℕ → ℕ → Bool
+after f s o cc a b = flag f (codes cc (by s o cc a b .flags))
 
 -- the inputs at which the settings part: with the first operand a and the second b
 pub data Parts (cc : CCBits) (a b : ℕ) : Operation → Type 0 where
@@ -39,20 +40,3 @@ pub record DifferInV (cc : CCBits) (p q : Page) (Case : Type 0) : Type 0 where
 -- the law: as bought and by the manual agree in the result and in every flag but V, and part in V exactly at those inputs
 abbrev pub SettingsPart : Type 0
 SettingsPart = (o : Operation) (cc : CCBits) (a b : ℕ) → a < top o → b < top o → DifferInV cc (bought o cc a b) (manual o cc a b) (Parts cc a b o)
-
--- V in each setting, for the code: after a sum, a difference, DEC and INC
-abbrev pub addV : Flags → ℕ → ℕ → ℕ → Bool
-addV Manual a b c = sumOut 0x80 a b c
-addV Bought a b c = sumOut 0x80 a c 0 || sumOut 0x80 ((a + c) % 256) b 0
-
-abbrev pub subV : Flags → ℕ → ℕ → ℕ → Bool
-subV Manual a b c = diffOut 0x80 a b c
-subV Bought a b c = diffOut 0x80 a c 0 || diffOut 0x80 ((a + 256 - c) % 256) b 0
-
-abbrev pub decV : Flags → ℕ → Bool
-decV Manual a = eqb a 0x80
-decV Bought a = eqb a 0
-
-abbrev pub incV : Flags → ℕ → Bool
-incV Manual a = eqb a 0x7F
-incV Bought a = eqb a 0xFF

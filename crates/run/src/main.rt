@@ -12,7 +12,7 @@ const FILE: usize = 32769;
 // 33 bytes for each of at most 32,768 operations: no text is longer (`play-fits`).
 const OUT: usize = 33 * 32768;
 
-// Its length is all that lending it asks for.
+// A function of its own, so that the proof of `main` knows its length and nothing of its bytes.
 fn out_buffer() -> [u8; OUT]
     ensures { λ r. ⌜ 33 * 32768 ≡ length r ⌝ }
 {

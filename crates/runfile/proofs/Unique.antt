@@ -6,6 +6,9 @@ use Prim.Native.Nat.{ℕ}
 use Rattle.answers.proofs.Determined.{Determines}
 use Rattle.runfile.proofs
 
+pub word : Determines 1 proofs.word.Kinds.ps proofs.word.Kinds.r proofs.word.Reads.Post
+word κs a x y ws vs p q = (p ∙ sym q, refl)
+
 pub operation-at : Determines 1 proofs.operation_at.Kinds.ps proofs.operation_at.Kinds.r proofs.operation_at.Reads.Post
 operation-at κs a x y ws vs p q = (p ∙ sym q, refl)
 

@@ -19,17 +19,17 @@ use Rattle.runfile.specs.declared.Next.the-variants.{Is, None}
 use Rattle.runfile.specs.declared.Operation.{Operation}
 use Rattle.runfile.specs.declared.Operation.the-variants.{Step, Irq, Firq, Nmi, Reset, Undo}
 
--- what is read at a place of the file, and the place after it; or that it does not stand there
+-- what is read at a place of the file, and the place after it; or `missing`, where the file has something else or ends
 pub data Read (A : Type 0) : Type 0 where
   got : A → ℕ → Read A
   missing : Read A
 
--- one thing after another
+-- read one thing, then the next from the place after it
 abbrev pub then : {A B : Type 0} → Read A → (A → ℕ → Read B) → Read B
 then (got a at) f = f a at
 then missing f = missing
 
--- n bytes stand from a place on
+-- the file has n bytes from a place on
 abbrev pub room : List ℕ → ℕ → ℕ → Bool
 room file at n = leb (at + n) (length file)
 
@@ -80,7 +80,7 @@ spanAt file at =
 unfoldable pub pieceAt : List ℕ → ℕ → Read Piece
 pieceAt file at = then (spanAt file at) λ s from. got (record { address = s .0; bytes = take (s .1) (drop from file) }) (from + s .1)
 
--- so many pieces
+-- n pieces, one after another
 unfoldable pub piecesAt : List ℕ → ℕ → ℕ → Read (List Piece)
 piecesAt file zero at = got [] at
 piecesAt file (suc n) at =
@@ -97,7 +97,7 @@ operationNumbered b = getD (Step ∷ Irq ∷ Firq ∷ Nmi ∷ Reset ∷ Undo ∷
 unfoldable pub operationAt : List ℕ → ℕ → Read Operation
 operationAt file at = cond (room file at 1 && leb (getD file at 0) 5) (got (operationNumbered (getD file at 0)) (at + 1)) missing
 
--- so many operations
+-- n operations, one after another
 unfoldable pub operationsAt : List ℕ → ℕ → ℕ → Read (List Operation)
 operationsAt file zero at = got [] at
 operationsAt file (suc n) at =
@@ -121,7 +121,7 @@ afterSettings file s at =
     then (operationsAt file m start) λ os end.
     got (record { settings = s; pieces = ps; operations = os }) end
 
--- the settings first
+-- the sections after the settings, where these could be read
 abbrev pub settled : List ℕ → Read Settings → Read RunFile
 settled file r = then r λ s next. afterSettings file s next
 
@@ -132,12 +132,12 @@ pub data Parsed : Type 0 where
   says : RunFile → Parsed
   malformed : Parsed
 
--- nothing stands after the sections
+-- malformed if a section is missing, or if bytes follow the last
 abbrev pub wholly : ℕ → Read RunFile → Parsed
 wholly size (got f end) = cond (eqb end size) (says f) malformed
 wholly size missing = malformed
 
--- what a file says; it is malformed if it is longer than 32,768 bytes, if a section does not stand there, or if bytes are to spare
+-- what a file says; it is malformed if it is longer than 32,768 bytes, if a section is missing, or if bytes follow the last
 unfoldable pub parsed : List ℕ → Parsed
 parsed file = cond (leb (length file) 32768) (wholly (length file) (sectionsOf file)) malformed
 

@@ -54,8 +54,8 @@ fn byte(file: &[u8], at: usize) -> u8
     if at < file.len() { file[at] } else { 0 }
 }
 
-// The word of two bytes, high byte first.
-fn word(file: &[u8], at: usize) -> u16
+// The word of two bytes, high byte first. A byte past the end is 0.
+pub fn word(file: &[u8], at: usize) -> u16
     ensures { λ r. ⌜ r ≡ wordIn (now (file .entry)) at ⌝ }
 {
     if at < file.len() {

@@ -41,7 +41,7 @@ pub fn machine(line: &Line, at: usize, pc: u16) -> Machine
     machine
 }
 
-// A byte put raw into memory, where it reaches so far.
+// A byte put raw into memory, if memory is long enough.
 fn put_one(mem: &mut [u8], at: u16, byte: u8) {
     let p = at as usize;
     if p < mem.len() {

@@ -2,21 +2,22 @@
 -- Assumes nothing.
 use Prim.Native.Nat.{ℕ, zero, suc, _+_, _-_, _*_, _/_, _%_, _≤_, _<_}
 use native.Mathlib.Omega.{arith}
+use native.Mathlib.Decide.{decLt}
 use mathlib.Core.Path.{_≡_, refl, sym, ap, _∙_}
 use mathlib.Core.Bool.{Bool, true, false, cond}
 use mathlib.Core.List.{List, [], _∷_, _++_, append-assoc, append-nil, map}
 use lib.Dec.{eqb}
-use lib.ListN.{length, take, drop, length-append, length-drop, length-replicate, take-append-drop, drop-of-length-le}
+use lib.ListN.{length, take, drop, replicate, length-append, length-drop, length-replicate, take-append-drop, drop-of-length-le}
 use lib.Seq.{sets, sets-eq, take-at, drop-append-add, drop-drop, take-add, length-take-le, take-all}
-use borrow.Author.Tests.{eq-eqb, ne-eqb, le-leb, eqb-true}
-use Rattle.srecord.specs.Text.{pairs, textOf}
+use borrow.Author.Tests.{eq-eqb, ne-eqb, le-leb, eqb-true, lt-ltb, le-ltb}
+use Rattle.text.specs.Hex.{glyph}
+use Rattle.srecord.specs.Layout.{pairs, textOf}
 use Rattle.srecord.specs.Line.{Meaning, piece, start, mayHold, meant, lineOf}
 use Rattle.srecord.specs.File.{linesOf, meaningsOf, done, judged, landed, loadedOf, memoryAfter}
 use Rattle.srecord.specs.Written.{rowOf, isZero, rowText, rowsText, textFor}
-use Rattle.srecord.specs.Promises.{zeros, blank, ReadsBack, OneForm}
+use Rattle.srecord.specs.Promises.{blank, ReadsBack, OneForm}
 use Rattle.srecord.specs.declared.Loaded.{Loaded}
 use Rattle.srecord.proofs.Bools.{and-parts}
-use Rattle.srecord.proofs.Digits.{not-feed}
 use Rattle.srecord.proofs.Shapes.{held}
 use Rattle.srecord.proofs.Rows.{row-width}
 use Rattle.srecord.proofs.Sound.{Each, each, each-take, each-drop, hold-kinds, allBytes, are-bytes, text-is, reads}
@@ -25,6 +26,14 @@ use Rattle.srecord.proofs.Sound.{Each, each, each-take, each-drop, hold
 abbrev NoFeed : List ℕ → Type 0
 NoFeed [] = Unit {0}
 NoFeed (c ∷ l) = (c ≡ 10 → ⊥) × NoFeed l
+
+-- a digit is no line feed
+not-feed : (n : ℕ) → n < 16 → 10 < glyph n
+not-feed n h = go (decLt n 10)
+  where
+    go : Dec (n < 10) → 10 < glyph n
+    go (yes l) = rw (lt-ltb n 10 l) (omega arith)
+    go (no l) = rw (le-ltb n 10 (omega arith)) (omega arith)
 
 no-feed : (l : List ℕ) → Each l → NoFeed (pairs l)
 unfolding pairs
@@ -54,7 +63,9 @@ line-cut kind a d rest low are may =
     ∙ ap (map lineOf) c
     ∙ ap (λ (m : Meaning). m ∷ map lineOf (linesOf rest)) (ap lineOf (sym t) ∙ reads kind a d low are may)
 
--- zeros
+abbrev zeros : ℕ → List ℕ
+zeros n = replicate n 0
+
 zero-row : (l : List ℕ) → isZero l ≡ true → l ≡ zeros (length l)
 unfolding isZero
 zero-row [] h = refl

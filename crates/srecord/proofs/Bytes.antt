@@ -6,7 +6,8 @@ use mathlib.Core.Path.{_≡_, refl, _∙_}
 use mathlib.Core.List.{List, [], _∷_}
 use lib.ListN.{length, getD, take, drop, length-drop}
 use lib.Seq.{getD-drop, getD-take, length-take-le}
-use Rattle.srecord.specs.Text.{bytesOf, byteOf}
+use Rattle.text.specs.Hex.{byteOf}
+use Rattle.srecord.specs.Layout.{bytesOf}
 use Rattle.srecord.specs.Line.{bytes}
 
 pub bytes-length : (t : List ℕ) → length (bytesOf t) ≡ length t / 2

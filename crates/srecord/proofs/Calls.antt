@@ -8,7 +8,7 @@ use mathlib.Core.List.{List, []}
 use lib.ListN.{length, drop, length-append, length-take}
 use lib.Seq.{sets}
 use borrow.Author.Tests.{eq-eqb, ne-eqb, lt-ltb, le-ltb}
-use Rattle.srecord.specs.Text.{textOf}
+use Rattle.srecord.specs.Layout.{textOf}
 use Rattle.srecord.specs.File.{meaningsOf, judged, failed, landed, allowed, loadedOf, memoryAfter}
 use Rattle.srecord.specs.Written.{rowOf, isZero, rowText, rowsText, textFor, stopped, writtenOf, outputAfter}
 use Rattle.answers.specs.Numbers.{numberOf, numberOfAnswer}

@@ -3,54 +3,22 @@
 use Prim.Native.Nat.{ℕ, zero, suc, _+_, _-_, _*_, _/_, _%_, _≤_, _<_}
 use native.Mathlib.Omega.{arith}
 use mathlib.Core.Path.{_≡_, refl, sym, ap, _∙_}
-use mathlib.Core.Bool.{Bool, true, false, cond, _&&_}
+use mathlib.Core.Bool.{Bool, true, false, _&&_}
 use mathlib.Core.List.{List, [], _∷_, _++_}
-use lib.Dec.{leb, ltb}
+use lib.Dec.{leb}
 use lib.ListN.{length, getD, take, drop}
 use lib.Seq.{length-take-le, take-length}
-use borrow.Author.Tests.{eqb-true, leb-true, lt-ltb, le-ltb}
-use Rattle.srecord.specs.Text.{isFigure, isCapital, isDigit, valueOf, digitOf, byteOf, pairs, isPaired, bytesOf, checksum, summed, textOf}
+use borrow.Author.Tests.{eqb-true}
+use Rattle.text.specs.Hex.{isDigit}
+use Rattle.text.proofs.Digits.{byte-small, hex2-of-byte}
+use Rattle.srecord.specs.Layout.{pairs, isPaired, bytesOf, checksum, summed, textOf}
 use Rattle.srecord.specs.Line.{Meaning, isSummed, bytes, addressOf, dataOf, meant, lineOf}
 use Rattle.srecord.specs.Promises.{Bytes, IsLine, Stands, LineExact}
 use Rattle.srecord.proofs.Bools.{and-parts}
-use Rattle.srecord.proofs.Digits.{value-figure, value-capital, value-small, byte-small}
 use Rattle.srecord.proofs.Scan.{take-one}
 use Rattle.srecord.proofs.Shapes.{Held, in-0, in-1, in-9, Shaped, may-hold}
 use Rattle.srecord.proofs.Lines.{Found, bad, good, found}
 use Rattle.srecord.proofs.Sound.{Each, each-take, each-drop, text-is}
-
--- a digit is that of the number for which it stands
-digit-value : (c : ℕ) → isDigit c ≡ true → digitOf (valueOf c) ≡ c
-unfolding digitOf
-digit-value c e = go (isFigure c) refl (isCapital c) refl
-  where
-    go : (u : Bool) → isFigure c ≡ u → (v : Bool) → isCapital c ≡ v → cond (ltb (valueOf c) 10) (valueOf c + 48) (valueOf c + 55) ≡ c
-    go true p v q =
-        let r = and-parts (leb 48 c) (leb c 57) p in
-        let lo = leb-true 48 c (r .0) in
-        let hi = leb-true c 57 (r .1) in
-        let n = value-figure c lo (omega arith) in
-        rw (lt-ltb (valueOf c) 10 (omega arith)) (omega arith)
-    go false p true q =
-        let r = and-parts (leb 65 c) (leb c 70) q in
-        let lo = leb-true 65 c (r .0) in
-        let hi = leb-true c 70 (r .1) in
-        let n = value-capital c lo (omega arith) in
-        rw (le-ltb (valueOf c) 10 (omega arith)) (omega arith)
-    go false p false q = let z : false ≡ true = sym (rw (p, q)) ∙ e in cc
-
-module _ (a b : ℕ) where
-  high : isDigit a ≡ true → digitOf (byteOf a b / 16) ≡ a
-  high e =
-      let n = value-small b in
-      let h : byteOf a b / 16 ≡ valueOf a = omega arith in
-      rw h (digit-value a e)
-
-  low : isDigit b ≡ true → digitOf (byteOf a b % 16) ≡ b
-  low e =
-      let n = value-small b in
-      let h : byteOf a b % 16 ≡ valueOf b = omega arith in
-      rw h (digit-value b e)
 
 -- pairs of digits and a line feed are the text of their bytes
 paired-exact : (t : List ℕ) → isPaired t ≡ true → t ≡ pairs (bytesOf t) ++ (10 ∷ [])
@@ -60,7 +28,7 @@ paired-exact (c ∷ []) e = rw (eqb-true c 10 e)
 paired-exact (a ∷ b ∷ t) e =
     let p = and-parts (isDigit a) (isDigit b && isPaired t) e in
     let q = and-parts (isDigit b) (isPaired t) (p .1) in
-    rw (high a b (p .0), low a b (q .0)) (ap (λ (l : List ℕ). a ∷ b ∷ l) (paired-exact t (q .1)))
+    ap (λ (l : List ℕ). a ∷ b ∷ l) (paired-exact t (q .1)) ∙ ap (λ (l : List ℕ). l ++ (pairs (bytesOf t) ++ (10 ∷ []))) (sym (hex2-of-byte a b (p .0) (q .0)))
 
 each-byte : (t : List ℕ) → Each (bytesOf t)
 unfolding bytesOf

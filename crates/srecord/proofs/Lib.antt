@@ -1,5 +1,4 @@
 pub mod Bools
-pub mod Digits
 pub mod Scan
 pub mod Laying
 pub mod Bytes

@@ -8,7 +8,8 @@ use mathlib.Core.Bool.{true, false}
 use mathlib.Core.List.{List, [], _∷_, _++_, append-assoc, append-nil}
 use lib.ListN.{length, take, drop, length-append, length-drop}
 use lib.Seq.{sets, length-sets, length-take-le}
-use Rattle.srecord.specs.Text.{pair, pairs, total, summed, textOf}
+use Rattle.text.specs.Hex.{hex2}
+use Rattle.srecord.specs.Layout.{pairs, total, summed, textOf}
 use Rattle.srecord.specs.Written.{rowOf, isZero, rowText, rowsText}
 use Rattle.srecord.proofs.Laying.{sets-two, pairs-length, pairs-one}
 
@@ -48,13 +49,13 @@ module _ (at kind a sum : ℕ) (d out o₁ o₂ o₃ o₄ o₅ : List ℕ)
       let k = length-append h f in
       e₃ ∙ rw two (sets-two at (at + 8) (h ++ f) (pairs d) out (omega arith))
 
-  four : o₄ ≡ sets out at (((h ++ f) ++ pairs d) ++ pair (255 - sum))
+  four : o₄ ≡ sets out at (((h ++ f) ++ pairs d) ++ hex2 (255 - sum))
   four =
       let n = pairs-length ((length d + 3) ∷ a / 256 ∷ a % 256 ∷ []) in
       let m = pairs-length d in
       let k = length-append h f in
       let j = length-append (h ++ f) (pairs d) in
-      e₄ ∙ rw (three, pairs-one (255 - sum)) (sets-two at (at + 8 + 2 * length d) ((h ++ f) ++ pairs d) (pair (255 - sum)) out (omega arith))
+      e₄ ∙ rw (three, pairs-one (255 - sum)) (sets-two at (at + 8 + 2 * length d) ((h ++ f) ++ pairs d) (hex2 (255 - sum)) out (omega arith))
 
   pub line-put : o₅ ≡ sets out at (textOf kind a d)
   unfolding textOf pairs
@@ -63,10 +64,10 @@ module _ (at kind a sum : ℕ) (d out o₁ o₂ o₃ o₄ o₅ : List ℕ)
       let m = pairs-length d in
       let k = length-append h f in
       let j = length-append (h ++ f) (pairs d) in
-      let i = length-append ((h ++ f) ++ pairs d) (pair (255 - sum)) in
-      let last : sets o₄ (at + 8 + 2 * length d + 2) (10 ∷ []) ≡ sets out at ((((h ++ f) ++ pairs d) ++ pair (255 - sum)) ++ (10 ∷ [])) =
-      rw four (sets-two at (at + 8 + 2 * length d + 2) (((h ++ f) ++ pairs d) ++ pair (255 - sum)) (10 ∷ []) out (omega arith)) in
-      let same : ((((h ++ f) ++ pairs d) ++ pair (255 - sum)) ++ (10 ∷ [])) ≡ textOf kind a d = rw s (ap (λ (l : List ℕ). (h ++ f) ++ l) (append-assoc (pairs d) (pair (255 - total (summed a d) % 256)) (10 ∷ []))) in
+      let i = length-append ((h ++ f) ++ pairs d) (hex2 (255 - sum)) in
+      let last : sets o₄ (at + 8 + 2 * length d + 2) (10 ∷ []) ≡ sets out at ((((h ++ f) ++ pairs d) ++ hex2 (255 - sum)) ++ (10 ∷ [])) =
+      rw four (sets-two at (at + 8 + 2 * length d + 2) (((h ++ f) ++ pairs d) ++ hex2 (255 - sum)) (10 ∷ []) out (omega arith)) in
+      let same : ((((h ++ f) ++ pairs d) ++ hex2 (255 - sum)) ++ (10 ∷ [])) ≡ textOf kind a d = rw s (ap (λ (l : List ℕ). (h ++ f) ++ l) (append-assoc (pairs d) (hex2 (255 - total (summed a d) % 256)) (10 ∷ []))) in
       e₅ ∙ last ∙ ap (λ (l : List ℕ). sets out at l) same
 
 -- row k as a part of memory: its start and end are 32 k and 32 k + 32

@@ -10,7 +10,8 @@ use lib.Dec.{eqb}
 use borrow.Author.Tests.{eq-eqb, ne-eqb}
 use lib.ListN.{length, getD, take, drop, drop-of-length-le}
 use lib.Seq.{drop-cons, take-suc}
-use Rattle.srecord.specs.Text.{isDigit, isPaired, total}
+use Rattle.text.specs.Hex.{isDigit}
+use Rattle.srecord.specs.Layout.{isPaired, total}
 use Rattle.srecord.specs.File.{first, joined, linesOf, lineEnd}
 use Rattle.srecord.specs.Written.{isZero}
 

@@ -9,7 +9,8 @@ use lib.Dec.{eqb, leb}
 use lib.ListN.{length, getD, take, drop, length-drop, drop-of-length-le}
 use lib.Seq.{length-take-le, take-all}
 use borrow.Author.Tests.{eq-eqb, ne-eqb, le-leb, lt-leb, leb-true, eqb-true}
-use Rattle.srecord.specs.Text.{isPaired, bytesOf, isDigit}
+use Rattle.text.specs.Hex.{isDigit}
+use Rattle.srecord.specs.Layout.{isPaired, bytesOf}
 use Rattle.srecord.specs.Line.{most, mayHold, isCounted, isShaped, bytes, dataOf}
 use Rattle.srecord.proofs.Bools.{and-false, and-parts}
 

@@ -8,10 +8,11 @@ use mathlib.Core.List.{List, [], _∷_, _++_, append-assoc}
 use lib.ListN.{length, take, drop, length-append}
 use lib.Seq.{take-append-seam, getD-append-seam}
 use borrow.Author.Tests.{eq-eqb, le-leb}
-use Rattle.srecord.specs.Text.{pair, pairs, isPaired, bytesOf, checksum, summed, textOf}
+use Rattle.text.specs.Hex.{hex2}
+use Rattle.text.proofs.Digits.{glyph-is-digit, byte-of-hex2}
+use Rattle.srecord.specs.Layout.{pairs, isPaired, bytesOf, checksum, summed, textOf}
 use Rattle.srecord.specs.Line.{most, mayHold, isShaped, isSummed, bytes, addressOf, dataOf, meant, lineOf}
 use Rattle.srecord.specs.Promises.{Bytes, LineReads}
-use Rattle.srecord.proofs.Digits.{is-digit, byte-pair}
 use Rattle.srecord.proofs.Laying.{pairs-append, pairs-one}
 use Rattle.srecord.proofs.Lines.{sound}
 use Rattle.srecord.proofs.Shapes.{Held, in-0, in-1, in-9, held}
@@ -39,12 +40,12 @@ each-drop (suc n) (b ∷ l) h = each-drop n l (h .1)
 pub pairs-paired : (l : List ℕ) → Each l → isPaired (pairs l ++ (10 ∷ [])) ≡ true
 unfolding isPaired pairs
 pairs-paired [] h = refl
-pairs-paired (b ∷ l) h = rw (is-digit (b / 16) (omega (arith, h .0)), is-digit (b % 16) (omega arith)) (pairs-paired l (h .1))
+pairs-paired (b ∷ l) h = rw (glyph-is-digit (b / 16) (omega (arith, h .0)), glyph-is-digit (b % 16) (omega arith)) (pairs-paired l (h .1))
 
 pub pairs-bytes : (l : List ℕ) → Each l → bytesOf (pairs l ++ (10 ∷ [])) ≡ l
 unfolding bytesOf pairs
 pairs-bytes [] h = refl
-pairs-bytes (b ∷ l) h = rw (byte-pair b (h .0), pairs-bytes l (h .1))
+pairs-bytes (b ∷ l) h = rw (byte-of-hex2 b (h .0), pairs-bytes l (h .1))
 
 pub bytes-append : (l m : List ℕ) → Each l → Each m → Each (l ++ m)
 bytes-append [] m h k = k
@@ -64,7 +65,7 @@ pub text-is : (kind a : ℕ) (d : List ℕ) → textOf kind a d ≡ 83 ∷ kind 
 unfolding textOf
 text-is kind a d =
     rw (pairs-append (summed a d) (checksum (summed a d) ∷ []), pairs-one (checksum (summed a d)))
-    (ap (λ (l : List ℕ). 83 ∷ kind ∷ l) (sym (append-assoc (pairs (summed a d)) (pair (checksum (summed a d))) (10 ∷ []))))
+    (ap (λ (l : List ℕ). 83 ∷ kind ∷ l) (sym (append-assoc (pairs (summed a d)) (hex2 (checksum (summed a d))) (10 ∷ []))))
 
 module _ (kind a : ℕ) (d : List ℕ) (low : a < 65536) (are : Each d) (may : mayHold kind (length d) ≡ true) where
   abbrev sum : ℕ

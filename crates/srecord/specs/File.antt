@@ -6,7 +6,7 @@ use mathlib.Core.List.{List, [], _∷_, map}
 use lib.Dec.{eqb}
 use lib.ListN.{length, drop}
 use lib.Seq.{sets}
-use Rattle.srecord.specs.Text.{lineFeed}
+use Rattle.text.specs.Lines.{lineFeed}
 use Rattle.srecord.specs.Line.{Meaning, heading, piece, start, refused, lineOf}
 use Rattle.answers.specs.declared.Answer.{Answer}
 use Rattle.answers.specs.declared.Answer.the-variants.{Done, Refused}

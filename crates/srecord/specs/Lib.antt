@@ -1,4 +1,4 @@
-pub mod Text
+pub mod Layout
 pub mod Line
 pub mod File
 pub mod Written

@@ -5,7 +5,7 @@ use mathlib.Core.Bool.{Bool, cond, _&&_}
 use mathlib.Core.List.{List}
 use lib.Dec.{eqb, leb}
 use lib.ListN.{length, getD, take, drop}
-use Rattle.srecord.specs.Text.{letterS, kind0, kind1, kind9, isPaired, bytesOf, checksum}
+use Rattle.srecord.specs.Layout.{letterS, kind0, kind1, kind9, isPaired, bytesOf, checksum}
 use Rattle.srecord.specs.declared.line.Line.{Line}
 use Rattle.srecord.specs.declared.line.Line.the-variants.{Header, Data, End, Bad}
 use Rattle.answers.specs.declared.Refusal.{Refusal}
@@ -61,7 +61,7 @@ lineOf text =
     (cond (isSummed (bytes text)) (meant (getD text 1 0) (addressOf (bytes text)) (dataOf (bytes text))) (refused Checksum))
     (refused LineShape)
 
--- what `line_of` answers: of the data, how many
+-- what `line_of` answers: the meaning, with the count of the data in place of the data
 abbrev pub shown : Meaning → Line
 shown (heading d) = Header
 shown (piece a d) = Data a (length d)

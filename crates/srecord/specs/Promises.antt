@@ -5,7 +5,7 @@ use mathlib.Core.Path.{_≡_}
 use mathlib.Core.Bool.{true}
 use mathlib.Core.List.{List, []}
 use lib.ListN.{length, getD, replicate}
-use Rattle.srecord.specs.Text.{kind0, kind1, kind9, textOf}
+use Rattle.srecord.specs.Layout.{kind0, kind1, kind9, textOf}
 use Rattle.srecord.specs.Line.{Meaning, heading, piece, start, refused, mayHold, meant, lineOf}
 use Rattle.srecord.specs.File.{done, loadedOf, memoryAfter}
 use Rattle.srecord.specs.Written.{textFor, writtenOf, outputAfter}
@@ -17,11 +17,8 @@ abbrev pub Bytes : List ℕ → Type 0
 Bytes l = (i : ℕ) → getD l i 0 < 256
 
 -- a zeroed memory
-abbrev pub zeros : ℕ → List ℕ
-zeros n = replicate n 0
-
 unfoldable pub blank : List ℕ
-blank = zeros 65536
+blank = replicate 65536 0
 
 -- a line of the format: the text of a kind, an address and as many data bytes as the kind may have
 pub record IsLine (text : List ℕ) (kind a : ℕ) (d : List ℕ) : Type 0 where
@@ -34,14 +31,14 @@ pub record IsLine (text : List ℕ) (kind a : ℕ) (d : List ℕ) : Type 0 where
 abbrev pub LineReads : Type 0
 LineReads = (text : List ℕ) (kind a : ℕ) (d : List ℕ) → IsLine text kind a d → lineOf text ≡ meant kind a d
 
--- which line a text is, by what it means; the address of an S0 line says nothing
+-- the text is a line of the format with this meaning; of S0, whose address says nothing, with some address
 abbrev pub Stands : List ℕ → Meaning → Type 0
 Stands text (heading d) = (a : ℕ) × IsLine text kind0 a d
 Stands text (piece a d) = IsLine text kind1 a d
 Stands text (start a) = IsLine text kind9 a []
 Stands text (refused r) = Unit {0}
 
--- a line that is not refused is one of the format, character by character that of its meaning
+-- a line that is not refused is exactly the text of its kind, address and data
 abbrev pub LineExact : Type 0
 LineExact = (text : List ℕ) → Stands text (lineOf text)
 

@@ -6,7 +6,7 @@ use mathlib.Core.List.{List, [], _∷_, _++_}
 use lib.Dec.{eqb, ltb}
 use lib.ListN.{length, take, drop}
 use lib.Seq.{sets}
-use Rattle.srecord.specs.Text.{kind1, kind9, textOf}
+use Rattle.srecord.specs.Layout.{kind1, kind9, textOf}
 use Rattle.answers.specs.declared.Answer.the-variants.{Done, Refused}
 use Rattle.answers.specs.declared.Refusal.{Refusal}
 use Rattle.answers.specs.declared.Refusal.the-variants.{MemoryLength, OutputShort}
@@ -36,7 +36,7 @@ textFor mem a = rowsText mem 2048 ++ textOf kind9 a []
 abbrev pub stopped : Refusal → Written
 stopped r = record { count = 0; answer = Refused r }
 
--- the answer; and the output, its bytes past the text as they were, all of them if refused
+-- the answer, and the output afterwards: the text at its front and the rest as it was; if refused, all as it was
 unfoldable pub writtenOf : List ℕ → ℕ → List ℕ → Written
 writtenOf mem a out =
     cond (eqb (length mem) 65536)

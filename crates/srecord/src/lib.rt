@@ -1,7 +1,7 @@
 // Motorola S-records (document 02, request [1]): a file of S0, S1 and S9 lines read into a memory, and a memory written as one.
 mod file;
+mod layout;
 mod line;
-mod text;
 mod written;
 
 use answers::Answer;

@@ -3,10 +3,9 @@ ghost use mathlib.Core.Path.{_≡_};
 ghost use mathlib.Core.Bool.{true};
 ghost use Prim.Native.Nat.{_%_, _≤_};
 ghost use lib.ListN.{length, getD, take};
-ghost use Rattle.srecord.specs.Text.{total};
+ghost use Rattle.srecord.specs.Layout.{total};
 ghost use Rattle.srecord.specs.Line.{bytes, mayHold, isShaped, isSummed, addressOf, dataOf, meant, lineOf, shown};
-use super::text::paired;
-use super::text::value;
+use super::layout::paired;
 use answers::Refusal;
 
 // One line. The data of an S1 line are in its text, pairs of digits from index 8 on.
@@ -35,9 +34,7 @@ pub fn byte(text: &[u8], i: usize) -> u8
     if size(text) <= i {
         return 0;
     }
-    let high = value(text[2 + 2 * i]);
-    let low = value(text[3 + 2 * i]);
-    16 * high + low
+    text::byte(text[2 + 2 * i], text[3 + 2 * i])
 }
 
 // The low byte of the sum of the first n bytes of a line.

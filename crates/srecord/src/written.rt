@@ -4,11 +4,10 @@ ghost use mathlib.Core.List.{[]};
 ghost use Prim.Native.Nat.{_+_, _*_, _≤_};
 ghost use lib.ListN.{length};
 ghost use lib.Seq.{sets};
-ghost use Rattle.srecord.specs.Text.{kind9, pairs, textOf};
+ghost use Rattle.srecord.specs.Layout.{kind9, pairs, textOf};
 ghost use Rattle.srecord.specs.Line.{most};
 ghost use Rattle.srecord.specs.Written.{stopped, rowsText, isZero, writtenOf, outputAfter};
-use super::text::pair_of;
-use super::text::sum_of;
+use super::layout::sum_of;
 use answers::Answer;
 use answers::Refusal;
 
@@ -18,22 +17,14 @@ pub struct Written {
     pub answer: Answer,
 }
 
-fn put_text(out: &mut [u8], at: usize, text: &[u8])
-    requires { ⌜ at + length (now text) ≤ length (now out) ⌝ }
-    ensures { λ _. ⌜ now (out .exit) ≡ sets (now (out .entry)) at (now (text .entry)) ⌝ }
-{
-    let end = at + text.len();
-    bytes::copy(text, &mut out[at..end]);
-}
-
 fn put_pairs(out: &mut [u8], at: usize, list: &[u8])
     requires { ⌜ at + 2 * length (now list) ≤ length (now out) ⌝ }
     ensures { λ _. ⌜ now (out .exit) ≡ sets (now (out .entry)) at (pairs (now (list .entry))) ⌝ }
 {
     let mut i = 0;
     while i < list.len() {
-        let digits = pair_of(list[i]);
-        put_text(out, at + 2 * i, &digits);
+        let digits = text::hex2(list[i]);
+        text::put(out, at + 2 * i, &digits);
         i += 1;
     }
 }
@@ -44,7 +35,7 @@ fn put_line(out: &mut [u8], at: usize, kind: u8, address: u16, list: &[u8])
     ensures { λ _. ⌜ now (out .exit) ≡ sets (now (out .entry)) at (textOf kind address (now (list .entry))) ⌝ }
 {
     let head = [83, kind];
-    put_text(out, at, &head);
+    text::put(out, at, &head);
     let fields = [
         (list.len() + 3) as u8,
         (address / 256) as u8,
@@ -55,7 +46,7 @@ fn put_line(out: &mut [u8], at: usize, kind: u8, address: u16, list: &[u8])
     let sum = std::num::wrapping_add_u8(sum_of(&fields), sum_of(list));
     let after = at + 8 + 2 * list.len();
     put_pairs(out, after, &[!sum]);
-    put_text(out, after + 2, b"\n");
+    text::put(out, after + 2, b"\n");
 }
 
 fn all_zero(row: &[u8]) -> bool
@@ -115,7 +106,7 @@ fn put_end(out: &mut [u8], at: usize, start: u16)
     ensures { λ _. ⌜ now (out .exit) ≡ sets (now (out .entry)) at (textOf kind9 start []) ⌝ }
 {
     if start == 0 {
-        put_text(out, at, b"S9030000FC\n");
+        text::put(out, at, b"S9030000FC\n");
     } else {
         put_line(out, at, b'9', start, b"");
     }

@@ -1,6 +1,6 @@
 -- What is still to be pulled, register by register from the end of the order of pushing.
 -- Assumes nothing.
-use Prim.Native.Nat.{ℕ, zero, suc, _+_, _%_, _<_}
+use Prim.Native.Nat.{ℕ, zero, suc, _+_, _-_, _%_, _<_}
 use mathlib.Core.Path.{_≡_, refl, sym, ap, _∙_}
 use mathlib.Core.Bool.{true, false, cond}
 use mathlib.Core.List.{List, [], _∷_, reverse}
@@ -11,70 +11,57 @@ use lib.Seq.{drop-cons}
 use Rattle.u8oru16.specs.declared.u8u16.the-variants.{u8, u16}
 use Rattle.answers.specs.declared.Refusal.{Refusal}
 use Rattle.registers.specs.ConditionCodes.{bitAt}
+use Rattle.registers.specs.Names.{sizeOf}
 use Rattle.registers.specs.RegisterSet.{written}
 use Rattle.registers.specs.declared.Name.{Name}
 use Rattle.registers.specs.declared.Name.the-variants.{CC}
 use Rattle.registers.specs.declared.Set.{Set}
 use Rattle.registers.specs.declared.Stack.{Stack}
-use Rattle.registers.specs.declared.Stack.the-variants.{S, U}
 use Rattle.memory.specs.Map.{byteAt, wordAt, valueAt}
 use Rattle.memory.specs.declared.WordRead.the-variants.{Word, Refused as NotRead}
 use Rattle.stack.specs.Pushing.{order, chosen}
 use Rattle.stack.specs.Pulling.{pulledInto, pulls}
 use Rattle.stack.specs.declared.pulling.Pulled.{Pulled}
 use Rattle.stack.specs.declared.pulling.Pulled.the-variants.{To, Refused}
+use Rattle.stack.proofs.Filling.{bit-of, word-of, byte-of}
 
+-- what is pulled at place k is what is pushed at place 7 - k
+reversed : (stack : Stack) (k : ℕ) → k < 8 → getD (reverse (order stack)) k (0, CC) ≡ getD (order stack) (7 - k) (0, CC)
+reversed stack zero h = refl
+reversed stack (suc zero) h = refl
+reversed stack (suc (suc zero)) h = refl
+reversed stack (suc (suc (suc zero))) h = refl
+reversed stack (suc (suc (suc (suc zero)))) h = refl
+reversed stack (suc (suc (suc (suc (suc zero))))) h = refl
+reversed stack (suc (suc (suc (suc (suc (suc zero)))))) h = refl
+reversed stack (suc (suc (suc (suc (suc (suc (suc zero))))))) h = refl
+reversed stack (suc (suc (suc (suc (suc (suc (suc (suc k)))))))) h = absurd (omega arith)
+
+-- so bit k names it, the first four are bytes and the last four words
 abbrev nameAt : Stack → ℕ → Name
 nameAt stack k = getD (reverse (order stack)) k (0, CC) .1
 
--- bit k names the register at place k
-bit-of : (stack : Stack) (k : ℕ) → k < 8 → getD (reverse (order stack)) k (0, CC) .0 ≡ k
-bit-of stack zero h = refl
-bit-of stack (suc zero) h = refl
-bit-of stack (suc (suc zero)) h = refl
-bit-of stack (suc (suc (suc zero))) h = refl
-bit-of stack (suc (suc (suc (suc zero)))) h = refl
-bit-of stack (suc (suc (suc (suc (suc zero))))) h = refl
-bit-of stack (suc (suc (suc (suc (suc (suc zero)))))) h = refl
-bit-of stack (suc (suc (suc (suc (suc (suc (suc zero))))))) h = refl
-bit-of stack (suc (suc (suc (suc (suc (suc (suc (suc k)))))))) h = absurd (omega arith)
+bit-at : (stack : Stack) (k : ℕ) → k < 8 → getD (reverse (order stack)) k (0, CC) .0 ≡ k
+bit-at stack k h = let e : 7 - (7 - k) ≡ k = omega arith in rw (reversed stack k h, bit-of stack (7 - k) (omega arith), e)
 
-module _ (mem : List ℕ) (r : Set) (at : ℕ) where
-  -- the first four are bytes
-  byte-into : (stack : Stack) (k : ℕ) → k < 4 → pulledInto mem (nameAt stack k) (To r at) ≡ To (written r (nameAt stack k) (u8 (byteAt mem at))) ((at + 1) % 65536)
-  unfolding valueAt
-  byte-into stack zero h = refl
-  byte-into stack (suc zero) h = refl
-  byte-into stack (suc (suc zero)) h = refl
-  byte-into stack (suc (suc (suc zero))) h = refl
-  byte-into stack (suc (suc (suc (suc k)))) h = absurd (omega arith)
+module _ (mem : List ℕ) (r : Set) (at : ℕ) (stack : Stack) (k : ℕ) where
+  byte-size : k < 4 → sizeOf (nameAt stack k) ≡ 1
+  byte-size g = let e : 7 - k ≡ 4 + (3 - k) = omega arith in rw (reversed stack k (omega arith), e) (byte-of r stack (3 - k) (omega arith) .size)
 
-  -- the last four are words
-  word-into : (stack : Stack) (k w : ℕ) → 3 < k → k < 8 → wordAt mem at ≡ Word w → pulledInto mem (nameAt stack k) (To r at) ≡ To (written r (nameAt stack k) (u16 w)) ((at + 2) % 65536)
-  unfolding valueAt
-  word-into stack (suc (suc (suc (suc zero)))) w g h e = rw e
-  word-into stack (suc (suc (suc (suc (suc zero))))) w g h e = rw e
-  word-into S (suc (suc (suc (suc (suc (suc zero)))))) w g h e = rw e
-  word-into U (suc (suc (suc (suc (suc (suc zero)))))) w g h e = rw e
-  word-into stack (suc (suc (suc (suc (suc (suc (suc zero))))))) w g h e = rw e
-  word-into stack (suc (suc (suc (suc (suc (suc (suc (suc k)))))))) w g h e = absurd (omega arith)
-  word-into stack zero w g h e = absurd (omega arith)
-  word-into stack (suc zero) w g h e = absurd (omega arith)
-  word-into stack (suc (suc zero)) w g h e = absurd (omega arith)
-  word-into stack (suc (suc (suc zero))) w g h e = absurd (omega arith)
+  word-size : 3 < k → k < 8 → sizeOf (nameAt stack k) ≡ 2
+  word-size g h = rw (reversed stack k h) (word-of r stack (7 - k) (omega arith) .size)
 
-  none-into : (stack : Stack) (k : ℕ) (x : Refusal) → 3 < k → k < 8 → wordAt mem at ≡ NotRead x → pulledInto mem (nameAt stack k) (To r at) ≡ Refused x
+  byte-into : k < 4 → pulledInto mem (nameAt stack k) (To r at) ≡ To (written r (nameAt stack k) (u8 (byteAt mem at))) ((at + 1) % 65536)
   unfolding valueAt
-  none-into stack (suc (suc (suc (suc zero)))) x g h e = rw e
-  none-into stack (suc (suc (suc (suc (suc zero))))) x g h e = rw e
-  none-into S (suc (suc (suc (suc (suc (suc zero)))))) x g h e = rw e
-  none-into U (suc (suc (suc (suc (suc (suc zero)))))) x g h e = rw e
-  none-into stack (suc (suc (suc (suc (suc (suc (suc zero))))))) x g h e = rw e
-  none-into stack (suc (suc (suc (suc (suc (suc (suc (suc k)))))))) x g h e = absurd (omega arith)
-  none-into stack zero x g h e = absurd (omega arith)
-  none-into stack (suc zero) x g h e = absurd (omega arith)
-  none-into stack (suc (suc zero)) x g h e = absurd (omega arith)
-  none-into stack (suc (suc (suc zero))) x g h e = absurd (omega arith)
+  byte-into g = rw (byte-size g, byte-size g)
+
+  word-into : (w : ℕ) → 3 < k → k < 8 → wordAt mem at ≡ Word w → pulledInto mem (nameAt stack k) (To r at) ≡ To (written r (nameAt stack k) (u16 w)) ((at + 2) % 65536)
+  unfolding valueAt
+  word-into w g h e = rw (word-size g h, e, word-size g h)
+
+  none-into : (x : Refusal) → 3 < k → k < 8 → wordAt mem at ≡ NotRead x → pulledInto mem (nameAt stack k) (To r at) ≡ Refused x
+  unfolding valueAt
+  none-into x g h e = rw (word-size g h, e)
 
 -- after a refusal nothing more is pulled
 pub ended : (mem : List ℕ) (l : List Name) (x : Refusal) → pulls mem l (Refused x) ≡ Refused x
@@ -98,7 +85,7 @@ module _ (mem : List ℕ) (stack : Stack) (mask : ℕ) where
 
     one : (p : Pulled) → from k p ≡ pulls mem (cond (bitAt k mask) (nameAt stack k ∷ chosen mask (drop (k + 1) (reverse (order stack)))) (chosen mask (drop (k + 1) (reverse (order stack))))) p
     unfolding chosen
-    one p = rw (split, bit-of stack k h)
+    one p = rw (split, bit-at stack k h)
 
     pub turn-off : bitAt k mask ≡ false → (p : Pulled) → from (k + 1) p ≡ from k p
     turn-off b p = sym (one p ∙ rw b)

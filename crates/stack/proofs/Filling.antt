@@ -10,16 +10,17 @@ use lib.ListN.{length, getD, set, take, drop, length-append, take-append-drop}
 use lib.Seq.{take-suc}
 use Rattle.u8oru16.specs.Value.{valueOf}
 use Rattle.registers.specs.ConditionCodes.{bitAt}
-use Rattle.registers.specs.RegisterSet.{sizeOf, read}
+use Rattle.registers.specs.Names.{sizeOf}
+use Rattle.registers.specs.RegisterSet.{read}
 use Rattle.registers.specs.declared.Name.{Name}
 use Rattle.registers.specs.declared.Name.the-variants.{A, B, D, X, Y, U, S, PC, DP, CC}
 use Rattle.registers.specs.declared.Set.{Set}
 use Rattle.registers.specs.declared.Stack.{Stack}
 use Rattle.registers.specs.declared.Stack.the-variants.{S as onS, U as onU}
 use Rattle.memory.specs.Writes.{twelve, writesOf, valueWrites, wordWrites}
-use Rattle.memory.specs.declared.Write.{Write}
+use Rattle.memory.specs.declared.writes.Write.{Write}
 use Rattle.memory.proofs.Folds.{place-more}
-use Rattle.stack.specs.Pushing.{order, chosen, named, bytesOf, pushes}
+use Rattle.stack.specs.Pushing.{order, chosen, registersNamed, bytesPushed, pushes}
 
 -- ---- sizes
 
@@ -96,8 +97,8 @@ module _ (mask : ℕ) where
   unfolding chosen
   none = refl
 
-  -- a post-byte names as many bytes as `bytesOf` counts
-  pub named-size : (stack : Stack) → size (named stack mask) ≡ bytesOf mask
+  -- a post-byte names as many bytes as `bytesPushed` counts
+  pub named-size : (stack : Stack) → size (registersNamed stack mask) ≡ bytesPushed mask
   named-size onS =
       let l = order onS in
       rw (bit-size 7 PC (drop 1 l), bit-size 6 U (drop 2 l), bit-size 5 Y (drop 3 l), bit-size 4 X (drop 4 l), bit-size 3 DP (drop 5 l), bit-size 2 B (drop 6 l), bit-size 1 A (drop 7 l), bit-size 0 CC [], none, whole)
@@ -109,10 +110,10 @@ module _ (mask : ℕ) where
 
 -- ---- what stands where in the order
 
-abbrev nameAt : Stack → ℕ → Name
+abbrev pub nameAt : Stack → ℕ → Name
 nameAt stack n = getD (order stack) n (0, CC) .1
 
-bit-of : (stack : Stack) (n : ℕ) → n < 8 → getD (order stack) n (0, CC) .0 ≡ 7 - n
+pub bit-of : (stack : Stack) (n : ℕ) → n < 8 → getD (order stack) n (0, CC) .0 ≡ 7 - n
 bit-of stack zero h = refl
 bit-of stack (suc zero) h = refl
 bit-of stack (suc (suc zero)) h = refl
@@ -124,15 +125,15 @@ bit-of stack (suc (suc (suc (suc (suc (suc (suc zero))))))) h = refl
 bit-of stack (suc (suc (suc (suc (suc (suc (suc (suc n)))))))) h = absurd (omega arith)
 
 -- the first four are words, the last four bytes
-record IsWord (r : Set) (name : Name) : Type 0 where
-  size : sizeOf name ≡ 2
-  written : (at : ℕ) (system : Bool) → valueWrites at (read r name) system ≡ wordWrites at (valueOf (read r name)) system
+pub record IsWord (r : Set) (name : Name) : Type 0 where
+  pub size : sizeOf name ≡ 2
+  pub written : (at : ℕ) (system : Bool) → valueWrites at (read r name) system ≡ wordWrites at (valueOf (read r name)) system
 
-record IsByte (r : Set) (name : Name) : Type 0 where
-  size : sizeOf name ≡ 1
-  written : (at : ℕ) (system : Bool) → valueWrites at (read r name) system ≡ record { at = at; byte = valueOf (read r name); system = system } ∷ []
+pub record IsByte (r : Set) (name : Name) : Type 0 where
+  pub size : sizeOf name ≡ 1
+  pub written : (at : ℕ) (system : Bool) → valueWrites at (read r name) system ≡ record { at = at; byte = valueOf (read r name); system = system } ∷ []
 
-word-of : (r : Set) (stack : Stack) (n : ℕ) → n < 4 → IsWord r (nameAt stack n)
+pub word-of : (r : Set) (stack : Stack) (n : ℕ) → n < 4 → IsWord r (nameAt stack n)
 word-of r stack zero h = record { size = refl; written = λ at system. refl }
 word-of r onS (suc zero) h = record { size = refl; written = λ at system. refl }
 word-of r onU (suc zero) h = record { size = refl; written = λ at system. refl }
@@ -140,7 +141,7 @@ word-of r stack (suc (suc zero)) h = record { size = refl; written = λ at syste
 word-of r stack (suc (suc (suc zero))) h = record { size = refl; written = λ at system. refl }
 word-of r stack (suc (suc (suc (suc n)))) h = absurd (omega arith)
 
-byte-of : (r : Set) (stack : Stack) (n : ℕ) → n < 4 → IsByte r (nameAt stack (4 + n))
+pub byte-of : (r : Set) (stack : Stack) (n : ℕ) → n < 4 → IsByte r (nameAt stack (4 + n))
 byte-of r stack zero h = record { size = refl; written = λ at system. refl }
 byte-of r stack (suc zero) h = record { size = refl; written = λ at system. refl }
 byte-of r stack (suc (suc zero)) h = record { size = refl; written = λ at system. refl }
@@ -186,7 +187,7 @@ module _ (r : Set) (stack : Stack) (pointer mask : ℕ) (system : Bool) where
       one-more = chosen-one n h ∙ rw b
 
       -- the bytes of the register are among those that are counted
-      room : count + sizeOf (nameAt stack n) ≤ bytesOf mask
+      room : count + sizeOf (nameAt stack n) ≤ bytesPushed mask
       room =
           omega (arith, f .many, size-append (first n) (nameAt stack n ∷ []), ap size one-more, chosen-within mask (suc n) (order stack), named-size mask stack)
 
@@ -247,7 +248,7 @@ module _ (r : Set) (stack : Stack) (pointer mask : ℕ) (system : Bool) where
     pub turn-off : bitAt (k - 1) mask ≡ false → Filled (8 - (k - 1)) list count at
     turn-off b = rw next at (off (8 - k) (omega arith) list count at f (rw place b))
 
-    module _ (b : bitAt (k - 1) mask ≡ true) (fits : bytesOf mask ≤ pointer) where
+    module _ (b : bitAt (k - 1) mask ≡ true) (fits : bytesPushed mask ≤ pointer) where
       in-room : count + sizeOf (nameAt stack (8 - k)) ≤ pointer
       in-room = omega (arith, room (8 - k) (omega arith) list count at f (rw place b))
 
@@ -269,5 +270,5 @@ module _ (r : Set) (stack : Stack) (pointer mask : ℕ) (system : Bool) where
       turn-byte h bounded few v e = rw next at (byte-on (8 - k) list count at f (rw place b) bounded (omega arith) (omega arith) few (byte-room h) v (rw same at e))
 
   -- at the end all are passed
-  pub all-filled : (list : List Write) (count at : ℕ) → Filled 8 list count at → record { count = count; list = list } ≡ writesOf (pushes r system pointer (named stack mask))
-  all-filled list count at f = rw (f .places, f .many) (ap (λ (n : ℕ). record { count = n; list = twelve (pushes r system pointer (named stack mask)) }) (sym (pushes-length r system pointer (named stack mask))))
+  pub all-filled : (list : List Write) (count at : ℕ) → Filled 8 list count at → record { count = count; list = list } ≡ writesOf (pushes r system pointer (registersNamed stack mask))
+  all-filled list count at f = rw (f .places, f .many) (ap (λ (n : ℕ). record { count = n; list = twelve (pushes r system pointer (registersNamed stack mask)) }) (sym (pushes-length r system pointer (registersNamed stack mask))))

@@ -12,7 +12,8 @@ use Rattle.answers.specs.declared.Answer.{Answer}
 use Rattle.answers.specs.declared.Answer.the-variants.{Done, Refused as NotDone}
 use Rattle.answers.specs.declared.Refusal.the-variants.{StackTooSmall, WordAtTop}
 use Rattle.registers.specs.ConditionCodes.{put}
-use Rattle.registers.specs.RegisterSet.{sizeOf, stackWord, wordOf, written}
+use Rattle.registers.specs.Names.{sizeOf, stackWord}
+use Rattle.registers.specs.RegisterSet.{wordOf, written}
 use Rattle.registers.specs.declared.CCBit.the-variants.{E}
 use Rattle.registers.specs.declared.Name.{Name}
 use Rattle.registers.specs.declared.Set.{Set}
@@ -20,14 +21,14 @@ use Rattle.registers.specs.declared.Stack.{Stack}
 use Rattle.registers.specs.declared.Stack.the-variants.{S}
 use Rattle.memory.specs.Map.{wordFits, wordAt, valueAt}
 use Rattle.memory.specs.Writes.{listed}
-use Rattle.memory.specs.declared.Writes.{Writes}
+use Rattle.memory.specs.declared.writes.Writes.{Writes}
 use Rattle.memory.proofs.Folds.{listed-back}
 use Rattle.machine.specs.Effect.{stores, refuses}
 use Rattle.machine.specs.declared.Effect.{Effect}
 use Rattle.operations.specs.Codes.{withCodes}
-use Rattle.stack.specs.Pushing.{order, chosen, named, bytesOf, pushes, pushed, oncePushed, called}
+use Rattle.stack.specs.Pushing.{order, chosen, registersNamed, bytesPushed, pushes, pushed, oncePushed, jumpedToSubroutine}
 use Rattle.stack.specs.Frames.{framed}
-use Rattle.stack.specs.Pulling.{pulls, ofPulled, pulled, returned}
+use Rattle.stack.specs.Pulling.{pulls, ofPulled, pulled, returnedFromInterrupt}
 use Rattle.stack.specs.Laws.{NoneDropped, topMet, StackRefusesExactly}
 use Rattle.stack.specs.declared.pulling.Pulled.the-variants.{To}
 use Rattle.stack.proofs.Emptying.{ended}
@@ -42,17 +43,17 @@ bit-at-most n = omega arith
 pub none-dropped : NoneDropped
 unfolding pushed
 none-dropped = record {
-  bytes = λ r stack mask pointer system. pushes-length r system pointer (named stack mask) ∙ named-size mask stack;
+  bytes = λ r stack mask pointer system. pushes-length r system pointer (registersNamed stack mask) ∙ named-size mask stack;
   few = λ mask. at-most (mask / 128 % 2) (mask / 64 % 2) (mask / 32 % 2) (mask / 16 % 2) (mask / 8 % 2) (mask / 4 % 2) (mask / 2 % 2) (mask % 2)
       (bit-at-most (mask / 128)) (bit-at-most (mask / 64)) (bit-at-most (mask / 32)) (bit-at-most (mask / 16)) (bit-at-most (mask / 8)) (bit-at-most (mask / 4)) (bit-at-most (mask / 2)) (bit-at-most mask);
-  listed = λ r stack mask system h. rw (le-ltb _ _ h) (listed-back (pushes r system (wordOf r (stackWord stack)) (named stack mask)));
+  listed = λ r stack mask system h. rw (le-ltb _ _ h) (listed-back (pushes r system (wordOf r (stackWord stack)) (registersNamed stack mask)));
 }
 
 -- ---- refusals
 
-push-number : (r : Set) (stack : Stack) (mask : ℕ) (system : Bool) → numberOfAnswer (pushed r stack mask system .answer) ≡ cond (ltb (wordOf r (stackWord stack)) (bytesOf mask)) 8 0
+push-number : (r : Set) (stack : Stack) (mask : ℕ) (system : Bool) → numberOfAnswer (pushed r stack mask system .answer) ≡ cond (ltb (wordOf r (stackWord stack)) (bytesPushed mask)) 8 0
 unfolding pushed
-push-number r stack mask system = go (ltb (wordOf r (stackWord stack)) (bytesOf mask)) _ _
+push-number r stack mask system = go (ltb (wordOf r (stackWord stack)) (bytesPushed mask)) _ _
   where
     go : (b : Bool) (after : Set) (ws : Writes) → numberOfAnswer (cond b (refuses r StackTooSmall) (stores after ws) .answer) ≡ cond b 8 0
     go true after ws = refl
@@ -87,10 +88,10 @@ pulls-number mem before stack (n ∷ l) r pointer = go (λ q to. pulls-number me
     go rest true e false f = rw (e, f, ended mem l WordAtTop)
 
 pub stack-refuses-exactly : StackRefusesExactly
-unfolding called pulled returned
+unfolding jumpedToSubroutine pulled returnedFromInterrupt
 stack-refuses-exactly = record {
   push = push-number;
-  call = λ r ea. once-number r (pushed r S 0x80 false .answer) _ refl ∙ push-number r S 0x80 false;
+  jsr = λ r ea. once-number r (pushed r S 0x80 false .answer) _ refl ∙ push-number r S 0x80 false;
   frame = frame-number;
   pull = λ mem r stack mask. pulls-number mem r stack (chosen mask (reverse (order stack))) r (wordOf r (stackWord stack));
   rti = λ mem r. pulls-number mem r S (chosen _ (reverse (order S))) r (r .s);

@@ -3,3 +3,4 @@ pub mod Emptying
 pub mod Laws
 pub mod Sound
 pub mod Unique
+pub mod Kept

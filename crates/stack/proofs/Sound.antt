@@ -15,7 +15,8 @@ use Rattle.answers.specs.declared.Answer.the-variants.{Done, Refused as NotDone
 use Rattle.answers.specs.declared.Refusal.the-variants.{StackTooSmall}
 use Rattle.registers.specs.ConditionCodes.{coded, flag, put}
 use Rattle.registers.specs.Fits.{Fits, InWidth}
-use Rattle.registers.specs.RegisterSet.{sizeOf, stackWord, read, wordOf, withWord}
+use Rattle.registers.specs.Names.{sizeOf, stackWord}
+use Rattle.registers.specs.RegisterSet.{read, wordOf, withWord}
 use Rattle.registers.specs.declared.CCBit.the-variants.{E}
 use Rattle.registers.specs.declared.Name.{Name}
 use Rattle.registers.specs.declared.Set.{Set}
@@ -29,7 +30,7 @@ use Rattle.memory.specs.declared.ValueRead.{ValueRead}
 use Rattle.memory.specs.declared.ValueRead.the-variants.{Value, Refused as NotRead}
 use Rattle.memory.specs.declared.WordRead.{WordRead}
 use Rattle.memory.specs.declared.WordRead.the-variants.{Word, Refused as NoWord}
-use Rattle.memory.specs.declared.Write.{Write}
+use Rattle.memory.specs.declared.writes.Write.{Write}
 use Rattle.memory.proofs.Fits.{byte-fits, WordIn, word-fits, word-writes-fit}
 use Rattle.memory.proofs.Twelve.{Full}
 use Rattle.machine.specs.Effect.{stores}
@@ -41,9 +42,9 @@ use Rattle.operations.specs.Codes.{withCodes}
 use Rattle.operations.specs.Sound.{Sound, Given}
 use Rattle.operations.proofs.Sound.{done-sound, changed-sound, stored-sound, refused-sound, either-sound}
 use Rattle.operations.proofs.Widths.{word-in, word-written, jumped-fits, codes-fits}
-use Rattle.stack.specs.Pushing.{order, chosen, named, bytesOf, pushes, pushed, oncePushed, called}
+use Rattle.stack.specs.Pushing.{order, chosen, registersNamed, bytesPushed, pushes, pushed, oncePushed, jumpedToSubroutine}
 use Rattle.stack.specs.Frames.{stackedBy, framed}
-use Rattle.stack.specs.Pulling.{loaded, pulledInto, pulls, ofPulled, pulled, returned}
+use Rattle.stack.specs.Pulling.{loaded, pulledInto, pulls, ofPulled, pulled, returnedFromInterrupt}
 use Rattle.stack.specs.Laws.{StackSound}
 use Rattle.stack.specs.declared.pulling.Pulled.{Pulled}
 use Rattle.stack.specs.declared.pulling.Pulled.the-variants.{To, Refused}
@@ -143,12 +144,12 @@ module _ (mem : List ℕ) (r : Set) (ea : ℕ) where
   push-sound stack mask system =
       let own = stackWord stack in
       let pointer = wordOf r own in
-      let l = pushes r system pointer (named stack mask) in
+      let l = pushes r system pointer (registersNamed stack mask) in
       let few : length l ≤ 12 = omega (arith, none-dropped .bytes r stack mask pointer system, none-dropped .few mask) in
-      either-sound r (ltb pointer (bytesOf mask)) _ _ (refused-sound r (λ g. g .registers) StackTooSmall)
-      (stored-sound r (withWord r own (pointer - bytesOf mask)) (writesOf l) (twelve-full l few)
-      (λ g. word-written r (g .registers) own (pointer - bytesOf mask) (omega (arith, word-in r (g .registers) own)))
-      (λ g. twelve-fit l (pushes-fit r (g .registers) system pointer (named stack mask) (word-in r (g .registers) own))))
+      either-sound r (ltb pointer (bytesPushed mask)) _ _ (refused-sound r (λ g. g .registers) StackTooSmall)
+      (stored-sound r (withWord r own (pointer - bytesPushed mask)) (writesOf l) (twelve-full l few)
+      (λ g. word-written r (g .registers) own (pointer - bytesPushed mask) (omega (arith, word-in r (g .registers) own)))
+      (λ g. twelve-fit l (pushes-fit r (g .registers) system pointer (registersNamed stack mask) (word-in r (g .registers) own))))
 
   pull-sound : (stack : Stack) (mask : ℕ) → Sound (Given mem r ea) r Running (pulled mem r stack mask)
   unfolding pulled
@@ -161,19 +162,19 @@ module _ (mem : List ℕ) (r : Set) (ea : ℕ) where
       go (To q pointer) f = changed-sound r (withWord q (stackWord stack) pointer) (λ g. word-written q (f g .0) (stackWord stack) pointer (f g .1))
       go (Refused x) f = refused-sound r (λ g. g .registers) x
 
-  call-sound : Sound (Given mem r ea) r Running (called r ea)
-  unfolding called
-  call-sound =
+  jsr-sound : Sound (Given mem r ea) r Running (jumpedToSubroutine r ea)
+  unfolding jumpedToSubroutine
+  jsr-sound =
       let p = pushed r S 0x80 false in
       let s = push-sound S 0x80 false in
       once-sound r (λ g. g .registers) (p .answer) (stores (jumped (p .regs) ea) (p .writes))
       (stored-sound r (jumped (p .regs) ea) (p .writes) (record { places = s .few }) (λ g. jumped-fits (p .regs) (s .registers g) ea (g .address)) (s .widths))
 
 pub stack-sound : (mem : List ℕ) (r : Set) (ea : ℕ) → StackSound mem r ea
-unfolding framed returned
+unfolding framed returnedFromInterrupt
 stack-sound mem r ea = record {
   push = push-sound mem r ea;
-  call = call-sound mem r ea;
+  jsr = jsr-sound mem r ea;
   frame = λ entire.
       let q = withCodes r (put E entire (r .cc)) in
       handed-on r (λ g. g .registers) q _ (λ g. record { registers = codes-fits r (g .registers) (put E entire (r .cc)) (put-fits E entire (r .cc) (g .registers .cc)); bytes = g .bytes; address = g .address })

@@ -9,8 +9,8 @@ use Rattle.stack.proofs.pushing
 pub push : Determines 0 pushing.push.Kinds.ps pushing.push.Kinds.r pushing.push.Reads.Post
 push κs a x y ws vs p q = (p ∙ sym q, refl)
 
-pub call : Determines 0 pushing.call.Kinds.ps pushing.call.Kinds.r pushing.call.Reads.Post
-call κs a x y ws vs p q = (p ∙ sym q, refl)
+pub jump-to-subroutine : Determines 0 pushing.jump_to_subroutine.Kinds.ps pushing.jump_to_subroutine.Kinds.r pushing.jump_to_subroutine.Reads.Post
+jump-to-subroutine κs a x y ws vs p q = (p ∙ sym q, refl)
 
 pub pull : Determines 1 pulling.pull.Kinds.ps pulling.pull.Kinds.r pulling.pull.Reads.Post
 pull κs a x y ws vs p q = (p ∙ sym q, refl)

@@ -4,7 +4,8 @@ use Prim.Native.Nat.{ℕ, _+_, _%_}
 use mathlib.Core.List.{List, [], _∷_, reverse}
 use lib.Dec.{eqb}
 use Rattle.registers.specs.ConditionCodes.{coded, flag}
-use Rattle.registers.specs.RegisterSet.{sizeOf, stackWord, wordOf, written, withWord}
+use Rattle.registers.specs.Names.{sizeOf, stackWord}
+use Rattle.registers.specs.RegisterSet.{wordOf, written, withWord}
 use Rattle.registers.specs.declared.CCBit.the-variants.{E}
 use Rattle.registers.specs.declared.Name.{Name}
 use Rattle.registers.specs.declared.Set.{Set}
@@ -39,10 +40,10 @@ abbrev pub ofPulled : Set → Stack → Pulled → Effect
 ofPulled before stack (To r pointer) = changes (withWord r (stackWord stack) pointer)
 ofPulled before stack (Refused x) = refuses before x
 
--- PULS, PULU: the order of pushing from its end
+-- PULS, PULU: the registers that the post-byte names, in the reverse of the order of pushing
 unfoldable pub pulled : List ℕ → Set → Stack → ℕ → Effect
 pulled mem r stack mask = ofPulled r stack (pulls mem (chosen mask (reverse (order stack))) (To r (wordOf r (stackWord stack))))
 
--- RTI: CC is pulled, and by its E all other registers, or PC alone
-unfoldable pub returned : List ℕ → Set → Effect
-returned mem r = pulled mem r S (stackedBy (flag E (coded (byteAt mem (r .s)))))
+-- RTI: E of the CC on the stack says whether all registers are pulled, or CC and PC alone
+unfoldable pub returnedFromInterrupt : List ℕ → Set → Effect
+returnedFromInterrupt mem r = pulled mem r S (stackedBy (flag E (coded (byteAt mem (r .s)))))

@@ -7,7 +7,7 @@ ghost use Rattle.u8oru16.specs.declared.u8u16.the-variants.{u8, u16};
 ghost use Rattle.registers.specs.RegisterSet.{written};
 ghost use Rattle.registers.specs.declared.Name.the-variants.{CC};
 ghost use Rattle.stack.specs.Pushing.{order, chosen};
-ghost use Rattle.stack.specs.Pulling.{pulls, pulled, returned};
+ghost use Rattle.stack.specs.Pulling.{pulls, pulled, returnedFromInterrupt};
 ghost use Rattle.stack.specs.declared.pulling.Pulled.the-variants.{To};
 use super::bit;
 use answers::Refusal;
@@ -91,7 +91,7 @@ pub fn pull(mem: &[u8], regs: Set, stack: Stack, mask: u8) -> Effect
 
 // RTI: E of the CC that is pulled says whether all registers follow, or PC alone.
 pub fn return_from_interrupt(mem: &[u8], regs: Set) -> Effect
-    ensures { λ r. ⌜ r ≡ returned (now (mem .entry)) regs ⌝ }
+    ensures { λ r. ⌜ r ≡ returnedFromInterrupt (now (mem .entry)) regs ⌝ }
 {
     let entire = bit(memory::read_u8(mem, regs.s), 7);
     let mask = if entire { 0xFF } else { 0x81 };

@@ -6,7 +6,7 @@ ghost use Rattle.u8oru16.specs.Value.{valueOf};
 ghost use Rattle.registers.specs.RegisterSet.{read};
 ghost use Rattle.registers.specs.declared.Name.the-variants.{CC};
 ghost use Rattle.memory.specs.Writes.{writesOf};
-ghost use Rattle.stack.specs.Pushing.{order, named, bytesOf, pushes, pushed, called};
+ghost use Rattle.stack.specs.Pushing.{order, registersNamed, bytesPushed, pushes, pushed, jumpedToSubroutine};
 use super::bit;
 use answers::Answer;
 use answers::Refusal;
@@ -45,8 +45,8 @@ fn byte_at(regs: Set, stack: Stack, k: u8) -> u8
 // Four words, then four bytes, downwards from the pointer. The list is filled in place: a copy of it for each register would cost more
 // than the push.
 fn push_all(regs: Set, stack: Stack, pointer: u16, mask: u8, system: bool) -> Writes
-    requires { ⌜ bytesOf mask ≤ pointer ⌝ }
-    ensures { λ r. ⌜ r ≡ writesOf (pushes regs system pointer (named stack mask)) ⌝ }
+    requires { ⌜ bytesPushed mask ≤ pointer ⌝ }
+    ensures { λ r. ⌜ r ≡ writesOf (pushes regs system pointer (registersNamed stack mask)) ⌝ }
 {
     let none = Writes::none();
     let mut list = none.list;
@@ -85,7 +85,7 @@ fn push_all(regs: Set, stack: Stack, pointer: u16, mask: u8, system: bool) -> Wr
 
 // How many bytes a post-byte names.
 fn bytes_of(mask: u8) -> u16
-    ensures { λ r. ⌜ r ≡ bytesOf mask ⌝ }
+    ensures { λ r. ⌜ r ≡ bytesPushed mask ⌝ }
 {
     let m = mask as u16;
     let words = m / 128 % 2 + m / 64 % 2 + m / 32 % 2 + m / 16 % 2;
@@ -106,8 +106,8 @@ pub fn push(regs: Set, stack: Stack, mask: u8, system: bool) -> Effect
 }
 
 // JSR and BSR: the program pushes, so the return address is no System write.
-pub fn call(regs: Set, ea: u16) -> Effect
-    ensures { λ r. ⌜ r ≡ called regs ea ⌝ }
+pub fn jump_to_subroutine(regs: Set, ea: u16) -> Effect
+    ensures { λ r. ⌜ r ≡ jumpedToSubroutine regs ea ⌝ }
 {
     let pushed = push(regs, Stack::S, 0x80, false);
     let answer = pushed.answer;

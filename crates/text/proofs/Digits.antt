@@ -1,13 +1,13 @@
 -- What each character stands for, and the digit of each number below 16.
 -- Assumes nothing.
-use Prim.Native.Nat.{ℕ, _+_, _-_, _≤_, _<_}
+use Prim.Native.Nat.{ℕ, _+_, _-_, _/_, _%_, _≤_, _<_}
 use mathlib.Core.Path.{_≡_, refl, sym, _∙_}
 use mathlib.Core.Bool.{Bool, true, false, _&&_}
 use native.Mathlib.Omega.{arith}
 use native.Mathlib.Decide.{decLt}
 use borrow.Author.Tests.{le-leb, lt-leb, lt-ltb, le-ltb, leb-true}
 use lib.Dec.{leb}
-use Rattle.text.specs.Hex.{glyph, isFigure, isCapital, isDigit, valueOf, byteOf, GlyphIsDigit, ValueOfGlyph, GlyphOfValue}
+use Rattle.text.specs.Hex.{glyph, isFigure, isCapital, isDigit, valueOf, byteOf, GlyphIsDigit, ValueOfGlyph, GlyphOfValue, ByteOfHex2, Hex2OfByte}
 
 pub value-figure : (c : ℕ) → 48 ≤ c → c < 58 → c - 48 ≡ valueOf c
 unfolding valueOf
@@ -77,3 +77,13 @@ glyph-of-value c e = go (isFigure c) refl (isCapital c) refl
         let n = value-capital c lo (omega arith) in
         rw (le-ltb (valueOf c) 10 (omega arith)) (omega arith)
     go false p false q = let z : false ≡ true = sym (rw (p, q)) ∙ e in cc
+
+pub byte-of-hex2 : ByteOfHex2
+byte-of-hex2 b h = rw (value-of-glyph (b / 16) (omega arith), value-of-glyph (b % 16) (omega arith)) (omega arith)
+
+pub hex2-of-byte : Hex2OfByte
+hex2-of-byte a b d e =
+    let n = value-small b in
+    let high : byteOf a b / 16 ≡ valueOf a = omega arith in
+    let low : byteOf a b % 16 ≡ valueOf b = omega arith in
+    rw (high, low, glyph-of-value a d, glyph-of-value b e)

@@ -43,3 +43,10 @@ ValueOfGlyph = (d : ℕ) → d < 16 → valueOf (glyph d) ≡ d
 
 abbrev pub GlyphOfValue : Type 0
 GlyphOfValue = (c : ℕ) → isDigit c ≡ true → glyph (valueOf c) ≡ c
+
+-- a byte's two digits stand for it, and two digits are those of the byte for which they stand
+abbrev pub ByteOfHex2 : Type 0
+ByteOfHex2 = (b : ℕ) → b < 256 → byteOf (glyph (b / 16)) (glyph (b % 16)) ≡ b
+
+abbrev pub Hex2OfByte : Type 0
+Hex2OfByte = (a b : ℕ) → isDigit a ≡ true → isDigit b ≡ true → hex2 (byteOf a b) ≡ a ∷ b ∷ []

@@ -22,7 +22,7 @@ decimal n = decimalIn 20 n
 abbrev space : ℕ
 space = 32
 
-abbrev lineFeed : ℕ
+abbrev pub lineFeed : ℕ
 lineFeed = 10
 
 unfoldable pub line : ℕ → ℕ → ℕ → ℕ → List ℕ

@@ -14,7 +14,7 @@ use Rattle.answers.specs.declared.Refusal.the-variants.{ZeroAtVector}
 use Rattle.registers.specs.declared.Set.{Set}
 use Rattle.memory.specs.Map.{byteAt, wordAt}
 use Rattle.memory.specs.Writes.{listed, stored, writesOf}
-use Rattle.memory.specs.declared.Writes.{Writes}
+use Rattle.memory.specs.declared.writes.Writes.{Writes}
 use Rattle.machine.specs.Effect.{stores, refuses}
 use Rattle.machine.specs.declared.Effect.{Effect}
 use Rattle.machine.specs.declared.Settings.{Settings}

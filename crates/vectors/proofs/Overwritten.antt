@@ -12,7 +12,7 @@ use Rattle.registers.specs.declared.Set.{Set}
 use Rattle.answers.specs.declared.Answer.the-variants.{Done}
 use Rattle.memory.specs.Map.{placeOf, byteAt, landingOf}
 use Rattle.memory.specs.Writes.{twelve, listed, stored}
-use Rattle.memory.specs.declared.Write.{Write}
+use Rattle.memory.specs.declared.writes.Write.{Write}
 use Rattle.memory.proofs.Folds.{afterAll, read-stored}
 use Rattle.stack.specs.Frames.{framed}
 use Rattle.stack.specs.Pushing.{chosen, pushes, pushed}

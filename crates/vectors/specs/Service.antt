@@ -16,7 +16,7 @@ use Rattle.operations.specs.Branches.{jumped}
 use Rattle.operations.specs.Codes.{orCodes}
 use Rattle.stack.specs.Frames.{framed}
 use Rattle.stack.specs.Pushing.{oncePushed}
-use Rattle.vectors.specs.Table.{addressOf, masksOf, isEntire, vectorOf}
+use Rattle.vectors.specs.Table.{addressOf, masksOf, isEntire, softwareVector}
 use Rattle.vectors.specs.declared.table.Vector.{Vector}
 
 -- a word that does not stand at FFFF, as no vector does: 6 cannot happen here
@@ -39,4 +39,4 @@ served mem s r v = vectored mem s r (framed r (isEntire v)) v
 
 -- SWI, SWI2, SWI3
 abbrev pub software : List ℕ → Settings → Set → Software → Effect
-software mem s r which = served mem s r (vectorOf which)
+software mem s r which = served mem s r (softwareVector which)

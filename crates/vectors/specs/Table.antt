@@ -38,7 +38,7 @@ isEntire Nmi = true
 isEntire Reset = false
 
 -- the software interrupts
-abbrev pub vectorOf : Software → Vector
-vectorOf SWI = Swi
-vectorOf SWI2 = Swi2
-vectorOf SWI3 = Swi3
+abbrev pub softwareVector : Software → Vector
+softwareVector SWI = Swi
+softwareVector SWI2 = Swi2
+softwareVector SWI3 = Swi3

@@ -1,7 +1,7 @@
 // The vectors, in the order of their addresses.
 ghost use mathlib.Core.Path.{_≡_};
 ghost use Prim.Native.Nat.{_<_};
-ghost use Rattle.vectors.specs.Table.{addressOf, masksOf, isEntire, vectorOf};
+ghost use Rattle.vectors.specs.Table.{addressOf, masksOf, isEntire, softwareVector};
 use opcodes::Software;
 
 pub enum Vector {
@@ -16,7 +16,7 @@ pub enum Vector {
 
 impl Vector {
     pub fn of_software(which: Software) -> Vector
-        ensures { λ r. ⌜ r ≡ vectorOf which ⌝ }
+        ensures { λ r. ⌜ r ≡ softwareVector which ⌝ }
     {
         match which {
             Software::Swi => Vector::Swi,

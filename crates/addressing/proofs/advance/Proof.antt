@@ -8,6 +8,6 @@ use Rattle.addressing.proofs.advance.Tie as tie
 pub advance-spec : {M : Type 1} → statement M
 advance-spec =
     tie.close
-    (tie.spec (search needs)
-    (λ c. rw (le-leb (c .before .before .before .args .next) 0xFFFF (c .before .before .if1 .taken)))
+    (tie.spec (search needs) (search needs)
+    (λ c. rw (c .with-pc .ensures, le-leb (c .before .before .args .next) 0xFFFF (c .before .if1 .taken)))
     (λ c. rw (lt-leb (c .before .args .next) 0xFFFF (c .if1 .left))))

@@ -41,7 +41,7 @@ use denote.Triple.Table.{entered, cited}
 use denote.Triple.Walked.{says, Stays, stay-none, gave-slice, walkOf, AllGo, goes-none, goes-gave-slice, Walks, ends-at, walked, walk-meets}
 use denote.Exit.{yes}
 use denote.Signature.{plain}
-use Rattle.journal.specs.Recorded.{inHand, stepped}
+use Rattle.journal.specs.Recorded.{inHand, Typed, stepped}
 use Rattle.journal.specs.declared.Twin.{Twin}
 use Rattle.machine.specs.declared.Settings.{Settings}
 use Rattle.lent.specs.Lending.{Leaves}
@@ -74,7 +74,7 @@ Lent 𝓤 H A at-mem run = tripleOf 𝓤 H A lent.signature (lent.spec 𝓤 H A 
 
 -- what it ensures of its result r, of the last twin k and of the last lists us and vs
 abbrev Ensures : Twin → List ℕ → List ℕ → Settings → Reported → Twin → List ℕ → List ℕ → Type 0
-Ensures h ys zs settings r k us vs = Leaves r k us vs (stepped settings (inHand ys zs h))
+Ensures h ys zs settings r k us vs = Leaves r k us vs (stepped settings (inHand ys zs h)) × Typed (inHand ys zs h)
 
 abbrev at-settings : Settings → Val
 at-settings t = LL.val G.the-type G′.the-laws t
@@ -127,7 +127,7 @@ module _ {M : Type 1} (𝓤 : URA M) (H : Heap 𝓤) (A : Atoms 𝓤) (W : Given
   exits r k us vs e l₁ l₂ is =
       qed W ((‵ (flft κ₁ q₁) ⊛ (‵ (flft κ₂ q₂) ⊛ ‵ ftrue)) ∷ ‵ (finally u8 γ₂ vs) ∷ ‵ (finally u8 γ₁ us) ∷ []) ∵
       suffices ! _ (ends-at 𝓤 H A this.ended stayed (this.clauses 𝓤 H A at-mem run) W (((κ₁, (κ₂, tt)), (q₁, (q₂, tt)), tt, a, vals), tt) (at-both (pair r k)) (pair r k) (tt, (us, (vs, (tt, tt)))) (tt, (l₁, (l₂, (tt, tt))))) $
-      says ! (kept r k us vs (stepped settings (inHand ys zs h)) e) $ frame ! $
+      says ! (kept r k us vs (stepped settings (inHand ys zs h)) (e .0)) $ frame ! $
       nothing ! $ owned ! G.the-row (Is G.the-row) (LL.makes G.the-type G′.the-plain 𝓤 H A) settings _ settings-is $ fjoin ! $ move ! (1 ∷ 0 ∷ []) $ fjoin ! $ move ! (1 ∷ 0 ∷ []) $ fjoin ! $ owned ! T.the-row (Is T.the-row) (LL.makes T.the-type T′.the-plain 𝓤 H A) h _ g $ fjoin ! $
       owned ! S.the-row (Is S.the-row) (LL.makes S.the-type S′.the-plain 𝓤 H A) (pair r k) _ is $ move ! (1 ∷ 0 ∷ []) $ done !
 

@@ -41,7 +41,7 @@ use denote.Triple.Table.{entered, cited}
 use denote.Triple.Walked.{says, Stays, stay-none, stay-dropped, gave-slice, walkOf, AllGo, goes-none, goes-dropped, goes-gave-slice, Walks, ends-at, walked, walk-meets}
 use denote.Exit.{yes}
 use denote.Signature.{plain, shrSliceOf}
-use Rattle.journal.specs.Recorded.{inHand}
+use Rattle.journal.specs.Recorded.{inHand, Typed}
 use Rattle.journal.specs.Undos.{undone}
 use Rattle.journal.specs.declared.Twin.{Twin}
 use Rattle.lent.specs.Lending.{Leaves}
@@ -72,7 +72,7 @@ Lent 𝓤 H A at-mem run = tripleOf 𝓤 H A lent.signature (lent.spec 𝓤 H A 
 
 -- what it ensures of its result r, of the last twin k and of the last list us
 abbrev Ensures : Twin → List ℕ → List ℕ → Reported → Twin → List ℕ → Type 0
-Ensures h ys zs r k us = Leaves r k us zs (undone (inHand ys zs h))
+Ensures h ys zs r k us = Leaves r k us zs (undone (inHand ys zs h)) × Typed (inHand ys zs h)
 
 module _ {M : Type 1} (𝓤 : URA M) (H : Heap 𝓤) (A : Atoms 𝓤) (W : Given 𝓤 H A) (at-mem : Memory → SProp 𝓤) (run : Routine → Fun 𝓤) (κ₁ κ₂ : Lft) (q₁ q₂ : Share) (h : Twin)
     (b₁ o₁ : ℕ) (γ₁ : GName) (ys : List ℕ) (b₂ o₂ : ℕ) (γ₂ : GName) (zs : List ℕ) (g : Is T.the-row h (at-twin h ∷ [])) where
@@ -122,7 +122,7 @@ module _ {M : Type 1} (𝓤 : URA M) (H : Heap 𝓤) (A : Atoms 𝓤) (W : Given
   exits r k us e l₁ is =
       qed W ((‵ (flft κ₁ q₁) ⊛ (‵ (flft κ₂ q₂) ⊛ ‵ ftrue)) ∷ ‵ (finally u8 γ₁ us) ∷ []) ∵
       suffices ! _ (ends-at 𝓤 H A this.ended stayed (this.clauses 𝓤 H A at-mem run) W (((κ₁, (κ₂, tt)), (q₁, (q₂, tt)), tt, a, vals), tt) (at-both (pair r k)) (pair r k) (tt, (us, (tt, tt))) (tt, (l₁, (tt, tt)))) $
-      says ! (kept r k us zs (undone (inHand ys zs h)) e) $ frame ! $
+      says ! (kept r k us zs (undone (inHand ys zs h)) (e .0)) $ frame ! $
       nothing ! $ nothing ! $ fjoin ! $ move ! (1 ∷ 0 ∷ []) $ fjoin ! $ owned ! T.the-row (Is T.the-row) (LL.makes T.the-type T′.the-plain 𝓤 H A) h _ g $ fjoin ! $
       owned ! S.the-row (Is S.the-row) (LL.makes S.the-type S′.the-plain 𝓤 H A) (pair r k) _ is $ move ! (1 ∷ 0 ∷ []) $ done !
 

@@ -40,7 +40,7 @@ use denote.Triple.Table.{entered, cited}
 use denote.Triple.Walked.{says, Stays, stay-ref, stay-none, gave-slice, walkOf, AllGo, goes-ref, goes-none, goes-gave-slice, Walks, ends-at, walked, walk-meets}
 use denote.Exit.{yes}
 use denote.Signature.{plain}
-use Rattle.journal.specs.Recorded.{inHand, stepped}
+use Rattle.journal.specs.Recorded.{inHand, Typed, stepped}
 use Rattle.journal.specs.declared.Twin.{Twin}
 use Rattle.machine.specs.declared.Settings.{Settings}
 use Rattle.lent.specs.Lending.{Returns}
@@ -72,7 +72,7 @@ Value 𝓤 H A at-mem run = tripleOf 𝓤 H A value.signature (value.spec 𝓤 H
 
 -- what it ensures of its result r and of the last lists us and vs
 abbrev Ensures : Twin → List ℕ → List ℕ → Settings → Returned → List ℕ → List ℕ → Type 0
-Ensures h ys zs settings r us vs = Returns r us vs (stepped settings (inHand ys zs h))
+Ensures h ys zs settings r us vs = Returns r us vs (stepped settings (inHand ys zs h)) × Typed (inHand ys zs h)
 
 abbrev at-settings : Settings → Val
 at-settings t = LL.val G.the-type G′.the-laws t
@@ -123,7 +123,7 @@ module _ {M : Type 1} (𝓤 : URA M) (H : Heap 𝓤) (A : Atoms 𝓤) (W : Given
   exits r us vs e l₁ l₂ is =
       qed W (‵ (fobs γ (T.the-row .coded .code (r .twin))) ∷ ‵ (fbor κ (Body (mem T.the-row) b o γ)) ∷ ‵ (flft κ q) ∷ (‵ (flft κ₁ q₁) ⊛ (‵ (flft κ₂ q₂) ⊛ ‵ ftrue)) ∷ ‵ (finally u8 γ₂ vs) ∷ ‵ (finally u8 γ₁ us) ∷ []) ∵
       suffices ! _ (ends-at 𝓤 H A this.ended stayed (this.clauses 𝓤 H A at-mem run) W (((κ, (κ₁, (κ₂, tt))), (q, (q₁, (q₂, tt))), tt, a, vals), tt) (at-report (r .reported)) (r .reported) (r .twin, (us, (vs, (tt, tt)))) (tt, (l₁, (l₂, (tt, tt))))) $
-      says ! (left r us vs (stepped settings (inHand ys zs h)) e) $
+      says ! (left r us vs (stepped settings (inHand ys zs h)) (e .0), e .1) $
       move ! (2 ∷ 3 ∷ []) $ join ! $ frame ! $ feqI ! (List Val) (vptr b o ∷ []) (vptr b o ∷ []) refl $ fjoin3 ! $
       nothing ! $ owned ! G.the-row (Is G.the-row) (LL.makes G.the-type G′.the-plain 𝓤 H A) settings _ settings-is $ fjoin ! $ move ! (2 ∷ 0 ∷ []) $ fjoin ! $ move ! (2 ∷ 0 ∷ []) $ fjoin ! $ move ! (1 ∷ 0 ∷ []) $ fjoin ! $
       owned ! N.the-row (Is N.the-row) (LL.makes N.the-type N′.the-plain 𝓤 H A) (r .reported) _ is $ move ! (1 ∷ 0 ∷ []) $ done !

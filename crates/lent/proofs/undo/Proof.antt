@@ -40,7 +40,7 @@ use denote.Triple.Table.{entered, cited}
 use denote.Triple.Walked.{says, Stays, stay-ref, stay-dropped, gave-slice, walkOf, AllGo, goes-ref, goes-dropped, goes-gave-slice, Walks, ends-at, walked, walk-meets}
 use denote.Exit.{yes}
 use denote.Signature.{plain, shrSliceOf}
-use Rattle.journal.specs.Recorded.{inHand}
+use Rattle.journal.specs.Recorded.{inHand, Typed}
 use Rattle.journal.specs.Undos.{undone}
 use Rattle.journal.specs.declared.Twin.{Twin}
 use Rattle.lent.specs.Lending.{Returns}
@@ -70,7 +70,7 @@ Value 𝓤 H A at-mem run = tripleOf 𝓤 H A value.signature (value.spec 𝓤 H
 
 -- what it ensures of its result r and of the last list us
 abbrev Ensures : Twin → List ℕ → List ℕ → Returned → List ℕ → Type 0
-Ensures h ys zs r us = Returns r us zs (undone (inHand ys zs h))
+Ensures h ys zs r us = Returns r us zs (undone (inHand ys zs h)) × Typed (inHand ys zs h)
 
 module _ {M : Type 1} (𝓤 : URA M) (H : Heap 𝓤) (A : Atoms 𝓤) (W : Given 𝓤 H A) (at-mem : Memory → SProp 𝓤) (run : Routine → Fun 𝓤) (κ κ₁ κ₂ : Lft) (q q₁ q₂ : Share) (b o : ℕ) (γ : GName) (h : Twin)
     (b₁ o₁ : ℕ) (γ₁ : GName) (ys : List ℕ) (b₂ o₂ : ℕ) (γ₂ : GName) (zs : List ℕ) where
@@ -118,7 +118,7 @@ module _ {M : Type 1} (𝓤 : URA M) (H : Heap 𝓤) (A : Atoms 𝓤) (W : Given
   exits r us e l₁ is =
       qed W (‵ (fobs γ (T.the-row .coded .code (r .twin))) ∷ ‵ (fbor κ (Body (mem T.the-row) b o γ)) ∷ ‵ (flft κ q) ∷ (‵ (flft κ₁ q₁) ⊛ (‵ (flft κ₂ q₂) ⊛ ‵ ftrue)) ∷ ‵ (finally u8 γ₁ us) ∷ []) ∵
       suffices ! _ (ends-at 𝓤 H A this.ended stayed (this.clauses 𝓤 H A at-mem run) W (((κ, (κ₁, (κ₂, tt))), (q, (q₁, (q₂, tt))), tt, a, vals), tt) (at-report (r .reported)) (r .reported) (r .twin, (us, (tt, tt))) (tt, (l₁, (tt, tt)))) $
-      says ! (left r us zs (undone (inHand ys zs h)) e) $
+      says ! (left r us zs (undone (inHand ys zs h)) (e .0), e .1) $
       move ! (2 ∷ 3 ∷ []) $ join ! $ frame ! $ feqI ! (List Val) (vptr b o ∷ []) (vptr b o ∷ []) refl $ fjoin3 ! $
       nothing ! $ nothing ! $ fjoin ! $ move ! (2 ∷ 0 ∷ []) $ fjoin ! $ move ! (1 ∷ 0 ∷ []) $ fjoin ! $
       owned ! N.the-row (Is N.the-row) (LL.makes N.the-type N′.the-plain 𝓤 H A) (r .reported) _ is $ move ! (1 ∷ 0 ∷ []) $ done !

@@ -7,10 +7,19 @@ use Rattle.journal.proofs.recorded.write_header.Tie as tie
 
 returns : tie.Need-returns
 returns c =
-    let a = c .before .before .before .before .before .before .before .before .before .before .before .before .args in
-    rw (c .before .before .lay2 .ensures, c .before .before .before .before .before .before .before .lay .ensures, c .before .before .before .before .before .before .before .before .before .before .header-of .ensures) (header-laid (a .machine) (a .rest .now) (c .before .before .before .before .before .before .before .before .before .before .before .before .pre))
+    let a = c .before .before .before .before .before .before .before .before .before .before .before .before .before .before .before .before .before .before .before .before .before .before .before .before .args in
+    rw (
+      c .before .before .lay4 .ensures,
+      c .before .before .before .before .before .before .before .lay3 .ensures,
+      c .before .before .before .before .before .before .before .before .before .before .before .before .lay2 .ensures,
+      c .before .before .before .before .before .before .before .before .before .before .before .before .before .before .before .before .before .lay .ensures,
+      c .before .before .before .before .before .before .before .before .before .before .before .before .before .before .before .before .before .before .before .before .counter-of2 .ensures,
+      c .before .before .before .before .before .before .before .before .before .before .before .before .before .before .before .before .before .before .before .before .before .counter-of .ensures,
+      c .before .before .before .before .before .before .before .before .before .before .before .before .before .before .before .before .before .before .before .before .before .before .front-of .ensures,
+    )
+    (header-laid (a .machine) (a .rest .now) (c .before .before .before .before .before .before .before .before .before .before .before .before .before .before .before .before .before .before .before .before .before .before .before .before .pre))
 
 pub write-header-spec : {M : Type 1} → statement M
 write-header-spec =
     tie.close
-    (tie.spec (search needs) (search needs) (search needs) (search needs) (search needs) (search needs) returns)
+    (tie.spec (search needs) (search needs) (search needs) (search needs) (search needs) (search needs) (search needs) (search needs) (search needs) (search needs) (search needs) (search needs) returns)

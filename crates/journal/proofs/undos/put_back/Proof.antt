@@ -6,20 +6,20 @@ use native.Mathlib.Nat.{sub-self}
 use native.Mathlib.Omega.{arith}
 use lib.ListN.{length, drop, length-set}
 use borrow.Author.Needs.{needs}
-use Rattle.journal.specs.Record.{entriesAt, entryLength, read}
+use Rattle.journal.specs.Record.{entriesAt, entryLength, readEntries}
 use Rattle.journal.specs.Undos.{putBack}
 use Rattle.journal.proofs.Parts.{put-more}
 use Rattle.journal.proofs.undos.put_back.Statement.{statement}
 use Rattle.journal.proofs.undos.put_back.Tie as tie
 
 abbrev Inv-loop : tie.InvT-loop
-Inv-loop mem₀ r n k₀ mem k = (k ≤ n) × ((length mem ≡ 65536) × (mem ≡ putBack mem₀ (read k (drop (entriesAt + (n - k) * entryLength) r))))
+Inv-loop mem₀ r n k₀ mem k = (k ≤ n) × ((length mem ≡ 65536) × (mem ≡ putBack mem₀ (readEntries k (drop (entriesAt + (n - k) * entryLength) r))))
 
 abbrev μ-loop : tie.MeasureT-loop
 μ-loop mem₀ r n k₀ mem k = n - k
 
 loop-holds : tie.Need-loop-holds Inv-loop μ-loop
-unfolding putBack read
+unfolding putBack readEntries
 loop-holds c = (omega arith, (c .pre .0, refl))
 
 slice-write-mem : tie.Need-slice-write-mem Inv-loop μ-loop

@@ -2,6 +2,7 @@
 -- Assumes nothing.
 use native.Mathlib.Omega.{arith}
 use borrow.Author.Needs.{needs}
+use Rattle.journal.proofs.Typed.{typed}
 use Rattle.journal.specs.Record.{countAt, waitAt, countOf}
 use Rattle.journal.specs.Recorded.{inHand}
 use Rattle.journal.proofs.Answers.{newest-part, undo-refused, undo-done, undo-1, undo-12, undo-11, undo-wait, undo-count, undo-0}
@@ -11,45 +12,57 @@ use Rattle.journal.proofs.undos.undo.Tie as tie
 returns : tie.Need-returns
 returns c =
     let a = c .before .before .before .before .args in
-    let s = inHand (a .mem .now) (a .journal .now) (a .twin) in
-    undo-refused s _ (c .refused .result) (undo-1 s (c .before .if1 .taken)) (c .refused .ensures)
+    let s = inHand (a .mem .now) (a .journal .now) (a .twin) in (
+      undo-refused s _ (c .refused .result) (undo-1 s (c .before .if1 .taken)) (c .refused .ensures),
+      typed (a .mem .now) (a .journal .now) (a .twin) _ (c .before .before .before .before .good .1 .1 .0) (λ i. c .before .before .before .slice-known .given i .fits),
+    )
 
 returns-2 : tie.Need-returns-2
 returns-2 c =
     let a = c .before .before .before .before .before .args in
-    let s = inHand (a .mem .now) (a .journal .now) (a .twin) in
-    undo-refused s _ (c .refused2 .result) (undo-12 s (c .before .before .if1 .left) (c .before .if2 .taken)) (c .refused2 .ensures)
+    let s = inHand (a .mem .now) (a .journal .now) (a .twin) in (
+      undo-refused s _ (c .refused2 .result) (undo-12 s (c .before .before .if1 .left) (c .before .if2 .taken)) (c .refused2 .ensures),
+      typed (a .mem .now) (a .journal .now) (a .twin) _ (c .before .before .before .before .before .good .1 .1 .0) (λ i. c .before .before .before .before .slice-known .given i .fits),
+    )
 
 returns-3 : tie.Need-returns-3
 returns-3 c =
     let a = c .before .before .before .before .before .before .args in
-    let s = inHand (a .mem .now) (a .journal .now) (a .twin) in
-    undo-refused s _ (c .refused3 .result) (undo-11 s (c .before .before .before .if1 .left) (c .before .before .if2 .left) (c .before .if3 .taken)) (c .refused3 .ensures)
+    let s = inHand (a .mem .now) (a .journal .now) (a .twin) in (
+      undo-refused s _ (c .refused3 .result) (undo-11 s (c .before .before .before .if1 .left) (c .before .before .if2 .left) (c .before .if3 .taken)) (c .refused3 .ensures),
+      typed (a .mem .now) (a .journal .now) (a .twin) _ (c .before .before .before .before .before .before .good .1 .1 .0) (λ i. c .before .before .before .before .before .slice-known .given i .fits),
+    )
 
 returns-4 : tie.Need-returns-4
 unfolding waitAt
 returns-4 c =
     let a = c .before .before .before .before .before .before .before .before .before .args in
-    let s = inHand (a .mem .now) (a .journal .now) (a .twin) in
-    undo-refused s _ (c .refused4 .result)
-    (undo-wait s (c .before .before .before .before .before .before .if1 .left) (c .before .before .before .before .before .if2 .left) (c .before .before .before .before .if3 .left) (rw (newest-part s) (c .before .if4 .taken))) (c .refused4 .ensures)
+    let s = inHand (a .mem .now) (a .journal .now) (a .twin) in (
+      undo-refused s _ (c .refused4 .result)
+          (undo-wait s (c .before .before .before .before .before .before .if1 .left) (c .before .before .before .before .before .if2 .left) (c .before .before .before .before .if3 .left) (rw (newest-part s) (c .before .if4 .taken))) (c .refused4 .ensures),
+      typed (a .mem .now) (a .journal .now) (a .twin) _ (c .before .before .before .before .before .before .before .before .before .good .1 .1 .0) (λ i. c .before .before .before .before .before .before .before .before .slice-known .given i .fits),
+    )
 
 returns-5 : tie.Need-returns-5
 unfolding waitAt countOf
 returns-5 c =
     let a = c .before .before .before .before .before .before .before .before .before .before .before .args in
-    let s = inHand (a .mem .now) (a .journal .now) (a .twin) in
-    undo-refused s _ (c .refused5 .result)
-    (undo-count s (c .before .before .before .before .before .before .before .before .if1 .left) (c .before .before .before .before .before .before .before .if2 .left) (c .before .before .before .before .before .before .if3 .left) (rw (newest-part s) (c .before .before .before .if4 .left)) (rw (newest-part s) (c .before .if5 .taken))) (c .refused5 .ensures)
+    let s = inHand (a .mem .now) (a .journal .now) (a .twin) in (
+      undo-refused s _ (c .refused5 .result)
+          (undo-count s (c .before .before .before .before .before .before .before .before .if1 .left) (c .before .before .before .before .before .before .before .if2 .left) (c .before .before .before .before .before .before .if3 .left) (rw (newest-part s) (c .before .before .before .if4 .left)) (rw (newest-part s) (c .before .if5 .taken))) (c .refused5 .ensures),
+      typed (a .mem .now) (a .journal .now) (a .twin) _ (c .before .before .before .before .before .before .before .before .before .before .before .good .1 .1 .0) (λ i. c .before .before .before .before .before .before .before .before .before .before .slice-known .given i .fits),
+    )
 
 returns-6 : tie.Need-returns-6
 unfolding waitAt countOf
 returns-6 c =
     let a = c .before .before .before .before .before .before .before .before .before .before .before .before .before .before .before .before .args in
-    let s = inHand (a .mem .now) (a .journal .now) (a .twin) in
-    undo-done s (c .before .machine-of .result) (c .before .before .before .before .put-back .last .0) (c .none .result)
-    (undo-0 s (c .before .before .before .before .before .before .before .before .before .before .before .before .before .if1 .left) (c .before .before .before .before .before .before .before .before .before .before .before .before .if2 .left) (c .before .before .before .before .before .before .before .before .before .before .before .if3 .left) (rw (newest-part s) (c .before .before .before .before .before .before .before .before .if4 .left)) (rw (newest-part s) (c .before .before .before .before .before .before .if5 .left)))
-    (rw (newest-part s) (c .before .machine-of .ensures)) (rw (newest-part s) (c .before .before .before .before .put-back .ensures)) (c .none .ensures)
+    let s = inHand (a .mem .now) (a .journal .now) (a .twin) in (
+      undo-done s (c .before .machine-of .result) (c .before .before .before .before .put-back .last .0) (c .none .result)
+          (undo-0 s (c .before .before .before .before .before .before .before .before .before .before .before .before .before .if1 .left) (c .before .before .before .before .before .before .before .before .before .before .before .before .if2 .left) (c .before .before .before .before .before .before .before .before .before .before .before .if3 .left) (rw (newest-part s) (c .before .before .before .before .before .before .before .before .if4 .left)) (rw (newest-part s) (c .before .before .before .before .before .before .if5 .left)))
+          (rw (newest-part s) (c .before .machine-of .ensures)) (rw (newest-part s) (c .before .before .before .before .put-back .ensures)) (c .none .ensures),
+      typed (a .mem .now) (a .journal .now) (a .twin) _ (c .before .before .before .before .before .before .before .before .before .before .before .before .before .before .before .before .good .1 .1 .0) (λ i. c .before .before .before .before .before .before .before .before .before .before .before .before .before .before .before .slice-known .given i .fits),
+    )
 
 -- the count is a byte
 cast-n : tie.Need-cast-n

@@ -2,7 +2,7 @@
 -- Assumes nothing.
 use borrow.Author.Needs.{needs}
 use Rattle.registers.proofs.Pages.{add-page}
-use Rattle.registers.specs.Page.{out8}
+use Rattle.registers.specs.Arithmetic.{out8}
 use mathlib.Core.Path.{ap}
 use Rattle.registers.proofs.CCBits.add_u8.Statement.{statement}
 use Rattle.registers.proofs.CCBits.add_u8.Tie as tie

@@ -2,7 +2,7 @@
 -- Assumes nothing.
 use borrow.Author.Needs.{needs}
 use Rattle.registers.proofs.Shifts.{shr-page}
-use Rattle.registers.specs.Page.{out8}
+use Rattle.registers.specs.Arithmetic.{out8}
 use mathlib.Core.Path.{ap}
 use lib.Bits.{bitAnd, bitOr}
 use Prim.Native.Nat.{_/_}

@@ -2,7 +2,7 @@
 -- Assumes nothing.
 use borrow.Author.Needs.{needs}
 use Rattle.registers.proofs.Pages.{digit-le, sub-page}
-use Rattle.registers.specs.Page.{out8}
+use Rattle.registers.specs.Arithmetic.{out8}
 use Rattle.registers.specs.declared.CCBit.the-variants.{C}
 use Rattle.registers.specs.ConditionCodes.{flag}
 use native.Mathlib.Omega.{arith}

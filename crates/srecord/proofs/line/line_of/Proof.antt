@@ -7,7 +7,8 @@ use mathlib.Core.Path.{sym, ap, _∙_}
 use mathlib.Core.List.{List}
 use denote.Ref.{now}
 use Rattle.srecord.proofs.Lines.{sound}
-use Rattle.srecord.specs.Text.{isPaired, bytesOf, valueOf, total}
+use Rattle.text.specs.Hex.{valueOf}
+use Rattle.srecord.specs.Layout.{isPaired, bytesOf, total}
 use Rattle.srecord.specs.Line.{isShaped, isSummed, lineOf, shown}
 use Rattle.srecord.proofs.line.line_of.Statement.{statement}
 use Rattle.srecord.proofs.line.line_of.Tie as tie

@@ -7,7 +7,7 @@ use native.Mathlib.Omega.{arith}
 use lib.ListN.{take}
 use denote.Ref.{now}
 use Rattle.srecord.proofs.Scan.{sum-more}
-use Rattle.srecord.specs.Text.{total}
+use Rattle.srecord.specs.Layout.{total}
 use Rattle.srecord.specs.Line.{bytes}
 use Rattle.srecord.proofs.line.sum_bytes.Statement.{statement}
 use Rattle.srecord.proofs.line.sum_bytes.Tie as tie

@@ -10,7 +10,7 @@ use Rattle.srecord.proofs.written.put_line.Tie as tie
 returns : tie.Need-returns
 returns c =
     let a = c .before .before .before .before .before .before .before .before .before .before .before .before .before .before .before .before .before .before .before .before .before .before .before .before .before .before .before .before .before .before .args in
-    line-put (a .at) (a .kind) (a .address) _ (now (a .list)) (now (a .out)) _ _ _ _ _ (c .before .before .before .before .before .before .before .before .before .before .before .before .before .before .before .before .before .before .before .before .before .before .before .before .before .put-text .ensures) (c .before .before .before .before .before .before .before .before .before .before .before .before .before .before .before .before .before .before .before .before .put-pairs .ensures) (c .before .before .before .before .before .before .before .before .before .before .before .before .before .before .before .before .put-pairs2 .ensures) (c .before .before .before .before .before .before .before .put-pairs3 .ensures) (c .before .before .put-text2 .ensures)
+    line-put (a .at) (a .kind) (a .address) _ (now (a .list)) (now (a .out)) _ _ _ _ _ (c .before .before .before .before .before .before .before .before .before .before .before .before .before .before .before .before .before .before .before .before .before .before .before .before .before .put .ensures) (c .before .before .before .before .before .before .before .before .before .before .before .before .before .before .before .before .before .before .before .before .put-pairs .ensures) (c .before .before .before .before .before .before .before .before .before .before .before .before .before .before .before .before .put-pairs2 .ensures) (c .before .before .before .before .before .before .before .put-pairs3 .ensures) (c .before .before .put2 .ensures)
     (sum-fields _ _ _ _ _ (c .before .before .before .before .before .before .before .before .before .before .wrapping-add-u8 .ensures ∙ rw (c .before .before .before .before .before .before .before .before .before .before .before .before .sum-of .ensures, c .before .before .before .before .before .before .before .before .before .before .before .sum-of2 .ensures)))
 
 pub put-line-spec : {M : Type 1} → statement M

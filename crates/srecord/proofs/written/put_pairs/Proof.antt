@@ -7,7 +7,7 @@ use native.Mathlib.Omega.{arith}
 use lib.ListN.{length, take, length-set}
 use denote.Ref.{now}
 use Rattle.srecord.proofs.Laying.{pairs-more}
-use Rattle.srecord.specs.Text.{pairs}
+use Rattle.srecord.specs.Layout.{pairs}
 use lib.Seq.{sets, take-all}
 use Rattle.srecord.proofs.written.put_pairs.Statement.{statement}
 use Rattle.srecord.proofs.written.put_pairs.Tie as tie
@@ -24,7 +24,7 @@ loop-holds c = (omega arith, (refl, refl))
 
 loop-again : tie.Need-loop-again Inv-loop μ-loop
 loop-again c =
-    let e = rw (c .before .before .before .before .before .pair-of .ensures) at (c .before .before .put-text .ensures) in
+    let e = rw (c .before .before .before .before .before .hex2 .ensures) at (c .before .before .put .ensures) in
     let l = c .before .before .before .before .before .before .before .before .loop in
     let a = c .before .before .before .before .before .before .before .before .before .before .before .args in
     (omega arith, (ap length e ∙ simp length-set (l .inv .1 .0), e ∙ pairs-more (a .at) (l .i) (now (a .list)) (now (a .out)) (l .out) (omega arith) (l .inv .1 .1)))

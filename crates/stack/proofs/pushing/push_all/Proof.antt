@@ -6,7 +6,7 @@ use mathlib.Core.Path.{_≡_, sym, ap, _∙_}
 use native.Mathlib.Omega.{arith}
 use lib.ListN.{length, length-set}
 use Rattle.memory.specs.Writes.{twelve}
-use Rattle.memory.specs.declared.Writes.{Writes}
+use Rattle.memory.specs.declared.writes.Writes.{Writes}
 use Rattle.stack.proofs.Filling.{Filled, empty, turn-off, word-room, byte-room, turn-word, turn-byte, all-filled}
 use Rattle.stack.proofs.pushing.push_all.Statement.{statement}
 use Rattle.stack.proofs.pushing.push_all.Tie as tie

@@ -1,0 +1,299 @@
+-- A step is refused by each number exactly where its law says: from the laws of decoding, of the address and of the operation.
+-- Assumes nothing.
+use Prim.Native.Nat.{ℕ, _≤_, _<_}
+use mathlib.Core.Bool.{Bool, true, false, cond, _&&_, _||_}
+use mathlib.Core.List.{List}
+use mathlib.Core.Logic.{_↔_, _≢_, _⊎_, inl, inr, ⊎-elim}
+use mathlib.Core.Path.{_≡_, refl, sym, ap, _∙_}
+use native.Mathlib.Omega.{arith}
+use borrow.Author.Tests.{eq-eqb, eqb-true, eqb-false, leb-true}
+use lib.Dec.{T, eqb, leb, leb→le}
+use lib.ListN.{length}
+use Rattle.answers.specs.Numbers.{numberOf, numberOfAnswer}
+use Rattle.answers.specs.declared.Answer.{Answer}
+use Rattle.answers.specs.declared.Answer.the-variants.{Done, Refused}
+use Rattle.answers.specs.declared.Refusal.{Refusal}
+use Rattle.answers.specs.declared.Refusal.the-variants.{MemoryLength, Opcode, PastEnd, PostByte, WordAtTop}
+use Rattle.answers.proofs.Numbers.{refused-by-a-number, numbers-apart}
+use Rattle.registers.specs.declared.Set.{Set}
+use Rattle.memory.specs.Map.{byteAt}
+use Rattle.machine.specs.declared.Effect.{Effect}
+use Rattle.machine.specs.declared.Machine.{Machine}
+use Rattle.machine.specs.declared.Settings.{Settings}
+use Rattle.machine.specs.declared.Wait.{Wait}
+use Rattle.machine.specs.declared.Wait.the-variants.{Running, Cwai, Sync}
+use Rattle.opcodes.specs.declared.Entry.{Entry}
+use Rattle.opcodes.specs.declared.Op.{Op}
+use Rattle.decode.specs.Decode.{decodedAt}
+use Rattle.decode.specs.Laws.{OfDecoding, RefusedSo}
+use Rattle.decode.specs.declared.instruction.Decoded.{Decoded}
+use Rattle.decode.specs.declared.instruction.Decoded.the-variants.{Instruction, Refused as NotDecoded}
+use Rattle.decode.specs.declared.operand.Operand.{Operand}
+use Rattle.decode.proofs.CutShort.{bytes-refused}
+use Rattle.decode.proofs.Formless.{post-byte-refused}
+use Rattle.decode.proofs.Laws.{decode-refuses, opcode-refused}
+use Rattle.addressing.specs.Address.{resolvedOf}
+use Rattle.addressing.specs.Laws.{OfResolving, RefusedBy}
+use Rattle.addressing.specs.declared.Resolved.{Resolved}
+use Rattle.addressing.specs.declared.Resolved.the-variants.{At as Addressed, Refused as NoAddress}
+use Rattle.addressing.proofs.Exactly.{pointer-refused, next-refused}
+use Rattle.addressing.proofs.Refusals.{resolve-refuses}
+use Rattle.evaluate.specs.Evaluate.{evaluateOf}
+use Rattle.evaluate.specs.Room.{isSmall}
+use Rattle.calls.specs.Steps.{addressed, ofDecoded, decodedTo, unlessWaiting, reached, finishedAs, finished, planned, stepPlan}
+use Rattle.calls.specs.declared.steps.Reached.{Reached}
+use Rattle.calls.specs.declared.steps.Reached.the-variants.{At, Refused as NotReached}
+use Rattle.refusals.specs.Operations.{codeRefused, wordAtTop, leadsToZero}
+use Rattle.refusals.specs.Steps.{Runs, NextPast, PointerAtTop, Met, StepsRefused}
+use Rattle.refusals.proofs.Operations.{operation-number}
+
+-- ---- the numbers of the parts
+
+-- of what stands before the operation: 0 where the operation is reached
+abbrev before : Reached → ℕ
+before (At e r ea) = 0
+before (NotReached x) = numberOf x
+
+-- of the step
+abbrev whole : List ℕ → Settings → Reached → ℕ
+whole mem s (At e r ea) = numberOfAnswer (evaluateOf (e .op) s mem r ea .answer)
+whole mem s (NotReached x) = numberOf x
+
+done : (m : Machine) (cycles : ℕ) (e : Effect) → numberOfAnswer (finished m cycles e .answer) ≡ numberOfAnswer (e .answer)
+unfolding finished
+done m cycles e = go (e .answer)
+  where
+    go : (a : Answer) → numberOfAnswer (finishedAs a m cycles e .answer) ≡ numberOfAnswer a
+    go Done = refl
+    go (Refused x) = refl
+
+step-number : (mem : List ℕ) (m : Machine) (s : Settings) → numberOfAnswer (stepPlan mem m s .answer) ≡ whole mem s (reached mem m)
+unfolding stepPlan
+step-number mem m s = go (reached mem m)
+  where
+    go : (a : Reached) → numberOfAnswer (planned mem m s a .answer) ≡ whole mem s a
+    go (At e r ea) = done m (e .cycles) (evaluateOf (e .op) s mem r ea)
+    go (NotReached x) = refl
+
+-- ---- decoding and the address
+
+-- the address is refused by 4 or 6, decoding by 3, 4 or 5
+abbrev OfAddress : ℕ → Type 0
+OfAddress n = (n ≡ 0) ⊎ ((n ≡ 4) ⊎ (n ≡ 6))
+
+of-resolved : (e : Entry) (x : Resolved) → RefusedBy OfResolving x → OfAddress (before (addressed e x))
+of-resolved e (Addressed a) k = inl refl
+of-resolved e (NoAddress x) k = go (eqb (numberOf x) 4) refl (eqb (numberOf x) 6) refl k
+  where
+    go : (a : Bool) → eqb (numberOf x) 4 ≡ a → (b : Bool) → eqb (numberOf x) 6 ≡ b → T (a || b) → OfAddress (numberOf x)
+    go true p b q t = inr (inl (eqb-true (numberOf x) 4 p))
+    go false p true q t = inr (inr (eqb-true (numberOf x) 6 q))
+    go false p false q t = absurd t
+
+between : (x : Refusal) → OfDecoding x → (3 ≤ numberOf x) × (numberOf x ≤ 5)
+between x t = go (leb 3 (numberOf x)) refl t
+  where
+    go : (a : Bool) → leb 3 (numberOf x) ≡ a → T (a && leb (numberOf x) 5) → (3 ≤ numberOf x) × (numberOf x ≤ 5)
+    go true p t = (leb-true 3 (numberOf x) p, leb→le (numberOf x) 5 t)
+    go false p t = absurd t
+
+-- a refusal and its number
+resolved-by : (e : Entry) (x : Resolved) (y : Refusal) → (before (addressed e x) ≡ numberOf y) ↔ (x ≡ NoAddress y)
+resolved-by e (Addressed a) y =
+    (λ q. absurd (omega (arith, refused-by-a-number y)), λ q. let z : _≡_ {A = ℕ} 0 1 = cc in absurd (omega arith))
+resolved-by e (NoAddress x) y = (λ q. ap NoAddress (numbers-apart x y q), λ q. let d : x ≡ y = cc in ap numberOf d)
+
+module _ (mem : List ℕ) (r : Set) where
+  abbrev number : Decoded → ℕ
+  number d = before (ofDecoded mem r d)
+
+  address-number : (e : Entry) (o : Operand) (next : ℕ) → OfAddress (before (addressed e (resolvedOf mem r o next)))
+  address-number e o next = of-resolved e (resolvedOf mem r o next) (resolve-refuses mem r o next)
+
+  -- 3 and 5: by decoding alone
+  by-decoding : (y : Refusal) → (OfAddress (numberOf y) → ⊥) → {P : Type 0} (d : Decoded) → (d ≡ NotDecoded y) ↔ P → (number d ≡ numberOf y) ↔ P
+  by-decoding y n (Instruction i) f = (
+    λ q. absurd (n (rw q at (address-number (i .entry) (i .operand) (i .next)))),
+    λ p. let c = f .1 p in let z : _≡_ {A = ℕ} 0 1 = cc in absurd (omega arith),
+  )
+  by-decoding y n (NotDecoded x) f =
+      (λ q. f .0 (ap NotDecoded (numbers-apart x y q)), λ p. let c = f .1 p in let d : x ≡ y = cc in ap numberOf d)
+
+  -- 4: by decoding or by the next address
+  by-four : {P : Type 0} (d : Decoded) → (d ≡ NotDecoded PastEnd) ↔ P → (number d ≡ 4) ↔ (P ⊎ NextPast d r)
+  by-four (Instruction i) f =
+      let b = resolved-by (i .entry) (resolvedOf mem r (i .operand) (i .next)) PastEnd in
+      let g = next-refused mem r (i .operand) (i .next) in (
+        λ q. inr (g .0 (b .0 q)),
+        λ h. ⊎-elim (λ p. let c = f .1 p in let z : _≡_ {A = ℕ} 0 1 = cc in absurd (omega arith)) (λ k. b .1 (g .1 k)) h,
+      )
+  by-four (NotDecoded x) f = (
+    λ q. inl (f .0 (ap NotDecoded (numbers-apart x PastEnd q))),
+    λ h. ⊎-elim (λ p. let c = f .1 p in let d : x ≡ PastEnd = cc in ap numberOf d) (λ k. absurd k) h,
+  )
+
+  -- 6: by the pointer
+  by-six : (d : Decoded) → RefusedSo d → (number d ≡ 6) ↔ PointerAtTop d r
+  by-six (Instruction i) k =
+      let b = resolved-by (i .entry) (resolvedOf mem r (i .operand) (i .next)) WordAtTop in
+      let g = pointer-refused mem r (i .operand) (i .next) in
+      (λ q. g .0 (b .0 q), λ h. b .1 (g .1 h))
+  by-six (NotDecoded x) k = (λ q. let l = between x k .1 in absurd (omega arith), λ h. absurd h)
+
+  -- neither 1 nor 2, and at most 6
+  record Middle (n : ℕ) : Type 0 where
+    one : n ≡ 1 → ⊥
+    two : n ≡ 2 → ⊥
+    most : n ≤ 6
+
+  of-address : (n : ℕ) → OfAddress n → Middle n
+  of-address n (inl e) = record { one = λ q. omega arith; two = λ q. omega arith; most = omega arith }
+  of-address n (inr (inl e)) = record { one = λ q. omega arith; two = λ q. omega arith; most = omega arith }
+  of-address n (inr (inr e)) = record { one = λ q. omega arith; two = λ q. omega arith; most = omega arith }
+
+  middle : (d : Decoded) → RefusedSo d → Middle (number d)
+  middle (Instruction i) k = of-address _ (address-number (i .entry) (i .operand) (i .next))
+  middle (NotDecoded x) k =
+      let (l, h) = between x k in
+      record { one = λ q. omega arith; two = λ q. omega arith; most = omega arith }
+
+-- ---- 1 and 2 come first
+
+data Case (mem : List ℕ) (m : Machine) (n : ℕ) : Type 0 where
+  short : n ≡ 1 → length mem ≢ 65536 → Case mem m n
+  waits : n ≡ 2 → length mem ≡ 65536 → m .wait ≢ Running → Case mem m n
+  runs : n ≡ number mem (m .regs) (decodedAt mem (m .regs .pc)) → Runs mem m → Case mem m n
+
+module _ (mem : List ℕ) (m : Machine) where
+  case : Case mem m (before (reached mem m))
+  unfolding reached decodedTo
+  case = go (eqb (length mem) 65536) refl
+    where
+      waiting : length mem ≡ 65536 → (w : Wait) → m .wait ≡ w → Case mem m (before (unlessWaiting w mem (m .regs)))
+      waiting l Running e = runs refl (record { sized = l; running = e })
+      waiting l Cwai e = waits refl l (λ q. let z : _≡_ {A = ℕ} 0 1 = cc in omega arith)
+      waiting l Sync e = waits refl l (λ q. let z : _≡_ {A = ℕ} 0 1 = cc in omega arith)
+
+      go : (t : Bool) → eqb (length mem) 65536 ≡ t → Case mem m (before (cond t (unlessWaiting (m .wait) mem (m .regs)) (NotReached MemoryLength)))
+      go true d = waiting (eqb-true (length mem) 65536 d) (m .wait) refl
+      go false d = short refl (eqb-false (length mem) 65536 d)
+
+  abbrev here : Decoded
+  here = decodedAt mem (m .regs .pc)
+
+  in-middle : Middle mem (m .regs) (number mem (m .regs) here)
+  in-middle = middle mem (m .regs) here (decode-refuses mem (m .regs .pc))
+
+  module _ (n : ℕ) where
+    is-one : Case mem m n → (n ≡ 1) ↔ (length mem ≢ 65536)
+    is-one (short e h) = (λ q. h, λ k. e)
+    is-one (waits e l w) = (λ q. absurd (omega arith), λ k. absurd (k l))
+    is-one (runs e r) = (λ q. absurd (in-middle .one (sym e ∙ q)), λ k. absurd (k (r .sized)))
+
+    is-two : Case mem m n → (n ≡ 2) ↔ ((length mem ≡ 65536) × (m .wait ≢ Running))
+    is-two (short e h) = (λ q. absurd (omega arith), λ k. absurd (h (k .0)))
+    is-two (waits e l w) = (λ q. (l, w), λ k. e)
+    is-two (runs e r) = (λ q. absurd (in-middle .two (sym e ∙ q)), λ k. absurd (k .1 (r .running)))
+
+    is-more : (k : ℕ) → 2 < k → {P : Type 0} → (number mem (m .regs) here ≡ k) ↔ P → Case mem m n → (n ≡ k) ↔ (Runs mem m × P)
+    is-more k l f (short e h) = (λ q. absurd (omega arith), λ p. absurd (h (p .0 .sized)))
+    is-more k l f (waits e g w) = (λ q. absurd (omega arith), λ p. absurd (w (p .0 .running)))
+    is-more k l f (runs e r) = (λ q. (r, f .0 (sym e ∙ q)), λ p. e ∙ f .1 (p .1))
+
+    is-most : Case mem m n → n ≤ 6
+    is-most (short e h) = omega arith
+    is-most (waits e l w) = omega arith
+    is-most (runs e r) = omega (arith, in-middle .most)
+
+-- ---- the operation
+
+exact : (n k : ℕ) (b : Bool) → eqb n k ≡ b → (n ≡ k) ↔ (b ≡ true)
+exact n k b h = (λ e. sym h ∙ eq-eqb n k e, λ e. eqb-true n k (h ∙ e))
+
+not-early : (n k : ℕ) → T (eqb n 0 || leb 6 n) → 0 < k → k < 6 → n ≡ k → ⊥
+not-early n k t l h e = go (eqb n 0) refl t
+  where
+    go : (b : Bool) → eqb n 0 ≡ b → T (b || leb 6 n) → ⊥
+    go true p t = omega (arith, eqb-true n 0 p)
+    go false p t = omega (arith, leb→le 6 n t)
+
+module _ (mem : List ℕ) (s : Settings) where
+  early : (k : ℕ) → 0 < k → k < 6 → (a : Reached) → (whole mem s a ≡ k) ↔ (before a ≡ k)
+  early k l h (At e r ea) = (λ q. absurd (not-early _ k (operation-number s mem r ea (e .op) .other) l h q), λ q. absurd (omega arith))
+  early k l h (NotReached x) = (λ q. q, λ q. q)
+
+  at-six : (a : Reached) → (whole mem s a ≡ 6) ↔ ((before a ≡ 6) ⊎ Met a (λ op r ea. wordAtTop op mem r ea))
+  at-six (At e r ea) =
+      let b = exact _ 6 _ (operation-number s mem r ea (e .op) .is6) in
+      (λ q. inr (b .0 q), λ h. ⊎-elim (λ q. absurd (omega arith)) (b .1) h)
+  at-six (NotReached x) = (λ q. inl q, λ h. ⊎-elim (λ q. q) (λ k. absurd k) h)
+
+  late : (k : ℕ) → 6 < k → (test : Op → Set → ℕ → Bool)
+      → ((op : Op) (r : Set) (ea : ℕ) → eqb (numberOfAnswer (evaluateOf op s mem r ea .answer)) k ≡ test op r ea)
+      → (a : Reached) → before a ≤ 6 → (whole mem s a ≡ k) ↔ Met a test
+  late k l test f (At e r ea) h = exact _ k (test (e .op) r ea) (f (e .op) r ea)
+  late k l test f (NotReached x) h = (λ q. absurd (omega arith), λ q. absurd q)
+
+  only-nine : (a : Reached) → before a ≤ 6 → whole mem s a ≤ 9
+  only-nine (At e r ea) h = leb→le (numberOfAnswer (evaluateOf (e .op) s mem r ea .answer)) 9 (operation-number s mem r ea (e .op) .most)
+  only-nine (NotReached x) h = omega arith
+
+-- ---- the laws
+
+-- from the number of what was reached to that of the step
+through : {A : Type 0} {n p k : ℕ} → n ≡ p → (p ≡ k) ↔ A → (n ≡ k) ↔ A
+through e f = (λ q. f .0 (sym e ∙ q), λ a. e ∙ f .1 a)
+
+joined : {A B C : Type 0} → A ↔ B → B ↔ C → A ↔ C
+joined f g = (λ a. g .0 (f .0 a), λ c. f .1 (g .1 c))
+
+either : {A B C : Type 0} → A ↔ B → (A ⊎ C) ↔ (B ⊎ C)
+either f = (λ h. ⊎-elim (λ a. inl (f .0 a)) (λ c. inr c) h, λ h. ⊎-elim (λ b. inl (f .1 b)) (λ c. inr c) h)
+
+not-three : OfAddress 3 → ⊥
+not-three (inl e) = omega arith
+not-three (inr (inl e)) = omega arith
+not-three (inr (inr e)) = omega arith
+
+not-five : OfAddress 5 → ⊥
+not-five (inl e) = omega arith
+not-five (inr (inl e)) = omega arith
+not-five (inr (inr e)) = omega arith
+
+pub steps-refused : StepsRefused
+steps-refused mem m s b l = record {
+  one = at 1 (omega arith) (omega arith) (is-one mem m _ c);
+  two = at 2 (omega arith) (omega arith) (is-two mem m _ c);
+  three = at 3 (omega arith) (omega arith) (is-more mem m _ 3 (omega arith) (by-decoding mem r Opcode not-three d (opcode-refused mem pc b)) c);
+  four = at 4 (omega arith) (omega arith) (is-more mem m _ 4 (omega arith) (by-four mem r d (bytes-refused mem pc l)) c);
+  five = at 5 (omega arith) (omega arith) (is-more mem m _ 5 (omega arith) (by-decoding mem r PostByte not-five d (post-byte-refused mem pc)) c);
+  six = through e (joined (at-six mem s a) (either (is-more mem m _ 6 (omega arith) (by-six mem r d (decode-refuses mem pc)) c)));
+  seven = through e (late mem s 7 (omega arith) (λ op q ea. codeRefused op mem ea) (λ op q ea. operation-number s mem q ea op .is7) a most);
+  eight = through e (late mem s 8 (omega arith) (λ op q ea. isSmall op q (byteAt mem ea)) (λ op q ea. operation-number s mem q ea op .is8) a most);
+  nine = through e (late mem s 9 (omega arith) (λ op q ea. leadsToZero op s mem q) (λ op q ea. operation-number s mem q ea op .is9) a most);
+  only = rw e (only-nine mem s a most);
+}
+  where
+    a : Reached
+    a = reached mem m
+
+    r : Set
+    r = m .regs
+
+    pc : ℕ
+    pc = m .regs .pc
+
+    d : Decoded
+    d = decodedAt mem (m .regs .pc)
+
+    c : Case mem m (before (reached mem m))
+    c = case mem m
+
+    most : before (reached mem m) ≤ 6
+    most = is-most mem m _ c
+
+    e : numberOfAnswer (stepPlan mem m s .answer) ≡ whole mem s (reached mem m)
+    e = step-number mem m s
+
+    at : {A : Type 0} (k : ℕ) → 0 < k → k < 6 → (before (reached mem m) ≡ k) ↔ A → (numberOfAnswer (stepPlan mem m s .answer) ≡ k) ↔ A
+    at k l h f = through e (joined (early mem s k l h (reached mem m)) f)

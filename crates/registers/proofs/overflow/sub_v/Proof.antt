@@ -1,0 +1,16 @@
+-- `sub_v` meets its contract.
+-- Assumes nothing.
+use borrow.Author.Needs.{needs}
+use Rattle.registers.proofs.overflow.sub_v.Statement.{statement}
+use Rattle.registers.proofs.overflow.sub_v.Tie as tie
+
+returns : tie.Need-returns
+returns c = rw (c .before .enum-told .given .1) (c .signed-sub-overflow-8 .ensures)
+
+returns-2 : tie.Need-returns-2
+returns-2 c = rw (c .before .before .enum-told2 .given .1, c .before .signed-sub-overflow-82 .ensures, c .signed-sub-overflow-83 .ensures)
+
+pub sub-v-spec : {M : Type 1} → statement M
+sub-v-spec =
+    tie.close
+    (tie.spec (search needs) (search needs) (search needs) (search needs) (search needs) (search needs) (search needs) (search needs) returns returns-2)

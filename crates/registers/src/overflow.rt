@@ -1,0 +1,96 @@
+// V: whether a signed sum or difference leaves its range, and how each setting puts it.
+ghost use mathlib.Core.Path.{_≡_};
+ghost use Prim.Native.Nat.{_+_, _%_};
+ghost use Rattle.u8oru16.specs.Signed.{sumOut, diffOut};
+ghost use Rattle.registers.specs.Overflow.{addV, subV, decV, incV};
+use crate::Flags;
+
+// A byte read as signed, plus 128, and a word read as signed, plus 32,768: never below 0.
+fn lifted_8(a: u8) -> u16
+    ensures { λ r. ⌜ r ≡ (a + 0x80) % 0x100 ⌝ }
+{
+    (a as u16 + 0x80) % 0x100
+}
+
+fn lifted_16(a: u16) -> u32
+    ensures { λ r. ⌜ r ≡ (a + 0x8000) % 0x10000 ⌝ }
+{
+    (a as u32 + 0x8000) % 0x10000
+}
+
+// Whether a + b + c, with a and b read as signed, leaves the range.
+fn signed_add_overflow_8(a: u8, b: u8, c: u8) -> bool
+    ensures { λ r. ⌜ r ≡ sumOut 0x80 a b c ⌝ }
+{
+    let sum = lifted_8(a) + lifted_8(b) + c as u16;
+    (sum < 0x80) | (0x180 <= sum)
+}
+
+pub fn signed_add_overflow_16(a: u16, b: u16) -> bool
+    ensures { λ r. ⌜ r ≡ sumOut 0x8000 a b 0 ⌝ }
+{
+    let sum = lifted_16(a) + lifted_16(b);
+    (sum < 0x8000) | (0x18000 <= sum)
+}
+
+// Whether a - b - c, with a and b read as signed, leaves the range.
+fn signed_sub_overflow_8(a: u8, b: u8, c: u8) -> bool
+    ensures { λ r. ⌜ r ≡ diffOut 0x80 a b c ⌝ }
+{
+    let from = lifted_8(a);
+    let less = lifted_8(b) + c as u16;
+    (from + 0x80 < less) | (0x80 + less <= from)
+}
+
+pub fn signed_sub_overflow_16(a: u16, b: u16) -> bool
+    ensures { λ r. ⌜ r ≡ diffOut 0x8000 a b 0 ⌝ }
+{
+    let from = lifted_16(a);
+    let less = lifted_16(b);
+    (from + 0x8000 < less) | (0x8000 + less <= from)
+}
+
+// V after a sum with carry c. As bought: the carry is added first, and either partial sum may leave the range.
+pub fn add_v(flags: Flags, a: u8, b: u8, c: u8) -> bool
+    ensures { λ r. ⌜ r ≡ addV flags a b c ⌝ }
+{
+    match flags {
+        Flags::Manual => signed_add_overflow_8(a, b, c),
+        Flags::Bought => {
+            let a1 = std::num::wrapping_add_u8(a, c);
+            signed_add_overflow_8(a, c, 0) | signed_add_overflow_8(a1, b, 0)
+        }
+    }
+}
+
+// V after a difference with borrow c, likewise.
+pub fn sub_v(flags: Flags, a: u8, b: u8, c: u8) -> bool
+    ensures { λ r. ⌜ r ≡ subV flags a b c ⌝ }
+{
+    match flags {
+        Flags::Manual => signed_sub_overflow_8(a, b, c),
+        Flags::Bought => {
+            let a1 = ((a as u16 + 0x100 - c as u16) % 0x100) as u8;
+            signed_sub_overflow_8(a, c, 0) | signed_sub_overflow_8(a1, b, 0)
+        }
+    }
+}
+
+// V after DEC and INC. As bought: by the unsigned rule.
+pub fn dec_v(flags: Flags, val: u8) -> bool
+    ensures { λ r. ⌜ r ≡ decV flags val ⌝ }
+{
+    match flags {
+        Flags::Manual => val == 0x80,
+        Flags::Bought => val == 0,
+    }
+}
+
+pub fn inc_v(flags: Flags, val: u8) -> bool
+    ensures { λ r. ⌜ r ≡ incV flags val ⌝ }
+{
+    match flags {
+        Flags::Manual => val == 0x7F,
+        Flags::Bought => val == 0xFF,
+    }
+}
