@@ -8,7 +8,7 @@ use native.Mathlib.Omega.{arith}
 use lib.Dec.{ltb, leb, eqb}
 use borrow.Author.Tests.{ltb-true, ltb-false, leb-true, leb-false, lt-ltb, le-ltb, le-leb, lt-leb, eqb-true, eq-eqb, ne-eqb}
 use Rattle.u8oru16.specs.Signed.{sumOut, diffOut}
-use Rattle.registers.specs.Overflow.{addV, subV}
+use Rattle.registers.proofs.SettingsV.{addV, subV}
 use Rattle.registers.specs.declared.Flags.the-variants.{Bought, Manual}
 use Rattle.registers.proofs.Whole.{tests, lifted-sum, lifted-diff}
 

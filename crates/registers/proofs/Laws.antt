@@ -13,7 +13,7 @@ use Rattle.u8oru16.specs.declared.u8u16.the-variants.{u16}
 use Rattle.registers.specs.ConditionCodes.{place, digit, exclusiveOr, bitAt, flag}
 use Rattle.registers.specs.Arithmetic.{Operation, ADD, ADC, ADDD, SUB, SBC, SUBD, DEC, INC, AND, AND16, OR, EOR, COM, NEG, ASL, LSR, ASR, ROL, ROR, MUL, Line, _:=_, negativeAndZero, carryIn}
 use Rattle.registers.specs.Laws.{untouched, lists, Kept, HalfCarryKept, CarryAlone, AddWhole, SubWhole, MulFlags, DecOverflow, IncOverflow, NegOverflow, AslOverflow, ReadWritten}
-use Rattle.registers.specs.Overflow.{addV, subV}
+use Rattle.registers.proofs.SettingsV.{addV, subV}
 use Rattle.registers.specs.Settings.{by, after}
 use Rattle.registers.specs.declared.CCBit.{CCBit}
 use Rattle.registers.specs.declared.CCBit.the-variants.{C, «V», Z, N, H}

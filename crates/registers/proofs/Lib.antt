@@ -2,6 +2,7 @@ pub mod Masks
 pub mod Whole
 pub mod Reading
 pub mod Bits
+pub mod SettingsV
 pub mod Pages
 pub mod Shifts
 pub mod Apart

@@ -11,13 +11,14 @@ use borrow.Author.Tests.{leb-true, leb-false, ltb-true, ltb-false, le-leb, lt-le
 use Rattle.registers.specs.ConditionCodes.{digit, flag}
 use Rattle.registers.specs.Arithmetic.{DEC, INC, Line, _:=_, Page, negativeAndZero, carryIn, adding, subtracting}
 use Rattle.registers.specs.Bought.{add-u8, sub-u8}
-use Rattle.registers.specs.Overflow.{addV, subV, decV, incV}
-use Rattle.registers.specs.Settings.{by}
+use Rattle.registers.proofs.SettingsV.{addV, subV, decV, incV}
+use Rattle.registers.specs.Settings.{by, after}
 use Rattle.registers.specs.declared.CCBit.the-variants.{C, «V», Z, N, H}
 use Rattle.registers.specs.declared.CCBits.{CCBits}
 use Rattle.registers.specs.declared.Flags.{Flags}
 use Rattle.registers.specs.declared.Flags.the-variants.{Bought, Manual}
 use Rattle.registers.proofs.Bits.{high-bit}
+use Rattle.registers.proofs.Lines.{reads}
 
 -- a sum and a difference of bytes with the carry c, V being v
 abbrev pub sumLines : ℕ → ℕ → ℕ → List Line
@@ -114,3 +115,24 @@ module _ (cc : CCBits) (a b : ℕ) (la : a < 256) where
   pub inc-page : (s : Flags) → stepPage 1 a (incV s a) ≡ by s INC cc a b
   inc-page Manual = refl
   inc-page Bought = rw (inc-carry a la, high-bit 7 ((a + 1) % 256) (omega arith))
+
+-- ---- V of the setting's page
+
+module _ (cc : CCBits) (a b : ℕ) (la : a < 256) (lb : b < 256) where
+  pub add-after : (s : Flags) (w : Bool) → addV s a b (carryIn w cc) ≡ after «V» s (adding w) cc a b
+  add-after s w =
+      let c = carryIn w cc in
+      rw (← (add-page cc a b la lb s w)) (sym (reads «V» cc (sumLines a b c) ((C := leb 256 (a + b + c)) ∷ []) (addV s a b c) refl))
+
+  pub sub-after : (s : Flags) (w : Bool) → subV s a b (carryIn w cc) ≡ after «V» s (subtracting w) cc a b
+  sub-after s w =
+      let c = carryIn w cc in
+      let r = (a + 256 - (b + c)) % 256 in
+      rw (← (sub-page cc a b la lb s w)) (sym (reads «V» cc (negativeAndZero 0x80 r) ((C := ltb a (b + c)) ∷ []) (subV s a b c) refl))
+
+module _ (cc : CCBits) (a b : ℕ) (la : a < 256) where
+  pub dec-after : (s : Flags) → decV s a ≡ after «V» s DEC cc a b
+  dec-after s = rw (← (dec-page cc a b la s)) (sym (reads «V» cc (negativeAndZero 0x80 ((a + 255) % 256)) [] (decV s a) refl))
+
+  pub inc-after : (s : Flags) → incV s a ≡ after «V» s INC cc a b
+  inc-after s = rw (← (inc-page cc a b la s)) (sym (reads «V» cc (negativeAndZero 0x80 ((a + 1) % 256)) [] (incV s a) refl))

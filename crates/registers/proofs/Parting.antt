@@ -12,7 +12,7 @@ use borrow.Author.Tests.{ltb-true, ltb-false, lt-leb, eq-eqb, ne-eqb}
 use Rattle.registers.specs.ConditionCodes.{digit, flag}
 use Rattle.registers.specs.Arithmetic.{Operation, ADD, ADC, ADDD, SUB, SBC, SUBD, DEC, INC, AND, AND16, OR, EOR, COM, NEG, ASL, LSR, ASR, ROL, ROR, MUL, _:=_, Page, negativeAndZero, carry, manual}
 use Rattle.registers.specs.Bought.{bought}
-use Rattle.registers.specs.Overflow.{addV, subV, decV, incV}
+use Rattle.registers.proofs.SettingsV.{addV, subV, decV, incV}
 use Rattle.registers.specs.Settings.{Parts, dec-00, dec-80, inc-7F, inc-FF, adc, sbc, DifferInV, SettingsPart}
 use Rattle.registers.specs.declared.CCBit.the-variants.{C}
 use Rattle.registers.specs.declared.CCBits.{CCBits}

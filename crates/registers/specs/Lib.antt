@@ -1,7 +1,6 @@
 pub mod ConditionCodes
 pub mod Arithmetic
 pub mod Bought
-pub mod Overflow
 pub mod Settings
 pub mod Names
 pub mod RegisterSet

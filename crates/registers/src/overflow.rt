@@ -2,7 +2,11 @@
 ghost use mathlib.Core.Path.{_≡_};
 ghost use Prim.Native.Nat.{_+_, _%_};
 ghost use Rattle.u8oru16.specs.Signed.{sumOut, diffOut};
-ghost use Rattle.registers.specs.Overflow.{addV, subV, decV, incV};
+ghost use mathlib.Core.Bool.{Bool};
+ghost use Rattle.registers.specs.Arithmetic.{DEC, INC, carryIn, adding, subtracting};
+ghost use Rattle.registers.specs.Settings.{after};
+ghost use Rattle.registers.specs.declared.CCBit.the-variants.{«V»};
+ghost use Rattle.registers.specs.declared.CCBits.{CCBits};
 use crate::Flags;
 
 // A byte read as signed, plus 128, and a word read as signed, plus 32,768: never below 0.
@@ -50,9 +54,10 @@ pub fn signed_sub_overflow_16(a: u16, b: u16) -> bool
     (from + 0x8000 < less) | (0x8000 + less <= from)
 }
 
-// V after a sum with carry c. As bought: the carry is added first, and either partial sum may leave the range.
+// V of the setting's page after a sum, whatever condition codes bring the carry c.
+// As bought: the carry is added first, and either partial sum may leave the range.
 pub fn add_v(flags: Flags, a: u8, b: u8, c: u8) -> bool
-    ensures { λ r. ⌜ r ≡ addV flags a b c ⌝ }
+    ensures { λ r. ⌜ ((cc : CCBits) (asked : Bool) → carryIn asked cc ≡ c → r ≡ after «V» flags (adding asked) cc a b) ⌝ }
 {
     match flags {
         Flags::Manual => signed_add_overflow_8(a, b, c),
@@ -63,9 +68,9 @@ pub fn add_v(flags: Flags, a: u8, b: u8, c: u8) -> bool
     }
 }
 
-// V after a difference with borrow c, likewise.
+// V after a difference, likewise; c is the borrow.
 pub fn sub_v(flags: Flags, a: u8, b: u8, c: u8) -> bool
-    ensures { λ r. ⌜ r ≡ subV flags a b c ⌝ }
+    ensures { λ r. ⌜ ((cc : CCBits) (asked : Bool) → carryIn asked cc ≡ c → r ≡ after «V» flags (subtracting asked) cc a b) ⌝ }
 {
     match flags {
         Flags::Manual => signed_sub_overflow_8(a, b, c),
@@ -76,9 +81,9 @@ pub fn sub_v(flags: Flags, a: u8, b: u8, c: u8) -> bool
     }
 }
 
-// V after DEC and INC. As bought: by the unsigned rule.
+// V of the setting's page after DEC and INC, whatever the condition codes were. As bought: by the unsigned rule.
 pub fn dec_v(flags: Flags, val: u8) -> bool
-    ensures { λ r. ⌜ r ≡ decV flags val ⌝ }
+    ensures { λ r. ⌜ ((cc : CCBits) → r ≡ after «V» flags DEC cc val 0) ⌝ }
 {
     match flags {
         Flags::Manual => val == 0x80,
@@ -87,7 +92,7 @@ pub fn dec_v(flags: Flags, val: u8) -> bool
 }
 
 pub fn inc_v(flags: Flags, val: u8) -> bool
-    ensures { λ r. ⌜ r ≡ incV flags val ⌝ }
+    ensures { λ r. ⌜ ((cc : CCBits) → r ≡ after «V» flags INC cc val 0) ⌝ }
 {
     match flags {
         Flags::Manual => val == 0x7F,

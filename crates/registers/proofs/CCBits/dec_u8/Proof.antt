@@ -1,16 +1,16 @@
 -- `dec_u8` meets its contract.
 -- Assumes nothing.
 use borrow.Author.Needs.{needs}
-use Rattle.registers.proofs.Pages.{dec-page}
+use Rattle.registers.proofs.Pages.{dec-page, dec-after}
 use Rattle.registers.specs.Arithmetic.{out8}
-use mathlib.Core.Path.{ap}
+use mathlib.Core.Path.{ap, sym, _∙_}
 use Rattle.registers.proofs.CCBits.dec_u8.Statement.{statement}
 use Rattle.registers.proofs.CCBits.dec_u8.Tie as tie
 
 returns : tie.Need-returns
 returns c =
     let x = c .before .before .before .before .args in
-    rw (c .set-zn-8 .ensures, c .before .set .ensures, c .before .before .dec-v .ensures, c .before .before .before .wrapping-add-u8 .ensures)
+    rw (c .set-zn-8 .ensures, c .before .set .ensures, c .before .before .dec-v .ensures (x .self) ∙ sym (dec-after (x .self) (x .val) 0 (search needs) (x .flags)), c .before .before .before .wrapping-add-u8 .ensures)
     (ap (out8 (x .self)) (dec-page (x .self) (x .val) 0 (search needs) (x .flags)))
 
 pub dec-u8-spec : {M : Type 1} → statement M

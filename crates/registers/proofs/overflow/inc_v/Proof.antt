@@ -1,14 +1,16 @@
 -- `inc_v` meets its contract.
 -- Assumes nothing.
 use borrow.Author.Needs.{needs}
+use Rattle.registers.proofs.Pages.{inc-after}
+use Rattle.registers.specs.declared.Flags.the-variants.{Bought, Manual}
 use Rattle.registers.proofs.overflow.inc_v.Statement.{statement}
 use Rattle.registers.proofs.overflow.inc_v.Tie as tie
 
 returns : tie.Need-returns
-returns c = rw (c .enum-told .given .1)
+returns c = λ cc. rw (c .enum-told .given .1) (inc-after cc (c .before .before .args .val) 0 (search needs) Manual)
 
 returns-2 : tie.Need-returns-2
-returns-2 c = rw (c .enum-told2 .given .1)
+returns-2 c = λ cc. rw (c .enum-told2 .given .1) (inc-after cc (c .before .before .args .val) 0 (search needs) Bought)
 
 pub inc-v-spec : {M : Type 1} → statement M
 inc-v-spec =

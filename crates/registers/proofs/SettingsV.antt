@@ -1,4 +1,4 @@
--- V in each setting, where they part: after a sum, a difference, DEC and INC.
+-- V in each setting, where they part: after a sum, a difference, DEC and INC. `Pages` has that it is the V of the setting's page.
 -- Assumes nothing.
 use Prim.Native.Nat.{ℕ, _+_, _-_, _%_}
 use mathlib.Core.Bool.{Bool, _||_}
