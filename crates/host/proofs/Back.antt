@@ -113,8 +113,8 @@ flags-told Manual = refl
 host-back : (t : HostTwin) → isTwin t ≡ true → hostTwin (twinFrom t) ≡ t
 unfolding hostTwin machineFrom
 host-back t h =
-    let p = both (ltb (t .wait) 3 && eqb (t .bytes) 0) (eqb (t .armed) 0) h in
-    let q = both (ltb (t .wait) 3) (eqb (t .bytes) 0) (p .0) in
+    let p = both _ _ h in
+    let q = both _ _ (p .0) in
     rw (wait-back (t .wait) (ltb-true _ _ (q .0)), eqb-true (t .bytes) 0 (q .1), eqb-true (t .armed) 0 (p .1))
 
 twin-back : (t : Twin) → twinFrom (hostTwin t) ≡ t
@@ -130,7 +130,7 @@ twins-back = record { host = host-back; twin = twin-back; named = twin-named }
 
 settings-host-back : (s : HostSettings) → isSettings s ≡ true → hostSettings (settingsFrom s) ≡ s
 settings-host-back s h =
-    let q = both (ltb (s .flags) 2) (eqb (s .spare) 0) h in
+    let q = both _ _ h in
     rw (flags-back (s .flags) (ltb-true _ _ (q .0)), eqb-true (s .spare) 0 (q .1))
 
 settings-back-so : (s : Settings) → settingsFrom (hostSettings s) ≡ s
