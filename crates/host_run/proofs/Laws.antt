@@ -1,18 +1,24 @@
 -- A run by steps: one more, and the end.
 -- Assumes nothing.
-use Prim.Native.Nat.{ℕ, zero, suc, _-_, _<_}
+use Prim.Native.Nat.{ℕ, zero, suc, _-_, _≤_, _<_}
 use mathlib.Core.Path.{_≡_, refl}
 use mathlib.Core.Bool.{Bool, true, false, _&&_}
 use mathlib.Core.List.{List}
 use native.Mathlib.Omega.{arith}
 use borrow.Author.Tests.{lt-ltb}
 use lib.Dec.{ltb}
+use Rattle.answers.specs.declared.Answer.{Answer}
+use Rattle.answers.specs.declared.Answer.the-variants.{Done, Refused}
 use Rattle.machine.specs.declared.Settings.{Settings}
 use Rattle.calls.specs.Steps.{stepOf, memoryAfterStep}
 use Rattle.calls.specs.declared.Report.{Report}
 use Rattle.host.specs.declared.HostTwin.{HostTwin}
-use Rattle.host_run.specs.Runs.{goesOn, Running, running, stopped, hostRan, notRun, Runs}
+use Rattle.host_run.specs.Runs.{goesOn, uncounted, Running, running, stopped, hostRan, notRun, Runs}
 use Rattle.host_run.specs.declared.HostRan.{HostRan}
+
+pub at-most-one : (a : Answer) → uncounted a ≤ 1
+at-most-one Done = omega arith
+at-most-one (Refused x) = omega arith
 
 module _ (s : Settings) where
   pub run-more : (n : ℕ) (r : Report) (mem : List ℕ) → 0 < n → goesOn r ≡ true

@@ -1,6 +1,6 @@
 -- A run: at most so many steps that are not recorded, up to and with the first that is refused or reports a device write.
 -- Assumes nothing.
-use Prim.Native.Nat.{ℕ, zero, suc}
+use Prim.Native.Nat.{ℕ, zero, suc, _+_}
 use mathlib.Core.Bool.{Bool, true, false, cond, _&&_}
 use mathlib.Core.List.{List, []}
 use mathlib.Core.Path.{_≡_}
@@ -29,13 +29,18 @@ goesOn r = isDone (r .answer) && eqb (r .devices .count) 0
 abbrev pub before : Machine → Report
 before m = record { devices = writesOf []; machine = m; answer = Done }
 
--- the last step with what is left of the steps, and memory
+-- the last step, the steps allowed less those that were carried out, and memory
 pub record Running : Type 0 where
   pub ran : Ran
   pub memory : List ℕ
 
+-- a step that is refused does not count
+abbrev pub uncounted : Answer → ℕ
+uncounted Done = 0
+uncounted (Refused x) = 1
+
 abbrev pub stopped : Report → ℕ → List ℕ → Running
-stopped r left mem = record { ran = record { last = r; left = left }; memory = mem }
+stopped r left mem = record { ran = record { last = r; left = left + uncounted (r .answer) }; memory = mem }
 
 -- at most so many steps more, after one that ended so
 unfoldable pub running : Settings → ℕ → Report → List ℕ → Running

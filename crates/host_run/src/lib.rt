@@ -2,7 +2,7 @@
 ghost use mathlib.Core.Path.{_≡_};
 ghost use Rattle.host.specs.Numbers.{isNamed};
 ghost use Rattle.host.specs.Structs.{settingsFrom, machineFrom};
-ghost use Rattle.host_run.specs.Runs.{goesOn, before, running, hostRan, notRun, Runs};
+ghost use Rattle.host_run.specs.Runs.{goesOn, before, uncounted, running, hostRan, notRun, Runs};
 use answers::Answer;
 use calls::Report;
 use host::HostOutcome;
@@ -12,7 +12,7 @@ use machine::Machine;
 use machine::Settings;
 use memory::Writes;
 
-// How the last step ended, and how many steps of those allowed are left.
+// How the last step ended, and how many steps are left: those allowed less those carried out.
 #[repr(C)]
 pub struct HostRan {
     pub last: HostOutcome,
@@ -37,6 +37,17 @@ fn goes_on(report: Report) -> bool
     }
 }
 
+// A step that is refused does not count.
+fn uncounted(report: Report) -> u64
+    ensures { λ r. ⌜ r ≡ uncounted (report .answer) ⌝ }
+{
+    let answer = report.answer;
+    match answer {
+        Answer::Done => 0,
+        Answer::Refused(_) => 1,
+    }
+}
+
 fn run(mem: &mut [u8], machine: Machine, settings: Settings, count: u64) -> Ran
     ensures { λ r. ⌜ (r ≡ running settings count (before machine) (now (mem .entry)) .ran) × (now (mem .exit) ≡ running settings count (before machine) (now (mem .entry)) .memory) ⌝ }
 {
@@ -51,7 +62,11 @@ fn run(mem: &mut [u8], machine: Machine, settings: Settings, count: u64) -> Ran
         last = calls::step(mem, current, settings);
         left -= 1;
     }
-    Ran { last, left }
+    let uncarried = uncounted(last);
+    Ran {
+        last,
+        left: left + uncarried,
+    }
 }
 
 fn not_run(t: HostTwin, count: u64) -> HostRan

@@ -53,7 +53,7 @@ fn back(mem: &mut [u8], journal: &[u8], twin: HostTwin) -> HostTwin {
 }
 
 // The same not recorded: NMI, for which there is no room on the stack; the second and third step in a run of two; FIRQ, which is
-// masked, and IRQ.
+// masked; a run of seven in CWAI, whose first step is refused and does not count; and IRQ.
 fn unrecorded(mem: &mut [u8], twin: HostTwin) {
     let reset = played::shown(host_calls::doorhawser_reset_unrecorded(mem, twin, settings()));
     let refused = played::shown(host_calls::doorhawser_interrupt_unrecorded(
@@ -76,6 +76,11 @@ fn unrecorded(mem: &mut [u8], twin: HostTwin) {
         settings(),
         1,
     ));
+    let mut waits = masked;
+    waits.wait = 1;
+    let stopped = host_run::doorhawser_run_unrecorded(mem, waits, settings(), 7);
+    played::number(stopped.left);
+    played::shown(stopped.last);
     played::shown(host_calls::doorhawser_interrupt_unrecorded(mem, masked, settings(), 0));
 }
 
