@@ -94,7 +94,7 @@ typedef struct doorhawser_write { /* 4 bytes */
 
 typedef struct doorhawser_outcome {               /* 128 bytes */
     doorhawser_twin twin;                         /* after the call; as given where it is refused */
-    doorhawser_write devices[DOORHAWSER_DEVICES]; /* the writes to FF00-FFDF in their order: the first `count`; the others are 0 */
+    doorhawser_write devices[DOORHAWSER_DEVICES]; /* writes to FF00-FF3F and FFC0-FFDF, in order: `count`, then zeros */
     uint64_t count;
     uint64_t reads, writes; /* 0: room for the bytes that a call reads and writes */
     uint64_t answer;
