@@ -229,9 +229,9 @@ static void bounds(Metric *m, const Line *line) {
     if (m->bounded != m->buckets && m->bounded + 1 != m->buckets)
         fault(line->path, line->number, "%u bounds for %u buckets: each has one, or each but the last", m->bounded, m->buckets);
     m->bounds = must(malloc((m->bounded + 1) * sizeof *m->bounds));
-    uint64_t step = every ? number(line, line->words[2], 10, 1, 1000000000, "the width of a bucket") : 0;
+    uint64_t step = every ? number(line, line->words[2], 10, 1, 1000000000 / MOST_BUCKETS, "the width of a bucket") : 0;
     for (unsigned i = 0; i < m->bounded; i++) {
-        m->bounds[i] = every ? step * (i + 1) : number(line, line->words[1 + i], 10, 0, 1000000000000, "a bound");
+        m->bounds[i] = every ? step * (i + 1) : number(line, line->words[1 + i], 10, 0, 1000000000, "a bound");
         if (i && m->bounds[i] <= m->bounds[i - 1]) fault(line->path, line->number, "the bound %s is not above the one before it", line->words[1 + i]);
     }
 }
@@ -255,8 +255,8 @@ static void scale(Metric *m, const Line *line) {
     once(line, m->under);
     char *slash = strchr(line->words[1], '/');
     if (slash) *slash = 0;
-    m->over = number(line, line->words[1], 10, 1, 1000000000, "a scale's number");
-    m->under = slash ? number(line, slash + 1, 10, 1, 1000000000, "a scale's number") : 1;
+    m->over = number(line, line->words[1], 10, 1, 1000000, "a scale's number");
+    m->under = slash ? number(line, slash + 1, 10, 1, 1000000, "a scale's number") : 1;
 }
 
 /* A line of the metric that the last histogram, gauge or counter began; false where it is none. */

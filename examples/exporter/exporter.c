@@ -57,7 +57,7 @@ static atomic_size_t next_twin;
 /* Takes the next twin that nobody has taken, and runs it to its end. */
 static void *run_once(void *unused) {
     for (size_t i; (i = atomic_fetch_add(&next_twin, 1)) < count;)
-        if (!twin_stands(twins[i])) twin_run(twins[i], twins[i]->from->run);
+        twin_run(twins[i], twins[i]->from->run);
     return unused;
 }
 

@@ -49,7 +49,7 @@ static void put_value(FILE *out, double value) {
 
 /* ---- a controller's metrics */
 
-/* In the metric's unit. One division, so that 20/1000 is the number nearest to 0.02. */
+/* In the metric's unit. Bounds and scales are small enough for an exact product, so 20 by 1000 is the number nearest to 0.02. */
 static double scaled(const Metric *m, double n) {
     return n * (double)m->over / (double)m->under;
 }
@@ -190,7 +190,7 @@ void exposition_check(const Twin *const *twins, size_t count) {
             if (i != j && same_labels(a, b)) fault(a->path, 0, "the controller %s has the same labels as in %s", a->controller, b->path);
             for (size_t k = 0; k < a->metric_count; k++)
                 for (size_t l = 0; l < b->metric_count; l++)
-                    if (i != j || k != l) check_pair(a, &a->metrics[k], b, &b->metrics[l]);
+                    if (i != j || l < k) check_pair(a, &a->metrics[k], b, &b->metrics[l]);
         }
     }
 }

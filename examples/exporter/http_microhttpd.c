@@ -29,11 +29,14 @@ static enum MHD_Result request(void *context, struct MHD_Connection *c, const ch
                                const char *body, size_t *body_length, void **state) {
     static int seen;
     (void)context, (void)version, (void)body;
-    if (!*state) { /* the head alone has come: the answer is given when the body has */
+    if (!*state) { /* the head alone has come: the answer is given after the body */
         *state = &seen;
         return MHD_YES;
     }
-    *body_length = 0;
+    if (*body_length) { /* no body has a meaning here */
+        *body_length = 0;
+        return MHD_YES;
+    }
     if (strcmp(method, MHD_HTTP_METHOD_GET) && strcmp(method, MHD_HTTP_METHOD_HEAD)) return fixed(c, MHD_HTTP_METHOD_NOT_ALLOWED, "GET or HEAD\n");
     if (!strcmp(path, "/")) return fixed(c, MHD_HTTP_OK, HTTP_ROOT);
     if (!strcmp(path, "/health")) return fixed(c, MHD_HTTP_OK, "ok\n");

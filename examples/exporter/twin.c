@@ -118,10 +118,6 @@ void twin_run(Twin *t, uint64_t until) {
     }
 }
 
-bool twin_stands(const Twin *t) {
-    return t->answer || (t->twin.wait && !t->due[0] && !t->due[1] && !t->due[2]);
-}
-
 uint64_t twin_number(const Twin *t, Place p) {
     uint64_t n = 0;
     for (unsigned i = 0; i < p.bytes; i++) n = n << 8 | doorhawser_peek(t->memory, (uint16_t)(p.at + i));

@@ -24,9 +24,6 @@ uint64_t twin_clock(const Twin *t);
 /* Lets it run until its clock has reached a number of cycles, or a call is refused. */
 void twin_run(Twin *t, uint64_t until);
 
-/* Whether nothing will happen any more: it was refused, or waits for an interrupt that never comes. */
-bool twin_stands(const Twin *t);
-
 /* A number of its memory. */
 uint64_t twin_number(const Twin *t, Place p);
 

@@ -315,16 +315,12 @@ impl Twin {
 
     /// Memory as S-records, with a start address in the S9 line.
     pub fn save(&self, start: u16) -> Vec<u8> {
-        let mut out = vec![0; 4 * MEMORY];
-        loop {
-            // Safety: the output is a buffer of its own, with its length.
-            let w = unsafe { raw::doorhawser_save(self.memory.as_ptr(), MEMORY, start, out.as_mut_ptr(), out.len()) };
-            if w.answer == 0 {
-                out.truncate(w.count as usize);
-                return out;
-            }
-            out.resize(2 * out.len(), 0);
-        }
+        let mut out = vec![0; 4 * MEMORY]; // more than the text of any memory
+        // Safety: the output is a buffer of its own, with its length.
+        let w = unsafe { raw::doorhawser_save(self.memory.as_ptr(), MEMORY, start, out.as_mut_ptr(), out.len()) };
+        assert_eq!(w.answer, 0, "memory and output have their lengths");
+        out.truncate(w.count as usize);
+        out
     }
 }
 
