@@ -10,7 +10,16 @@ fn p99(text: &[u8], flags: Flags) -> Result<String, Box<dyn std::error::Error>> 
     let samples: u32 = (0x2000..0x2040).map(|at| u32::from(twin.peek(at))).sum();
     let stalls = twin.peek(0x2000 + 45);
     let p99 = twin.peek_word(0x2100);
-    Ok(format!("{:?}: p99 {} ms; {} of {} samples at 900 ms; {} steps, {} cycles, {:?}", flags, p99, stalls, samples, ran.steps, twin.cycles(), twin.wait()))
+    Ok(format!(
+        "{:?}: p99 {} ms; {} of {} samples at 900 ms; {} steps, {} cycles, {:?}",
+        flags,
+        p99,
+        stalls,
+        samples,
+        ran.steps,
+        twin.cycles(),
+        twin.wait()
+    ))
 }
 
 fn main() -> Result<(), Box<dyn std::error::Error>> {

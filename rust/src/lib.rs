@@ -230,7 +230,9 @@ impl Twin {
 
     fn recorded(&mut self, call: raw::Recorded) -> Result<DeviceWrites, Refused> {
         // Safety: both pointers have the lengths of buffers that this twin owns apart, and it is borrowed for the call alone.
-        let o = unsafe { call(self.memory.as_mut_ptr(), MEMORY, self.journal.as_mut_ptr(), self.journal.len(), self.state, self.settings.raw()) };
+        let o = unsafe {
+            call(self.memory.as_mut_ptr(), MEMORY, self.journal.as_mut_ptr(), self.journal.len(), self.state, self.settings.raw())
+        };
         self.ended(o)
     }
 
@@ -279,7 +281,8 @@ impl Twin {
     /// An interrupt, not recorded.
     pub fn interrupt_unrecorded(&mut self, which: Interrupt) -> Result<DeviceWrites, Refused> {
         // Safety: as in `unrecorded`.
-        let o = unsafe { raw::doorhawser_interrupt_unrecorded(self.memory.as_mut_ptr(), MEMORY, self.state, self.settings.raw(), which as u8) };
+        let o =
+            unsafe { raw::doorhawser_interrupt_unrecorded(self.memory.as_mut_ptr(), MEMORY, self.state, self.settings.raw(), which as u8) };
         self.ended(o)
     }
 
@@ -316,7 +319,7 @@ impl Twin {
     /// Memory as S-records, with a start address in the S9 line.
     pub fn save(&self, start: u16) -> Vec<u8> {
         let mut out = vec![0; 4 * MEMORY]; // more than the text of any memory
-        // Safety: the output is a buffer of its own, with its length.
+                                           // Safety: the output is a buffer of its own, with its length.
         let w = unsafe { raw::doorhawser_save(self.memory.as_ptr(), MEMORY, start, out.as_mut_ptr(), out.len()) };
         assert_eq!(w.answer, 0, "memory and output have their lengths");
         out.truncate(w.count as usize);

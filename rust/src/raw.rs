@@ -94,9 +94,31 @@ pub type Unrecorded = unsafe extern "C" fn(*mut u8, usize, Twin, Settings) -> Ou
 extern "C" {
     pub fn doorhawser_abi() -> u64;
     pub fn doorhawser_start() -> Twin;
-    pub fn doorhawser_step(memory: *mut u8, memory_length: usize, journal: *mut u8, journal_length: usize, twin: Twin, settings: Settings) -> Outcome;
-    pub fn doorhawser_interrupt(memory: *mut u8, memory_length: usize, journal: *mut u8, journal_length: usize, twin: Twin, settings: Settings, which: u8) -> Outcome;
-    pub fn doorhawser_reset(memory: *mut u8, memory_length: usize, journal: *mut u8, journal_length: usize, twin: Twin, settings: Settings) -> Outcome;
+    pub fn doorhawser_step(
+        memory: *mut u8,
+        memory_length: usize,
+        journal: *mut u8,
+        journal_length: usize,
+        twin: Twin,
+        settings: Settings,
+    ) -> Outcome;
+    pub fn doorhawser_interrupt(
+        memory: *mut u8,
+        memory_length: usize,
+        journal: *mut u8,
+        journal_length: usize,
+        twin: Twin,
+        settings: Settings,
+        which: u8,
+    ) -> Outcome;
+    pub fn doorhawser_reset(
+        memory: *mut u8,
+        memory_length: usize,
+        journal: *mut u8,
+        journal_length: usize,
+        twin: Twin,
+        settings: Settings,
+    ) -> Outcome;
     pub fn doorhawser_undo(memory: *mut u8, memory_length: usize, journal: *const u8, journal_length: usize, twin: Twin) -> Outcome;
     pub fn doorhawser_step_unrecorded(memory: *mut u8, memory_length: usize, twin: Twin, settings: Settings) -> Outcome;
     pub fn doorhawser_interrupt_unrecorded(memory: *mut u8, memory_length: usize, twin: Twin, settings: Settings, which: u8) -> Outcome;
