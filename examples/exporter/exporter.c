@@ -17,7 +17,7 @@
 
 static const char usage[] = "exporter [--threads N] [--output FILE] DESCRIPTION...          runs each twin for its time and prints the metrics once\n"
                             "exporter [--threads N] --listen [ADDRESS:]PORT DESCRIPTION...  runs on at 1 MHz and hands them out at /metrics\n"
-                            "status: 0; 1 where a twin was refused; 2 misuse, a bad description or bad S-records; 4 output not written whole\n";
+                            "status: 0; 1 where a twin was refused; 2 misuse, a bad description or bad S-records; 4 output not written whole";
 
 static Twin **twins;
 static pthread_mutex_t *locks; /* one a twin: held by whoever runs it or copies it */
@@ -34,6 +34,12 @@ static void fail(int status, const char *words, ...) {
     fputc('\n', stderr);
     va_end(rest);
     exit(status);
+}
+
+/* A decimal number up to a million, or more than a million where it is none. */
+static unsigned long number(const char *word) {
+    size_t digits = strspn(word, "0123456789");
+    return digits && digits < 7 && !word[digits] ? strtoul(word, NULL, 10) : 1000001;
 }
 
 /* ---- the pool: threads that each call a function with their number */
@@ -138,8 +144,10 @@ static void *run_on(void *argument) {
     return NULL;
 }
 
-/* The metrics of one moment for each twin: its copy is made between two of its steps. */
+/* The metrics of one moment for each twin: its copy is made between two of its steps. One page at a time, so that the copies are few. */
 static char *page(size_t *length) {
+    static pthread_mutex_t one = PTHREAD_MUTEX_INITIALIZER;
+    pthread_mutex_lock(&one);
     char *text = NULL;
     Twin *copies = malloc(count * sizeof *copies);
     const Twin **list = malloc(count * sizeof *list);
@@ -157,6 +165,7 @@ static char *page(size_t *length) {
     }
     free(copies);
     free(list);
+    pthread_mutex_unlock(&one);
     return text;
 }
 
@@ -164,10 +173,10 @@ static char *page(size_t *length) {
 static int listening(char *where) {
     struct sockaddr_in at = {.sin_family = AF_INET};
     socklen_t length = sizeof at;
-    char *colon = strrchr(where, ':'), *port = colon ? colon + 1 : where, *end;
+    char *colon = strrchr(where, ':'), *port = colon ? colon + 1 : where;
     if (colon) *colon = 0;
-    unsigned long n = strtoul(port, &end, 10);
-    if (*port < '0' || *port > '9' || *end || n > 65535) fail(2, "a port is a number up to 65535, and not %s", port);
+    unsigned long n = number(port);
+    if (n > 65535) fail(2, "a port is a number up to 65535, and not %s", port);
     if (colon && inet_pton(AF_INET, where, &at.sin_addr) != 1) fail(2, "an address is four numbers with dots, and not %s", where);
     at.sin_port = htons((uint16_t)n);
     int s = socket(AF_INET, SOCK_STREAM, 0), yes = 1;
@@ -219,7 +228,7 @@ int main(int argc, char **argv) {
     int at = 1;
     for (; at < argc && !strncmp(argv[at], "--", 2); at++) {
         char **value = !strcmp(argv[at], "--listen") ? &where : !strcmp(argv[at], "--output") ? &output : !strcmp(argv[at], "--threads") ? &wanted : NULL;
-        if (!strcmp(argv[at], "--help")) return fputs(usage, stdout) < 0 ? 4 : 0;
+        if (!strcmp(argv[at], "--help")) return puts(usage) < 0 || fflush(stdout) ? 4 : 0;
         if (!value || at + 1 == argc) fail(2, "%s %s\n%s", argv[at], value ? "is followed by a word" : "is no option", usage);
         *value = argv[++at];
     }
@@ -228,8 +237,8 @@ int main(int argc, char **argv) {
     if (doorhawser_abi() != DOORHAWSER_ABI) fail(2, "the library is not the one that doorhawser.h declares");
     count = (size_t)(argc - at);
     long processors = sysconf(_SC_NPROCESSORS_ONLN);
-    threads = wanted ? strtoul(wanted, NULL, 10) : processors > 0 ? (size_t)processors : 1;
-    if (!threads || threads > 1024) fail(2, "--threads is from 1 to 1024, and not %s", wanted ? wanted : "that");
+    threads = wanted ? number(wanted) : processors > 0 ? (size_t)processors : 1;
+    if (wanted && (!threads || threads > 1024)) fail(2, "--threads is from 1 to 1024, and not %s", wanted);
     if (threads > count) threads = count;
     load_all(argv + at);
     return where ? serve(where) : once(output);

@@ -103,6 +103,7 @@ static void *connection(void *argument) {
 
 static void *accepting(void *argument) {
     struct pollfd waits[] = {{.fd = listener, .events = POLLIN}, {.fd = stopping[0], .events = POLLIN}};
+    const struct timespec pause = {.tv_nsec = 10000000};
     pthread_attr_t alone;
     pthread_attr_init(&alone);
     pthread_attr_setdetachstate(&alone, PTHREAD_CREATE_DETACHED);
@@ -110,6 +111,7 @@ static void *accepting(void *argument) {
         if (poll(waits, 2, -1) < 0) continue;
         if (waits[1].revents) return argument;
         int s = accept(listener, NULL, NULL);
+        if (s < 0) nanosleep(&pause, NULL); /* no descriptor is left, say: others will be closed */
         if (s < 0) continue;
         pthread_t thread;
         if (sem_trywait(&places)) {
