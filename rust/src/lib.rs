@@ -290,8 +290,9 @@ impl Twin {
     pub fn run(&mut self, count: u64) -> Ran {
         // Safety: as in `unrecorded`.
         let r = unsafe { raw::doorhawser_run_unrecorded(self.memory.as_mut_ptr(), MEMORY, self.state, self.settings.raw(), count) };
+        let steps = r.last.twin.instructions.wrapping_sub(self.state.instructions);
         let devices = DeviceWrites::of(&r.last);
-        Ran { steps: count - r.left, devices, refused: self.ended(r.last).err() }
+        Ran { steps, devices, refused: self.ended(r.last).err() }
     }
 
     /// The newest record's 68 bytes.
