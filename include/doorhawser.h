@@ -1,8 +1,9 @@
 /* Doorhawser: the proved MC6809 twin, for hosts in C and C++ on x86-64 Linux.
  *
- * Link target/staticlib/libdoorhawser.a, which `tools/host build` makes. It needs no library, not even the C library: it takes no heap,
- * starts no thread, keeps nothing between calls and prints nothing. A call is a function of what it is given, so twins are independent,
- * and calls may run on as many threads as wanted as long as no two of them are lent one buffer at a time.
+ * Link target/staticlib/libdoorhawser.a, which `tools/host build` makes. It needs no library: it calls memset, which every C compiler
+ * expects where there is no C library too, and nothing else. It takes no heap, starts no thread, keeps nothing between calls and prints
+ * nothing. A call is a function of what it is given, so twins are independent, and calls may run on as many threads as wanted as long as
+ * no two of them are lent one buffer at a time.
  *
  * The host owns all: the twin (48 bytes, handed over by value and handed back), a memory of 65,536 bytes and, for recorded calls, a
  * journal of any length: 68 bytes for each call that can be taken back.
@@ -197,7 +198,8 @@ doorhawser_ran doorhawser_run_unrecorded(uint8_t *memory, size_t memory_length, 
 /* The newest record: `count` bytes of the journal from `at` on, 68, or 0 where there is none. */
 doorhawser_part doorhawser_newest(const uint8_t *journal, size_t journal_length, uint64_t records);
 
-/* S-records: read into memory, with the address of the S9 line as `start`; and memory written as S-records, `count` bytes of `out`. */
+/* S-records: read into memory, with the address of the S9 line as `start`; and memory written as S-records, `count` bytes of `out`. Rows of
+ * zeros are left out: it reads back into a memory of zeros. */
 doorhawser_loaded doorhawser_load(uint8_t *memory, size_t memory_length, const uint8_t *text, size_t text_length);
 doorhawser_written doorhawser_save(const uint8_t *memory, size_t memory_length, uint16_t start, uint8_t *out, size_t out_length);
 

@@ -317,7 +317,7 @@ impl Twin {
         }
     }
 
-    /// Memory as S-records, with a start address in the S9 line.
+    /// Memory as S-records, with a start address in the S9 line. Rows of zeros are left out: it reads back into a memory of zeros.
     pub fn save(&self, start: u16) -> Vec<u8> {
         let mut out = vec![0; 4 * MEMORY]; // more than the text of any memory
                                            // Safety: the output is a buffer of its own, with its length.
