@@ -243,6 +243,35 @@ static void devices(void) {
     done("device writes");
 }
 
+/* What the numbers name: each interrupt by its vector and its frame, the waits by CWAI and SYNC, the flags by DEC of 00. */
+static void names(void) {
+    static const struct {
+        uint8_t which, frame;
+        uint16_t vector, leads;
+    } interrupts[] = {{DOORHAWSER_IRQ, 12, 0xFFF8, 0x9100}, {DOORHAWSER_FIRQ, 3, 0xFFF6, 0x9200}, {DOORHAWSER_NMI, 12, 0xFFFC, 0x9300}};
+    doorhawser_twin t = doorhawser_start();
+    memset(memory, 0x12, sizeof memory);
+    t.s = 0x8000;
+    t.cc = 0;
+    for (int i = 0; i < 3; i++) {
+        memory[doorhawser_place(interrupts[i].vector)] = (uint8_t)(interrupts[i].leads >> 8);
+        memory[doorhawser_place((uint16_t)(interrupts[i].vector + 1))] = 0;
+    }
+    for (int i = 0; i < 3; i++) {
+        doorhawser_outcome o = doorhawser_interrupt_unrecorded(memory, sizeof memory, t, manual, interrupts[i].which);
+        HOLD(!o.answer && o.twin.pc == interrupts[i].leads && o.twin.s == t.s - interrupts[i].frame);
+    }
+    memcpy(memory, "\x13\x3C\xFF\x4A", 4); /* SYNC, CWAI #FF, DECA */
+    HOLD(doorhawser_step_unrecorded(memory, sizeof memory, t, manual).twin.wait == DOORHAWSER_SYNC);
+    t.pc = 1;
+    HOLD(doorhawser_step_unrecorded(memory, sizeof memory, t, manual).twin.wait == DOORHAWSER_CWAI);
+    t.pc = 3;
+    doorhawser_settings bought = {0xFFFF, DOORHAWSER_BOUGHT, 0};
+    HOLD(doorhawser_step_unrecorded(memory, sizeof memory, t, manual).twin.cc == 0x08);
+    HOLD(doorhawser_step_unrecorded(memory, sizeof memory, t, bought).twin.cc == 0x0A);
+    done("what numbers name");
+}
+
 /* ---- a run is its steps, up to the first that is refused or writes to a device */
 
 static doorhawser_ran by_steps(uint8_t *m, doorhawser_twin t, doorhawser_settings s, uint64_t count) {
@@ -360,6 +389,7 @@ int main(void) {
     twins();
     frames();
     devices();
+    names();
     runs();
     journals();
     records();
