@@ -272,8 +272,9 @@ static bool of_metric(Description *d, const Line *line) {
     for (size_t i = 0; i < sizeof lines / sizeof *lines; i++) {
         if (strcmp(lines[i].word, line->words[0])) continue;
         Metric *m = d->metric_count ? &d->metrics[d->metric_count - 1] : NULL;
+        const char *above = !lines[i].single ? "histogram" : lines[i].histogram ? "metric" : "gauge or counter";
         if (!m || !(m->kind == HISTOGRAM ? lines[i].histogram : lines[i].single))
-            fault(line->path, line->number, "%s stands below a %s", lines[i].word, !lines[i].single ? "histogram" : lines[i].histogram ? "metric" : "gauge or counter");
+            fault(line->path, line->number, "%s stands below a %s", lines[i].word, above);
         lines[i].read(m, line);
         return true;
     }

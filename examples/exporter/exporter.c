@@ -67,7 +67,7 @@ static void *run_once(void *unused) {
     return unused;
 }
 
-/* What stopped a twin, on standard error; how many were stopped. */
+/* What stopped a twin, on standard error. */
 static void say_refused(const Twin *t) {
     fprintf(stderr, "exporter: %s: %s at PC %04X is refused with %llu: %s; %llu instructions, %llu cycles after the reset\n", t->from->path,
             t->refused, t->twin.pc, (unsigned long long)t->answer, words_of(t->answer), (unsigned long long)t->twin.instructions,
@@ -227,7 +227,10 @@ int main(int argc, char **argv) {
     char *where = NULL, *output = NULL, *wanted = NULL;
     int at = 1;
     for (; at < argc && !strncmp(argv[at], "--", 2); at++) {
-        char **value = !strcmp(argv[at], "--listen") ? &where : !strcmp(argv[at], "--output") ? &output : !strcmp(argv[at], "--threads") ? &wanted : NULL;
+        char **value = !strcmp(argv[at], "--listen")    ? &where
+                       : !strcmp(argv[at], "--output")  ? &output
+                       : !strcmp(argv[at], "--threads") ? &wanted
+                                                        : NULL;
         if (!strcmp(argv[at], "--help")) return puts(usage) < 0 || fflush(stdout) ? 4 : 0;
         if (!value || at + 1 == argc) fail(2, "%s %s\n%s", argv[at], value ? "is followed by a word" : "is no option", usage);
         *value = argv[++at];
