@@ -5,8 +5,8 @@ ghost use Rattle.journal.specs.Recorded.{freshTwin, interrupted, wasReset};
 ghost use Rattle.journal.specs.Undos.{undone};
 ghost use Rattle.calls.specs.Interrupts.{interruptOf, memoryAfterInterrupt};
 ghost use Rattle.calls.specs.Resets.{resetOf, memoryAfterReset};
-ghost use Rattle.srecord.specs.File.{loadedOf, memoryAfter};
-ghost use Rattle.srecord.specs.Written.{writtenOf, outputAfter};
+ghost use Rattle.srecord.specs.File.{loadedOf, memoryLoaded};
+ghost use Rattle.srecord.specs.Written.{outputWritten, outputAfter};
 ghost use Rattle.host.specs.Numbers.{interruptTypeOf, isTwin, isNamed, isInterrupt};
 ghost use Rattle.host.specs.Structs.{settingsFrom, machineFrom, hostTwin};
 ghost use Rattle.host.specs.Ends.{Ends, Reports};
@@ -168,7 +168,7 @@ pub extern "C" fn doorhawser_newest(journal: &[u8], records: usize) -> HostPart
 // An S-record file is laid in memory.
 #[no_mangle]
 pub extern "C" fn doorhawser_load(mem: &mut [u8], text: &[u8]) -> HostLoaded
-    ensures { λ r. ⌜ (r ≡ hostLoaded (loadedOf (now (mem .entry)) (now (text .entry)))) × (now (mem .exit) ≡ memoryAfter (now (mem .entry)) (now (text .entry))) ⌝ }
+    ensures { λ r. ⌜ (r ≡ hostLoaded (loadedOf (now (mem .entry)) (now (text .entry)))) × (now (mem .exit) ≡ memoryLoaded (now (mem .entry)) (now (text .entry))) ⌝ }
 {
     let loaded = srecord::read(mem, text);
     let answer = loaded.answer;
@@ -181,7 +181,7 @@ pub extern "C" fn doorhawser_load(mem: &mut [u8], text: &[u8]) -> HostLoaded
 // Memory as an S-record file, at the front of `out`.
 #[no_mangle]
 pub extern "C" fn doorhawser_save(mem: &[u8], start: u16, out: &mut [u8]) -> HostWritten
-    ensures { λ r. ⌜ (r ≡ hostWritten (writtenOf (now (mem .entry)) start (now (out .entry)))) × (now (out .exit) ≡ outputAfter (now (mem .entry)) start (now (out .entry))) ⌝ }
+    ensures { λ r. ⌜ (r ≡ hostWritten (outputWritten (now (mem .entry)) start (now (out .entry)))) × (now (out .exit) ≡ outputAfter (now (mem .entry)) start (now (out .entry))) ⌝ }
 {
     let written = srecord::write(mem, start, out);
     let answer = written.answer;
