@@ -1,11 +1,14 @@
 // A host in Rattle: it calls each function that hosts in C and Rust call, on the firmware of examples/back.txt, and prints a line for each
-// call as `run` does: its number, PC, CC and cycles. What it prints is worked out by hand (README.md).
+// call: its number, PC, CC and cycles. What it prints is worked out by hand (README.md).
 mod played;
 
 use host::HostSettings;
 use host::HostTwin;
-use host_calls::HostPart;
-use host_calls::HostWritten;
+
+type Memory = [u8; 0x10000];
+
+// Room for five records.
+type Journal = [u8; 340];
 
 // ram_top 7FFF, flags by the manual.
 fn settings() -> HostSettings {
@@ -17,7 +20,7 @@ fn settings() -> HostSettings {
 }
 
 // LDS #000C; ANDCC #EF; NOP at 1000, the vectors of IRQ and reset.
-fn load(mem: &mut [u8]) {
+fn load(mem: &mut Memory) {
     let loaded = host_calls::doorhawser_load(
         mem,
         b"S10A100010CE000C1CEF12DE\nS105BFF810062D\nS105BFFE10002D\nS9031000EC\n",
@@ -27,7 +30,7 @@ fn load(mem: &mut [u8]) {
 }
 
 // Reset, two steps, IRQ, a step.
-fn forward(mem: &mut [u8], journal: &mut [u8]) -> HostTwin {
+fn forward(mem: &mut Memory, journal: &mut Journal) -> HostTwin {
     let start = host_calls::doorhawser_start();
     let reset = played::shown(host_calls::doorhawser_reset(mem, journal, start, settings()));
     let first = played::shown(host_step::doorhawser_step(mem, journal, reset, settings()));
@@ -43,7 +46,7 @@ fn forward(mem: &mut [u8], journal: &mut [u8]) -> HostTwin {
 }
 
 // Five undos, and one that finds no record.
-fn back(mem: &mut [u8], journal: &[u8], twin: HostTwin) -> HostTwin {
+fn back(mem: &mut Memory, journal: &Journal, twin: HostTwin) -> HostTwin {
     let fourth = played::shown(host_calls::doorhawser_undo(mem, journal, twin));
     let third = played::shown(host_calls::doorhawser_undo(mem, journal, fourth));
     let second = played::shown(host_calls::doorhawser_undo(mem, journal, third));
@@ -54,7 +57,7 @@ fn back(mem: &mut [u8], journal: &[u8], twin: HostTwin) -> HostTwin {
 
 // The same not recorded: NMI, for which there is no room on the stack; the second and third step in a run of two; FIRQ, which is
 // masked; a run of seven in CWAI, whose first step is refused and does not count; and IRQ.
-fn unrecorded(mem: &mut [u8], twin: HostTwin) {
+fn unrecorded(mem: &mut Memory, twin: HostTwin) {
     let reset = played::shown(host_calls::doorhawser_reset_unrecorded(mem, twin, settings()));
     let refused = played::shown(host_calls::doorhawser_interrupt_unrecorded(
         mem,
@@ -85,7 +88,7 @@ fn unrecorded(mem: &mut [u8], twin: HostTwin) {
 }
 
 // Numbers that name nothing.
-fn unnamed(mem: &mut [u8], journal: &mut [u8], twin: HostTwin) {
+fn unnamed(mem: &mut Memory, journal: &mut Journal, twin: HostTwin) {
     let mut waits = twin;
     waits.wait = 3;
     played::shown(host_step::doorhawser_step(mem, journal, waits, settings()));
@@ -106,12 +109,17 @@ fn unnamed(mem: &mut [u8], journal: &mut [u8], twin: HostTwin) {
     played::shown(host_calls::doorhawser_interrupt(mem, journal, twin, settings(), 3));
 }
 
-fn part(newest: HostPart) {
-    played::number(newest.at as u64);
-    played::number(newest.count as u64);
+// Where the newest record stands.
+fn newest(journal: &Journal, twin: HostTwin) {
+    let part = host_calls::doorhawser_newest(journal, twin.records);
+    played::number(part.at as u64);
+    played::number(part.count as u64);
 }
 
-fn saved(written: HostWritten) {
+// The memory written as S-records.
+fn save(mem: &Memory) {
+    let mut out = [0u8; 161];
+    let written = host_calls::doorhawser_save(mem, 0x1000, &mut out);
     played::number(written.answer);
     played::number(written.count as u64);
 }
@@ -119,14 +127,13 @@ fn saved(written: HostWritten) {
 fn main() {
     let mut mem = [0u8; 0x10000];
     let mut journal = [0u8; 340];
-    let mut out = [0u8; 161];
     played::number(host_calls::doorhawser_abi());
     load(&mut mem);
     let ended = forward(&mut mem, &mut journal);
-    part(host_calls::doorhawser_newest(&journal, ended.records));
+    newest(&journal, ended);
     let none = back(&mut mem, &journal, ended);
-    part(host_calls::doorhawser_newest(&journal, none.records));
-    saved(host_calls::doorhawser_save(&mem, 0x1000, &mut out));
+    newest(&journal, none);
+    save(&mem);
     unrecorded(&mut mem, none);
     unnamed(&mut mem, &mut journal, none);
 }
