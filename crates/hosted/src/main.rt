@@ -1,0 +1,139 @@
+// A host in Rattle: it calls each function that hosts in C and Rust call, on the firmware of examples/back.txt, and prints a line for each
+// call: its number, PC, CC and cycles. What it prints is worked out by hand (README.md).
+mod played;
+
+use host::HostSettings;
+use host::HostTwin;
+
+type Memory = [u8; 0x10000];
+
+// Room for five records.
+type Journal = [u8; 340];
+
+// ram_top 7FFF, flags by the manual.
+fn settings() -> HostSettings {
+    HostSettings {
+        ram_top: 0x7FFF,
+        flags: 1,
+        spare: 0,
+    }
+}
+
+// LDS #000C; ANDCC #EF; NOP at 1000, the vectors of IRQ and reset.
+fn load(mem: &mut Memory) {
+    let loaded = host_calls::doorhawser_load(
+        mem,
+        b"S10A100010CE000C1CEF12DE\nS105BFF810062D\nS105BFFE10002D\nS9031000EC\n",
+    );
+    played::number(loaded.answer);
+    played::number(loaded.start);
+}
+
+// Reset, two steps, IRQ, a step.
+fn forward(mem: &mut Memory, journal: &mut Journal) -> HostTwin {
+    let start = host_calls::doorhawser_start();
+    let reset = played::shown(host_calls::doorhawser_reset(mem, journal, start, settings()));
+    let first = played::shown(host_step::doorhawser_step(mem, journal, reset, settings()));
+    let second = played::shown(host_step::doorhawser_step(mem, journal, first, settings()));
+    let taken = played::shown(host_calls::doorhawser_interrupt(
+        mem,
+        journal,
+        second,
+        settings(),
+        0,
+    ));
+    played::shown(host_step::doorhawser_step(mem, journal, taken, settings()))
+}
+
+// Five undos, and one that finds no record.
+fn back(mem: &mut Memory, journal: &Journal, twin: HostTwin) -> HostTwin {
+    let fourth = played::shown(host_calls::doorhawser_undo(mem, journal, twin));
+    let third = played::shown(host_calls::doorhawser_undo(mem, journal, fourth));
+    let second = played::shown(host_calls::doorhawser_undo(mem, journal, third));
+    let first = played::shown(host_calls::doorhawser_undo(mem, journal, second));
+    let none = played::shown(host_calls::doorhawser_undo(mem, journal, first));
+    played::shown(host_calls::doorhawser_undo(mem, journal, none))
+}
+
+// The same not recorded: NMI, for which there is no room on the stack; the second and third step in a run of two; FIRQ, which is
+// masked; a run of seven in CWAI, whose first step is refused and does not count; and IRQ.
+fn unrecorded(mem: &mut Memory, twin: HostTwin) {
+    let reset = played::shown(host_calls::doorhawser_reset_unrecorded(mem, twin, settings()));
+    let refused = played::shown(host_calls::doorhawser_interrupt_unrecorded(
+        mem,
+        reset,
+        settings(),
+        2,
+    ));
+    let first = played::shown(host_step_unrecorded::doorhawser_step_unrecorded(
+        mem,
+        refused,
+        settings(),
+    ));
+    let ran = host_run::doorhawser_run_unrecorded(mem, first, settings(), 2);
+    played::number(ran.left);
+    let third = played::shown(ran.last);
+    let masked = played::shown(host_calls::doorhawser_interrupt_unrecorded(
+        mem,
+        third,
+        settings(),
+        1,
+    ));
+    let mut waits = masked;
+    waits.wait = 1;
+    let stopped = host_run::doorhawser_run_unrecorded(mem, waits, settings(), 7);
+    played::number(stopped.left);
+    played::shown(stopped.last);
+    played::shown(host_calls::doorhawser_interrupt_unrecorded(mem, masked, settings(), 0));
+}
+
+// Numbers that name nothing.
+fn unnamed(mem: &mut Memory, journal: &mut Journal, twin: HostTwin) {
+    let mut waits = twin;
+    waits.wait = 3;
+    played::shown(host_step::doorhawser_step(mem, journal, waits, settings()));
+    let mut armed = twin;
+    armed.armed = 1;
+    played::shown(host_calls::doorhawser_undo(mem, journal, armed));
+    let mut bytes = twin;
+    bytes.bytes = 1;
+    played::shown(host_calls::doorhawser_reset(mem, journal, bytes, settings()));
+    let mut flags = settings();
+    flags.flags = 2;
+    played::shown(host_step_unrecorded::doorhawser_step_unrecorded(mem, twin, flags));
+    let mut spare = settings();
+    spare.spare = 1;
+    let ran = host_run::doorhawser_run_unrecorded(mem, twin, spare, 7);
+    played::number(ran.left);
+    played::shown(ran.last);
+    played::shown(host_calls::doorhawser_interrupt(mem, journal, twin, settings(), 3));
+}
+
+// Where the newest record stands.
+fn newest(journal: &Journal, twin: HostTwin) {
+    let part = host_calls::doorhawser_newest(journal, twin.records);
+    played::number(part.at as u64);
+    played::number(part.count as u64);
+}
+
+// The memory written as S-records.
+fn save(mem: &Memory) {
+    let mut out = [0u8; 161];
+    let written = host_calls::doorhawser_save(mem, 0x1000, &mut out);
+    played::number(written.answer);
+    played::number(written.count as u64);
+}
+
+fn main() {
+    let mut mem = [0u8; 0x10000];
+    let mut journal = [0u8; 340];
+    played::number(host_calls::doorhawser_abi());
+    load(&mut mem);
+    let ended = forward(&mut mem, &mut journal);
+    newest(&journal, ended);
+    let none = back(&mut mem, &journal, ended);
+    newest(&journal, none);
+    save(&mem);
+    unrecorded(&mut mem, none);
+    unnamed(&mut mem, &mut journal, none);
+}

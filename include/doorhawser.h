@@ -1,0 +1,277 @@
+/* Doorhawser: the proved MC6809 twin, for hosts in C and C++ on x86-64 Linux.
+ *
+ * Link target/staticlib/libdoorhawser.a, which `tools/host build` makes. It needs no library: it calls memset, which every C compiler
+ * expects where there is no C library too, and nothing else. It takes no heap, starts no thread, keeps nothing between calls and prints
+ * nothing. A call is a function of what it is given, so twins are independent, and calls may run on as many threads as wanted as long as
+ * no two of them are lent one buffer at a time.
+ *
+ * The host owns all: the twin (48 bytes, handed over by value and handed back), a memory of 65,536 bytes and, for recorded calls, a
+ * journal of any length: 68 bytes for each call that can be taken back.
+ *
+ * What is promised, and proved: every call takes every input, and ends. What it returns and what it leaves in the lent buffers is what its
+ * definition says (crates/host/specs). A refused call returns its number, the twin as it was given and a list of no device writes, and
+ * changes no byte of memory, journal or output. After recorded calls in any order, each accepted undo brings back the registers, the
+ * wait, both counters and all memory outside FF00-FFDF as they stood before the newest accepted call that is not yet undone.
+ *
+ * What the prover does not see, and the host owes:
+ *   - Pointers and lengths. A pointer with its length names bytes that are there, to be read, and written unless it is const. With length
+ *     0 the pointer may be null.
+ *   - Overlap. Two buffers that are lent to one call have no byte in common: memory and journal, memory and text, memory and output. Where
+ *     they have, nothing is reported: the calls are answered 0, and undo silently fails to restore. DOORHAWSER_DEBUG, below, looks.
+ *   - Other writers. Nobody else writes a lent buffer during a call. The journal's bytes are the calls' own: between calls the host may
+ *     copy and move them, and changes none. A host that changes memory between calls gets back by undo what the calls changed, and no more.
+ *   - These declarations. No proof ties them to crates/host: the assertions below hold sizes and offsets, tools/host tries every field,
+ *     and doorhawser_abi() has to be DOORHAWSER_ABI.
+ *
+ * Define DOORHAWSER_DEBUG before this file is included, and each call that is lent two buffers first looks whether they overlap, or
+ * whether a null pointer has a length, and if so says which call it is and aborts. It needs the C library then.
+ */
+#ifndef DOORHAWSER_H
+#define DOORHAWSER_H
+
+#include <stddef.h>
+#include <stdint.h>
+#ifdef DOORHAWSER_DEBUG
+#include <stdio.h>
+#include <stdlib.h>
+#endif
+
+#ifdef __cplusplus
+extern "C" {
+#endif
+
+/* Raised by each change of a struct below, or of what a call takes. */
+enum { DOORHAWSER_ABI = 1 };
+enum { DOORHAWSER_MEMORY = 65536, DOORHAWSER_RECORD = 68, DOORHAWSER_DEVICES = 12 };
+
+enum { DOORHAWSER_BOUGHT = 0, DOORHAWSER_MANUAL = 1 };                     /* flags: as the bought emulator sets them, or by the manual */
+enum { DOORHAWSER_RUNNING = 0, DOORHAWSER_CWAI = 1, DOORHAWSER_SYNC = 2 }; /* wait */
+enum { DOORHAWSER_IRQ = 0, DOORHAWSER_FIRQ = 1, DOORHAWSER_NMI = 2 };      /* which */
+
+/* The answers, as README's table has them, named as the cases of Refusal in crates/answers; 13 to 16 are of calls that are not here. */
+enum {
+    DOORHAWSER_DONE = 0,
+    DOORHAWSER_MEMORY_LENGTH = 1,    /* memory is not 65,536 bytes */
+    DOORHAWSER_WAITING = 2,          /* step while in CWAI or SYNC */
+    DOORHAWSER_OPCODE = 3,           /* opcode not in the manual */
+    DOORHAWSER_PAST_END = 4,         /* a byte of the instruction, or the next address, lies past FFFF */
+    DOORHAWSER_POST_BYTE = 5,        /* post-byte refused */
+    DOORHAWSER_WORD_AT_TOP = 6,      /* word access at FFFF */
+    DOORHAWSER_TRANSFER_CODE = 7,    /* TFR or EXG code refused */
+    DOORHAWSER_STACK_TOO_SMALL = 8,  /* stack pointer smaller than the bytes to push */
+    DOORHAWSER_ZERO_AT_VECTOR = 9,   /* the vector leads to a zero byte */
+    DOORHAWSER_JOURNAL_FULL = 10,    /* fewer than 68 journal bytes after the used records */
+    DOORHAWSER_NO_RECORD = 11,       /* undo with no record */
+    DOORHAWSER_JOURNAL_LENGTH = 12,  /* used records longer than the journal, or a newest record that cannot be */
+    DOORHAWSER_OUTPUT_SHORT = 17,    /* save: the output is too short */
+    DOORHAWSER_LINE_SHAPE = 20,      /* load: a line of another shape, or a line after S9 */
+    DOORHAWSER_CHECKSUM = 21,        /* load: bad checksum */
+    DOORHAWSER_PAST_TOP = 22,        /* load: data past FFFF */
+    DOORHAWSER_NO_END = 23,          /* load: no S9 */
+    DOORHAWSER_UNNAMED = 64          /* wait, flags or which outside its range, or a spare field that is not 0; judged before all others */
+};
+
+typedef struct doorhawser_settings { /* 4 bytes */
+    uint16_t ram_top;                /* the last address that a program's writes reach */
+    uint8_t flags;
+    uint8_t spare; /* 0 */
+} doorhawser_settings;
+
+typedef struct doorhawser_twin { /* 48 bytes */
+    uint64_t cycles, instructions;
+    uint64_t records; /* records of the journal in use */
+    uint64_t bytes;   /* 0: room for the journal's bytes in use */
+    uint16_t x, y, u, s, pc;
+    uint8_t a, b, dp, cc;
+    uint8_t wait;
+    uint8_t armed; /* 0: room for the mark that lets NMI in */
+} doorhawser_twin;
+
+typedef struct doorhawser_write { /* 4 bytes */
+    uint16_t at;
+    uint8_t byte;
+    uint8_t system; /* 1 where the processor itself stacks, for an interrupt; 0 for a program's write */
+} doorhawser_write;
+
+typedef struct doorhawser_outcome {               /* 128 bytes */
+    doorhawser_twin twin;                         /* after the call; as given where it is refused */
+    doorhawser_write devices[DOORHAWSER_DEVICES]; /* writes to FF00-FF3F and FFC0-FFDF, in order: `count`, then zeros */
+    uint64_t count;
+    uint64_t reads, writes; /* 0: room for the bytes that a call reads and writes */
+    uint64_t answer;
+} doorhawser_outcome;
+
+typedef struct doorhawser_ran { /* 136 bytes */
+    doorhawser_outcome last;    /* of the last step made or refused */
+    uint64_t left;              /* the steps that were asked for and not accepted */
+} doorhawser_ran;
+
+typedef struct doorhawser_part { /* 16 bytes */
+    uint64_t at, count;
+} doorhawser_part;
+
+typedef struct doorhawser_loaded { /* 16 bytes */
+    uint64_t start, answer;
+} doorhawser_loaded;
+
+typedef struct doorhawser_written { /* 16 bytes */
+    uint64_t count, answer;
+} doorhawser_written;
+
+#ifdef __cplusplus
+#define DOORHAWSER_HOLDS(test) static_assert(test, #test)
+#else
+#define DOORHAWSER_HOLDS(test) _Static_assert(test, #test)
+#endif
+#define DOORHAWSER_SIZE(type, size) DOORHAWSER_HOLDS(sizeof(type) == (size))
+#define DOORHAWSER_AT(type, field, at) DOORHAWSER_HOLDS(offsetof(type, field) == (at))
+DOORHAWSER_HOLDS(sizeof(void *) == 8 && sizeof(size_t) == 8);
+DOORHAWSER_SIZE(doorhawser_settings, 4);
+DOORHAWSER_AT(doorhawser_settings, ram_top, 0);
+DOORHAWSER_AT(doorhawser_settings, flags, 2);
+DOORHAWSER_AT(doorhawser_settings, spare, 3);
+DOORHAWSER_SIZE(doorhawser_twin, 48);
+DOORHAWSER_AT(doorhawser_twin, cycles, 0);
+DOORHAWSER_AT(doorhawser_twin, instructions, 8);
+DOORHAWSER_AT(doorhawser_twin, records, 16);
+DOORHAWSER_AT(doorhawser_twin, bytes, 24);
+DOORHAWSER_AT(doorhawser_twin, x, 32);
+DOORHAWSER_AT(doorhawser_twin, y, 34);
+DOORHAWSER_AT(doorhawser_twin, u, 36);
+DOORHAWSER_AT(doorhawser_twin, s, 38);
+DOORHAWSER_AT(doorhawser_twin, pc, 40);
+DOORHAWSER_AT(doorhawser_twin, a, 42);
+DOORHAWSER_AT(doorhawser_twin, b, 43);
+DOORHAWSER_AT(doorhawser_twin, dp, 44);
+DOORHAWSER_AT(doorhawser_twin, cc, 45);
+DOORHAWSER_AT(doorhawser_twin, wait, 46);
+DOORHAWSER_AT(doorhawser_twin, armed, 47);
+DOORHAWSER_SIZE(doorhawser_write, 4);
+DOORHAWSER_AT(doorhawser_write, at, 0);
+DOORHAWSER_AT(doorhawser_write, byte, 2);
+DOORHAWSER_AT(doorhawser_write, system, 3);
+DOORHAWSER_SIZE(doorhawser_outcome, 128);
+DOORHAWSER_AT(doorhawser_outcome, twin, 0);
+DOORHAWSER_AT(doorhawser_outcome, devices, 48);
+DOORHAWSER_AT(doorhawser_outcome, count, 96);
+DOORHAWSER_AT(doorhawser_outcome, reads, 104);
+DOORHAWSER_AT(doorhawser_outcome, writes, 112);
+DOORHAWSER_AT(doorhawser_outcome, answer, 120);
+DOORHAWSER_SIZE(doorhawser_ran, 136);
+DOORHAWSER_AT(doorhawser_ran, last, 0);
+DOORHAWSER_AT(doorhawser_ran, left, 128);
+DOORHAWSER_SIZE(doorhawser_part, 16);
+DOORHAWSER_AT(doorhawser_part, at, 0);
+DOORHAWSER_AT(doorhawser_part, count, 8);
+DOORHAWSER_SIZE(doorhawser_loaded, 16);
+DOORHAWSER_AT(doorhawser_loaded, start, 0);
+DOORHAWSER_AT(doorhawser_loaded, answer, 8);
+DOORHAWSER_SIZE(doorhawser_written, 16);
+DOORHAWSER_AT(doorhawser_written, count, 0);
+DOORHAWSER_AT(doorhawser_written, answer, 8);
+
+/* The library's DOORHAWSER_ABI. */
+uint64_t doorhawser_abi(void);
+
+/* Running, CC 50, every other register and counter 0, no record. */
+doorhawser_twin doorhawser_start(void);
+
+/* Recorded: each accepted call but undo takes 68 bytes of the journal. undo is given what the newest of them handed back. */
+doorhawser_outcome doorhawser_step(uint8_t *memory, size_t memory_length, uint8_t *journal, size_t journal_length,
+                                   doorhawser_twin twin, doorhawser_settings settings);
+doorhawser_outcome doorhawser_interrupt(uint8_t *memory, size_t memory_length, uint8_t *journal, size_t journal_length,
+                                        doorhawser_twin twin, doorhawser_settings settings, uint8_t which);
+doorhawser_outcome doorhawser_reset(uint8_t *memory, size_t memory_length, uint8_t *journal, size_t journal_length,
+                                    doorhawser_twin twin, doorhawser_settings settings);
+doorhawser_outcome doorhawser_undo(uint8_t *memory, size_t memory_length, const uint8_t *journal, size_t journal_length,
+                                   doorhawser_twin twin);
+
+/* Not recorded: no journal, and the count of records stays. */
+doorhawser_outcome doorhawser_step_unrecorded(uint8_t *memory, size_t memory_length, doorhawser_twin twin, doorhawser_settings settings);
+doorhawser_outcome doorhawser_interrupt_unrecorded(uint8_t *memory, size_t memory_length, doorhawser_twin twin,
+                                                   doorhawser_settings settings, uint8_t which);
+doorhawser_outcome doorhawser_reset_unrecorded(uint8_t *memory, size_t memory_length, doorhawser_twin twin, doorhawser_settings settings);
+/* At most `count` steps, up to and with the first that is refused or writes to a device. `left` is count less the accepted steps. */
+doorhawser_ran doorhawser_run_unrecorded(uint8_t *memory, size_t memory_length, doorhawser_twin twin, doorhawser_settings settings,
+                                         uint64_t count);
+
+/* The newest record: `count` bytes of the journal from `at` on, 68, or 0 where there is none. */
+doorhawser_part doorhawser_newest(const uint8_t *journal, size_t journal_length, uint64_t records);
+
+/* S-records: read into memory, with the address of the S9 line as `start`; and memory written as S-records, `count` bytes of `out`. Rows of
+ * zeros are left out: it reads back into a memory of zeros. */
+doorhawser_loaded doorhawser_load(uint8_t *memory, size_t memory_length, const uint8_t *text, size_t text_length);
+doorhawser_written doorhawser_save(const uint8_t *memory, size_t memory_length, uint16_t start, uint8_t *out, size_t out_length);
+
+/* Where in memory the byte lies that the processor reads at an address: FFE0-FFFF is read 4000 lower. */
+static inline uint16_t doorhawser_place(uint16_t at) {
+    return at >= 0xFFE0 ? (uint16_t)(at - 0x4000) : at;
+}
+
+static inline uint8_t doorhawser_peek(const uint8_t *memory, uint16_t at) {
+    return memory[doorhawser_place(at)];
+}
+
+#ifdef DOORHAWSER_DEBUG
+/* Aborts where two lent buffers have a byte in common, or where one is null and has a length. */
+static inline void doorhawser_apart(const char *file, int line, const char *call, const void *one, size_t one_length, const void *other,
+                                    size_t other_length) {
+    uintptr_t a = (uintptr_t)one, b = (uintptr_t)other;
+    int null = (!one && one_length) || (!other && other_length);
+    int common = one_length && other_length && (a <= b ? b - a < one_length : a - b < other_length);
+    if (null || common) {
+        fprintf(stderr, "%s:%d: %s: %s\n", file, line, call, null ? "a null pointer with a length" : "two lent buffers overlap");
+        abort();
+    }
+}
+
+static inline doorhawser_outcome doorhawser_debug_step(const char *file, int line, uint8_t *memory, size_t memory_length, uint8_t *journal,
+                                                       size_t journal_length, doorhawser_twin twin, doorhawser_settings settings) {
+    doorhawser_apart(file, line, "doorhawser_step", memory, memory_length, journal, journal_length);
+    return doorhawser_step(memory, memory_length, journal, journal_length, twin, settings);
+}
+
+static inline doorhawser_outcome doorhawser_debug_interrupt(const char *file, int line, uint8_t *memory, size_t memory_length,
+                                                            uint8_t *journal, size_t journal_length, doorhawser_twin twin,
+                                                            doorhawser_settings settings, uint8_t which) {
+    doorhawser_apart(file, line, "doorhawser_interrupt", memory, memory_length, journal, journal_length);
+    return doorhawser_interrupt(memory, memory_length, journal, journal_length, twin, settings, which);
+}
+
+static inline doorhawser_outcome doorhawser_debug_reset(const char *file, int line, uint8_t *memory, size_t memory_length, uint8_t *journal,
+                                                        size_t journal_length, doorhawser_twin twin, doorhawser_settings settings) {
+    doorhawser_apart(file, line, "doorhawser_reset", memory, memory_length, journal, journal_length);
+    return doorhawser_reset(memory, memory_length, journal, journal_length, twin, settings);
+}
+
+static inline doorhawser_outcome doorhawser_debug_undo(const char *file, int line, uint8_t *memory, size_t memory_length,
+                                                       const uint8_t *journal, size_t journal_length, doorhawser_twin twin) {
+    doorhawser_apart(file, line, "doorhawser_undo", memory, memory_length, journal, journal_length);
+    return doorhawser_undo(memory, memory_length, journal, journal_length, twin);
+}
+
+static inline doorhawser_loaded doorhawser_debug_load(const char *file, int line, uint8_t *memory, size_t memory_length,
+                                                      const uint8_t *text, size_t text_length) {
+    doorhawser_apart(file, line, "doorhawser_load", memory, memory_length, text, text_length);
+    return doorhawser_load(memory, memory_length, text, text_length);
+}
+
+static inline doorhawser_written doorhawser_debug_save(const char *file, int line, const uint8_t *memory, size_t memory_length,
+                                                       uint16_t start, uint8_t *out, size_t out_length) {
+    doorhawser_apart(file, line, "doorhawser_save", memory, memory_length, out, out_length);
+    return doorhawser_save(memory, memory_length, start, out, out_length);
+}
+
+/* Variadic, so that a struct may be written out in a call: its commas are not the macro's. */
+#define doorhawser_step(...) doorhawser_debug_step(__FILE__, __LINE__, __VA_ARGS__)
+#define doorhawser_interrupt(...) doorhawser_debug_interrupt(__FILE__, __LINE__, __VA_ARGS__)
+#define doorhawser_reset(...) doorhawser_debug_reset(__FILE__, __LINE__, __VA_ARGS__)
+#define doorhawser_undo(...) doorhawser_debug_undo(__FILE__, __LINE__, __VA_ARGS__)
+#define doorhawser_load(...) doorhawser_debug_load(__FILE__, __LINE__, __VA_ARGS__)
+#define doorhawser_save(...) doorhawser_debug_save(__FILE__, __LINE__, __VA_ARGS__)
+#endif
+
+#ifdef __cplusplus
+}
+#endif
+#endif

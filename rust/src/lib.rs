@@ -1,0 +1,335 @@
+//! The proved MC6809 twin for Rust on x86-64 Linux.
+//!
+//! [`Twin`] owns its memory and its journal. So the buffers of a call cannot overlap, have the lengths that the call is told, and nobody
+//! else writes them while it runs: what the head of `include/doorhawser.h` asks of a host in C holds here by itself. Numbers that the
+//! library would refuse (wait, flags, interrupts) are enums.
+//!
+//! ```no_run
+//! use doorhawser::{Flags, Settings, Twin};
+//! let mut twin = Twin::new(Settings { ram_top: 0x7FFF, flags: Flags::Manual }, 960);
+//! twin.load(b"S105BFFE10002D\nS10510005F5A31\nS9031000EC\n").unwrap();
+//! twin.reset().unwrap();
+//! twin.step().unwrap();
+//! twin.undo().unwrap();
+//! ```
+#![deny(missing_docs)]
+
+use std::fmt;
+use std::ops::Deref;
+
+#[allow(missing_docs)]
+#[doc(hidden)]
+pub mod raw;
+
+/// Bytes of a twin's memory.
+pub const MEMORY: usize = raw::MEMORY;
+/// Bytes of a record, hence of the journal for each call that can be taken back.
+pub const RECORD: usize = raw::RECORD;
+
+/// Whose rules set the flags.
+#[derive(Clone, Copy, Debug, PartialEq, Eq, Hash)]
+pub enum Flags {
+    /// as the bought emulator sets them
+    Bought = 0,
+    /// by Motorola's manual
+    Manual = 1,
+}
+
+/// What a twin waits for.
+#[derive(Clone, Copy, Debug, PartialEq, Eq, Hash)]
+pub enum Wait {
+    /// it does not wait
+    Running = 0,
+    /// an interrupt that is not masked; the registers are stacked
+    Cwai = 1,
+    /// any interrupt
+    Sync = 2,
+}
+
+/// An interrupt.
+#[derive(Clone, Copy, Debug, PartialEq, Eq, Hash)]
+pub enum Interrupt {
+    /// masked by I
+    Irq = 0,
+    /// masked by F
+    Firq = 1,
+    /// never masked
+    Nmi = 2,
+}
+
+/// What a twin is run with.
+#[derive(Clone, Copy, Debug, PartialEq, Eq, Hash)]
+pub struct Settings {
+    /// the last address that a program's writes reach
+    pub ram_top: u16,
+    /// whose rules set the flags
+    pub flags: Flags,
+}
+
+impl Settings {
+    fn raw(self) -> raw::Settings {
+        raw::Settings { ram_top: self.ram_top, flags: self.flags as u8, spare: 0 }
+    }
+}
+
+/// The registers. D is A and B.
+#[derive(Clone, Copy, Debug, PartialEq, Eq, Hash)]
+#[allow(missing_docs)]
+pub struct Registers {
+    pub x: u16,
+    pub y: u16,
+    pub u: u16,
+    pub s: u16,
+    pub pc: u16,
+    pub a: u8,
+    pub b: u8,
+    pub dp: u8,
+    pub cc: u8,
+}
+
+/// The number of a refusal, as README's table has it. The twin, its memory and its journal are then as they were.
+#[derive(Clone, Copy, Debug, PartialEq, Eq, Hash)]
+pub struct Refused(pub u64);
+
+impl fmt::Display for Refused {
+    fn fmt(&self, f: &mut fmt::Formatter) -> fmt::Result {
+        write!(f, "refused with {}", self.0)
+    }
+}
+
+impl std::error::Error for Refused {}
+
+/// A byte that a call wrote to a device, at FF00-FF3F or FFC0-FFDF. It is not stored in memory.
+#[derive(Clone, Copy, Debug, PartialEq, Eq, Hash)]
+pub struct DeviceWrite {
+    /// the address
+    pub at: u16,
+    /// the byte
+    pub byte: u8,
+    /// whether the processor itself stacked it, for an interrupt
+    pub system: bool,
+}
+
+/// The device writes of a call, in their order: a slice of at most twelve.
+#[derive(Clone, Copy, Debug, PartialEq, Eq)]
+pub struct DeviceWrites {
+    list: [DeviceWrite; raw::DEVICES],
+    count: usize,
+}
+
+impl DeviceWrites {
+    fn of(o: &raw::Outcome) -> DeviceWrites {
+        let list = o.devices.map(|w| DeviceWrite { at: w.at, byte: w.byte, system: w.system != 0 });
+        DeviceWrites { list, count: o.count as usize }
+    }
+}
+
+impl Deref for DeviceWrites {
+    type Target = [DeviceWrite];
+    fn deref(&self) -> &[DeviceWrite] {
+        &self.list[..self.count]
+    }
+}
+
+/// How a run of steps ended.
+#[derive(Clone, Copy, Debug, PartialEq, Eq)]
+pub struct Ran {
+    /// the steps that were accepted
+    pub steps: u64,
+    /// the device writes of the last one, where it was accepted
+    pub devices: DeviceWrites,
+    /// why the step after them was refused, where one was
+    pub refused: Option<Refused>,
+}
+
+/// A twin with its memory and its journal.
+#[derive(Clone)]
+pub struct Twin {
+    memory: Box<[u8; MEMORY]>,
+    journal: Vec<u8>,
+    state: raw::Twin,
+    /// What the calls are made with. It may be changed between them.
+    pub settings: Settings,
+}
+
+impl Twin {
+    /// A twin with memory all zero, registers and counters as at power on (CC 50, the others 0), and a journal for so many calls.
+    pub fn new(settings: Settings, records: usize) -> Twin {
+        // Safety: these two calls take nothing.
+        let (abi, state) = unsafe { (raw::doorhawser_abi(), raw::doorhawser_start()) };
+        assert_eq!(abi, raw::ABI, "the library is not the one that these declarations are of");
+        let memory = vec![0; MEMORY].into_boxed_slice().try_into().expect("as many bytes");
+        Twin { memory, journal: vec![0; records.checked_mul(RECORD).expect("a journal that can be")], state, settings }
+    }
+
+    /// The registers.
+    pub fn registers(&self) -> Registers {
+        let t = &self.state;
+        Registers { x: t.x, y: t.y, u: t.u, s: t.s, pc: t.pc, a: t.a, b: t.b, dp: t.dp, cc: t.cc }
+    }
+
+    /// Sets the registers. This is no call: undo brings back what the calls changed.
+    pub fn set_registers(&mut self, r: Registers) {
+        let Registers { x, y, u, s, pc, a, b, dp, cc } = r;
+        self.state = raw::Twin { x, y, u, s, pc, a, b, dp, cc, ..self.state };
+    }
+
+    /// What it waits for.
+    pub fn wait(&self) -> Wait {
+        match self.state.wait {
+            0 => Wait::Running,
+            1 => Wait::Cwai,
+            2 => Wait::Sync,
+            n => unreachable!("the library handed back wait {}", n),
+        }
+    }
+
+    /// Cycles of all instructions so far.
+    pub fn cycles(&self) -> u64 {
+        self.state.cycles
+    }
+
+    /// Instructions so far.
+    pub fn instructions(&self) -> u64 {
+        self.state.instructions
+    }
+
+    /// Calls that can be taken back.
+    pub fn records(&self) -> u64 {
+        self.state.records
+    }
+
+    /// Memory as it lies, FFE0-FFFF of the processor's addresses at BFE0-BFFF.
+    pub fn memory(&self) -> &[u8; MEMORY] {
+        &self.memory
+    }
+
+    /// Memory, to be changed. This is no call: undo brings back what the calls changed.
+    pub fn memory_mut(&mut self) -> &mut [u8; MEMORY] {
+        &mut self.memory
+    }
+
+    /// The byte that the processor reads at an address.
+    pub fn peek(&self, at: u16) -> u8 {
+        self.memory[if at >= 0xFFE0 { at - 0x4000 } else { at } as usize]
+    }
+
+    /// The word that the processor reads at an address, high byte first; after FFFF comes 0000.
+    pub fn peek_word(&self, at: u16) -> u16 {
+        u16::from_be_bytes([self.peek(at), self.peek(at.wrapping_add(1))])
+    }
+
+    fn ended(&mut self, o: raw::Outcome) -> Result<DeviceWrites, Refused> {
+        self.state = o.twin;
+        if o.answer == 0 {
+            Ok(DeviceWrites::of(&o))
+        } else {
+            Err(Refused(o.answer))
+        }
+    }
+
+    fn recorded(&mut self, call: raw::Recorded) -> Result<DeviceWrites, Refused> {
+        // Safety: both pointers have the lengths of buffers that this twin owns apart, and it is borrowed for the call alone.
+        let o = unsafe {
+            call(self.memory.as_mut_ptr(), MEMORY, self.journal.as_mut_ptr(), self.journal.len(), self.state, self.settings.raw())
+        };
+        self.ended(o)
+    }
+
+    fn unrecorded(&mut self, call: raw::Unrecorded) -> Result<DeviceWrites, Refused> {
+        // Safety: memory is the twin's own, with its length, and borrowed for the call alone.
+        let o = unsafe { call(self.memory.as_mut_ptr(), MEMORY, self.state, self.settings.raw()) };
+        self.ended(o)
+    }
+
+    /// One instruction, recorded.
+    pub fn step(&mut self) -> Result<DeviceWrites, Refused> {
+        self.recorded(raw::doorhawser_step)
+    }
+
+    /// A reset, recorded.
+    pub fn reset(&mut self) -> Result<DeviceWrites, Refused> {
+        self.recorded(raw::doorhawser_reset)
+    }
+
+    /// An interrupt, recorded. One that is masked is accepted and does nothing but end SYNC.
+    pub fn interrupt(&mut self, which: Interrupt) -> Result<DeviceWrites, Refused> {
+        let (m, j, n) = (self.memory.as_mut_ptr(), self.journal.as_mut_ptr(), self.journal.len());
+        // Safety: as in `recorded`.
+        let o = unsafe { raw::doorhawser_interrupt(m, MEMORY, j, n, self.state, self.settings.raw(), which as u8) };
+        self.ended(o)
+    }
+
+    /// Takes the newest recorded call back: registers, wait, counters and memory outside FF00-FFDF are as they stood before it, where no
+    /// call that is not recorded came after it.
+    pub fn undo(&mut self) -> Result<(), Refused> {
+        // Safety: as in `recorded`.
+        let o = unsafe { raw::doorhawser_undo(self.memory.as_mut_ptr(), MEMORY, self.journal.as_ptr(), self.journal.len(), self.state) };
+        self.ended(o).map(|_| ())
+    }
+
+    /// One instruction, not recorded.
+    pub fn step_unrecorded(&mut self) -> Result<DeviceWrites, Refused> {
+        self.unrecorded(raw::doorhawser_step_unrecorded)
+    }
+
+    /// A reset, not recorded.
+    pub fn reset_unrecorded(&mut self) -> Result<DeviceWrites, Refused> {
+        self.unrecorded(raw::doorhawser_reset_unrecorded)
+    }
+
+    /// An interrupt, not recorded.
+    pub fn interrupt_unrecorded(&mut self, which: Interrupt) -> Result<DeviceWrites, Refused> {
+        // Safety: as in `unrecorded`.
+        let o =
+            unsafe { raw::doorhawser_interrupt_unrecorded(self.memory.as_mut_ptr(), MEMORY, self.state, self.settings.raw(), which as u8) };
+        self.ended(o)
+    }
+
+    /// At most so many instructions, not recorded, up to and with the first that is refused or writes to a device.
+    pub fn run(&mut self, count: u64) -> Ran {
+        // Safety: as in `unrecorded`.
+        let r = unsafe { raw::doorhawser_run_unrecorded(self.memory.as_mut_ptr(), MEMORY, self.state, self.settings.raw(), count) };
+        let steps = r.last.twin.instructions.wrapping_sub(self.state.instructions);
+        let devices = DeviceWrites::of(&r.last);
+        Ran { steps, devices, refused: self.ended(r.last).err() }
+    }
+
+    /// The newest record's 68 bytes.
+    pub fn newest(&self) -> Option<&[u8]> {
+        // Safety: the journal is the twin's own, with its length; it is only read.
+        let p = unsafe { raw::doorhawser_newest(self.journal.as_ptr(), self.journal.len(), self.state.records) };
+        if p.count == 0 {
+            None
+        } else {
+            Some(&self.journal[p.at as usize..][..p.count as usize])
+        }
+    }
+
+    /// Reads S-records into memory, and gives the address of their S9 line.
+    pub fn load(&mut self, text: &[u8]) -> Result<u16, Refused> {
+        // Safety: the text is borrowed, so it is no part of the memory, which is borrowed to be written.
+        let l = unsafe { raw::doorhawser_load(self.memory.as_mut_ptr(), MEMORY, text.as_ptr(), text.len()) };
+        if l.answer == 0 {
+            Ok(l.start as u16)
+        } else {
+            Err(Refused(l.answer))
+        }
+    }
+
+    /// Memory as S-records, with a start address in the S9 line. Rows of zeros are left out: it reads back into a memory of zeros.
+    pub fn save(&self, start: u16) -> Vec<u8> {
+        let mut out = vec![0; 4 * MEMORY]; // more than the text of any memory
+                                           // Safety: the output is a buffer of its own, with its length.
+        let w = unsafe { raw::doorhawser_save(self.memory.as_ptr(), MEMORY, start, out.as_mut_ptr(), out.len()) };
+        assert_eq!(w.answer, 0, "memory and output have their lengths");
+        out.truncate(w.count as usize);
+        out
+    }
+}
+
+impl fmt::Debug for Twin {
+    fn fmt(&self, f: &mut fmt::Formatter) -> fmt::Result {
+        f.debug_struct("Twin").field("state", &self.state).field("settings", &self.settings).finish_non_exhaustive()
+    }
+}

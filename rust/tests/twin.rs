@@ -1,0 +1,145 @@
+//! Expected values: document 01's worked input and checked examples, examples/README.md, and the S-records by hand.
+use doorhawser::{raw, DeviceWrite, Flags, Interrupt, Refused, Registers, Settings, Twin, Wait};
+
+fn twin(flags: Flags, records: usize) -> Twin {
+    Twin::new(Settings { ram_top: 0x7FFF, flags }, records)
+}
+
+fn put(t: &mut Twin, at: usize, bytes: &[u8]) {
+    t.memory_mut()[at..at + bytes.len()].copy_from_slice(bytes);
+}
+
+fn line(t: &Twin) -> (u16, u8, u64) {
+    (t.registers().pc, t.registers().cc, t.cycles())
+}
+
+#[test]
+fn the_worked_input_and_back() {
+    let mut t = twin(Flags::Bought, 960);
+    put(&mut t, 0x1000, &[0x5F, 0x5A]);
+    put(&mut t, 0xBFFE, &[0x10, 0x00]);
+    let image = *t.memory();
+    assert!(t.reset().unwrap().is_empty());
+    assert_eq!(line(&t), (0x1000, 0x50, 0));
+    t.step().unwrap();
+    assert_eq!(line(&t), (0x1001, 0x54, 2));
+    t.step().unwrap();
+    assert_eq!(line(&t), (0x1002, 0x5A, 4));
+    assert_eq!((t.records(), t.instructions()), (3, 2));
+    assert_eq!(t.newest().unwrap().len(), 68);
+    t.undo().unwrap();
+    assert_eq!(line(&t), (0x1001, 0x54, 2));
+    t.undo().unwrap();
+    t.undo().unwrap();
+    assert_eq!((line(&t), t.records()), ((0, 0x50, 0), 0));
+    assert_eq!(t.undo(), Err(Refused(11)));
+    assert_eq!(t.newest(), None);
+    assert!(*t.memory() == image);
+}
+
+// IRQ with S = 000C and 000B
+#[test]
+fn an_interrupt_stacks_twelve_bytes_or_is_refused() {
+    let mut t = twin(Flags::Manual, 8);
+    put(&mut t, 0x1006, &[0x12]);
+    put(&mut t, 0xBFF8, &[0x10, 0x06]);
+    let mut r = Registers { s: 0x000B, pc: 0x1234, cc: 0x40, ..t.registers() };
+    t.set_registers(r);
+    assert_eq!(t.interrupt(Interrupt::Irq), Err(Refused(8)));
+    assert_eq!((t.registers(), t.records()), (r, 0));
+    r.s = 0x000C;
+    t.set_registers(r);
+    t.interrupt(Interrupt::Irq).unwrap();
+    assert_eq!((t.registers().pc, t.registers().s, t.registers().cc), (0x1006, 0, 0xD0));
+    assert_eq!((t.peek(0), t.peek_word(0x000A)), (0xC0, 0x1234));
+    t.undo().unwrap();
+    assert_eq!(t.registers(), r);
+    t.set_registers(Registers { s: 0x0100, ..r }); // the frame is not where the vector, 0000, leads
+    assert_eq!(t.interrupt(Interrupt::Nmi), Err(Refused(9)));
+}
+
+#[test]
+fn device_writes_are_handed_over() {
+    let mut t = twin(Flags::Manual, 0);
+    put(&mut t, 0, &[0x86, 0x5A, 0xB7, 0xFF, 0x02, 0x12, 0x13]); // LDA #5A, STA FF02, NOP, SYNC
+    assert_eq!(t.step(), Err(Refused(10)));
+    let ran = t.run(100);
+    assert_eq!((ran.steps, &ran.devices[..], ran.refused), (2, &[DeviceWrite { at: 0xFF02, byte: 0x5A, system: false }][..], None));
+    assert_eq!(t.memory()[0xFF02], 0);
+    let ran = t.run(100);
+    assert_eq!((ran.steps, ran.devices.len(), ran.refused), (2, 0, Some(Refused(2))));
+    assert_eq!(t.wait(), Wait::Sync);
+    assert!(t.interrupt_unrecorded(Interrupt::Irq).unwrap().is_empty()); // masked: it ends SYNC alone
+    assert_eq!((t.wait(), t.registers().pc, t.records()), (Wait::Running, 7, 0));
+    assert_eq!(t.run(0).steps, 0);
+}
+
+// DEC 00: V as bought, not by the manual
+#[test]
+fn the_settings_part_at_dec_00() {
+    for (flags, cc) in [(Flags::Bought, 0x5A), (Flags::Manual, 0x58)] {
+        let mut t = twin(flags, 0);
+        put(&mut t, 0, &[0x4A]);
+        t.step_unrecorded().unwrap();
+        assert_eq!(t.registers().cc, cc);
+    }
+}
+
+#[test]
+fn records_are_read_and_written() {
+    let text = b"S10510005F5A31\nS105BFFE10002D\nS9031000EC\n";
+    let mut t = twin(Flags::Manual, 0);
+    assert_eq!(t.load(text), Ok(0x1000));
+    assert_eq!((t.peek_word(0x1000), t.peek_word(0xFFFE)), (0x5F5A, 0x1000));
+    t.reset_unrecorded().unwrap();
+    assert_eq!(t.registers().pc, 0x1000);
+    let mut again = twin(Flags::Manual, 0);
+    let image = *t.memory();
+    assert_eq!(again.load(&t.save(0x1234)), Ok(0x1234));
+    assert!(*again.memory() == image);
+    put(&mut again, 0x4000, &[0xFF]);
+    again.load(&t.save(0x1234)).unwrap();
+    assert_eq!(again.peek(0x4000), 0xFF); // rows of zeros are not written
+    assert_eq!(t.load(b"S10510005F5A30\n"), Err(Refused(21)));
+    assert_eq!(t.load(b""), Err(Refused(23)));
+    assert!(*t.memory() == image);
+}
+
+#[test]
+fn words_wrap_at_the_top() {
+    let mut t = twin(Flags::Manual, 0);
+    put(&mut t, 0xBFFF, &[0xAB]);
+    put(&mut t, 0, &[0xCD]);
+    assert_eq!(t.peek_word(0xFFFF), 0xABCD);
+}
+
+#[test]
+fn a_twin_is_sent_to_a_thread() {
+    let mut t = twin(Flags::Manual, 4);
+    put(&mut t, 0, &[0x12]);
+    let t = std::thread::spawn(move || t.step().map(|_| t)).join().unwrap().unwrap();
+    assert_eq!(t.registers().pc, 1);
+}
+
+// The layout of include/doorhawser.h: the offset of each field, and no gap.
+#[test]
+fn the_layout_is_the_headers() {
+    macro_rules! at {
+        ($value:expr, $($field:ident),+) => {{
+            let v = &$value;
+            vec![$((std::ptr::addr_of!(v.$field) as usize) - (v as *const _ as usize)),+]
+        }};
+    }
+    let t = unsafe { raw::doorhawser_start() };
+    let w = raw::Write { at: 0, byte: 0, system: 0 };
+    let o = raw::Outcome { twin: t, devices: [w; 12], count: 0, reads: 0, writes: 0, answer: 0 };
+    assert_eq!(at!(raw::Settings { ram_top: 0, flags: 0, spare: 0 }, ram_top, flags, spare), [0, 2, 3]);
+    let fields = at!(t, cycles, instructions, records, bytes, x, y, u, s, pc, a, b, dp, cc, wait, armed);
+    assert_eq!(fields, [0, 8, 16, 24, 32, 34, 36, 38, 40, 42, 43, 44, 45, 46, 47]);
+    assert_eq!(at!(w, at, byte, system), [0, 2, 3]);
+    assert_eq!(at!(o, twin, devices, count, reads, writes, answer), [0, 48, 96, 104, 112, 120]);
+    assert_eq!(at!(raw::Ran { last: o, left: 0 }, last, left), [0, 128]);
+    assert_eq!(at!(raw::Part { at: 0, count: 0 }, at, count), [0, 8]);
+    assert_eq!(at!(raw::Loaded { start: 0, answer: 0 }, start, answer), [0, 8]);
+    assert_eq!(at!(raw::Written { count: 0, answer: 0 }, count, answer), [0, 8]);
+}

@@ -1,0 +1,397 @@
+/* Calls the library with odd input, and holds every byte that comes back to what the header says. Prints a line for each kind of test; ends
+ * with status 1 at the first that fails. Expected values are document 01's and the manual's, worked out by hand. */
+#include "doorhawser.h"
+#include <stdio.h>
+#include <stdlib.h>
+#include <string.h>
+
+enum { JOURNAL = 960 * DOORHAWSER_RECORD };
+static uint8_t memory[DOORHAWSER_MEMORY], memory_was[DOORHAWSER_MEMORY], journal[JOURNAL], journal_was[JOURNAL];
+static const doorhawser_settings manual = {0xFFFF, DOORHAWSER_MANUAL, 0};
+static unsigned long tried;
+
+#define HOLD(test) \
+    do { \
+        tried++; \
+        if (!(test)) { \
+            printf("odd.c:%d: %s does not hold\n", __LINE__, #test); \
+            exit(1); \
+        } \
+    } while (0)
+
+static void done(const char *what) {
+    printf("%s: %lu\n", what, tried);
+    tried = 0;
+}
+
+/* ---- random numbers */
+
+static uint64_t seed = 6809;
+static uint64_t any(void) {
+    seed ^= seed << 13;
+    seed ^= seed >> 7;
+    return seed ^= seed << 17;
+}
+
+static void fill(uint8_t *bytes, size_t length) {
+    for (size_t i = 0; i < length; i++) bytes[i] = (uint8_t)(any() >> 24);
+}
+
+static doorhawser_twin any_twin(void) {
+    doorhawser_twin t;
+    fill((uint8_t *)&t, sizeof t);
+    t.wait = (uint8_t)(t.wait % 3);
+    t.armed = 0;
+    t.bytes = 0;
+    t.records = any() % 960;
+    return t;
+}
+
+static void keep(void) {
+    memcpy(memory_was, memory, sizeof memory);
+    memcpy(journal_was, journal, sizeof journal);
+}
+
+static int kept(void) {
+    return !memcmp(memory, memory_was, sizeof memory) && !memcmp(journal, journal_was, sizeof journal);
+}
+
+/* An outcome that refuses: the number, the twin as given, and zeros. */
+static int refuses(const doorhawser_outcome *o, uint64_t answer, const doorhawser_twin *t) {
+    doorhawser_outcome expected;
+    memset(&expected, 0, sizeof expected);
+    expected.twin = *t;
+    expected.answer = answer;
+    return !memcmp(o, &expected, sizeof expected);
+}
+
+/* ---- every call by a number, with the buffers' lengths chosen */
+
+enum { STEP, INTERRUPT, RESET, UNDO, STEP_UNRECORDED, INTERRUPT_UNRECORDED, RESET_UNRECORDED, RUN_UNRECORDED, CALLS };
+
+static doorhawser_outcome call(int which, uint8_t *m, size_t ml, uint8_t *j, size_t jl, doorhawser_twin t, doorhawser_settings s, uint8_t i) {
+    switch (which) {
+    case STEP: return doorhawser_step(m, ml, j, jl, t, s);
+    case INTERRUPT: return doorhawser_interrupt(m, ml, j, jl, t, s, i);
+    case RESET: return doorhawser_reset(m, ml, j, jl, t, s);
+    case UNDO: return doorhawser_undo(m, ml, j, jl, t);
+    case STEP_UNRECORDED: return doorhawser_step_unrecorded(m, ml, t, s);
+    case INTERRUPT_UNRECORDED: return doorhawser_interrupt_unrecorded(m, ml, t, s, i);
+    case RESET_UNRECORDED: return doorhawser_reset_unrecorded(m, ml, t, s);
+    default: {
+        doorhawser_ran r = doorhawser_run_unrecorded(m, ml, t, s, 7);
+        if (r.last.answer) HOLD(r.left == 7);
+        return r.last;
+    }
+    }
+}
+
+/* 64, whatever else is wrong, and nothing changes. */
+static void unnamed(int which, doorhawser_twin t, doorhawser_settings s, uint8_t i) {
+    doorhawser_outcome o = call(which, memory, sizeof memory, journal, sizeof journal, t, s, i);
+    HOLD(refuses(&o, DOORHAWSER_UNNAMED, &t));
+    HOLD(kept());
+    o = call(which, memory, 100, journal, 67, t, s, i);
+    HOLD(refuses(&o, DOORHAWSER_UNNAMED, &t));
+    t.records = UINT64_MAX;
+    o = call(which, NULL, 0, NULL, 0, t, s, i);
+    HOLD(refuses(&o, DOORHAWSER_UNNAMED, &t));
+}
+
+static void out_of_range(void) {
+    fill(memory, sizeof memory);
+    fill(journal, sizeof journal);
+    keep();
+    for (int which = 0; which < CALLS; which++) {
+        int interrupts = which == INTERRUPT || which == INTERRUPT_UNRECORDED, settings = which != UNDO;
+        for (unsigned n = 1; n < 256; n++) {
+            doorhawser_twin t = any_twin(), bad = t;
+            doorhawser_settings s = {(uint16_t)any(), (uint8_t)(any() & 1), 0}, off = s;
+            uint8_t i = (uint8_t)(any() % 3), byte = (uint8_t)n;
+            bad.wait = byte;
+            if (n > 2) unnamed(which, bad, s, i);
+            bad = t;
+            bad.armed = byte;
+            unnamed(which, bad, s, i);
+            bad = t;
+            bad.bytes = n < 64 ? (uint64_t)1 << n : any() | 1;
+            unnamed(which, bad, s, i);
+            off.flags = byte;
+            if (settings && n > 1) unnamed(which, t, off, i);
+            off = s;
+            off.spare = byte;
+            if (settings) unnamed(which, t, off, i);
+            if (interrupts && n > 2) unnamed(which, t, s, byte);
+        }
+    }
+    done("numbers out of range");
+}
+
+/* ---- null with length 0 */
+
+static void nulls(void) {
+    doorhawser_twin t = doorhawser_start();
+    memset(memory, 0x12, sizeof memory);
+    keep();
+    for (int which = 0; which < CALLS; which++) {
+        doorhawser_outcome o = call(which, NULL, 0, NULL, 0, t, manual, 0);
+        HOLD(refuses(&o, DOORHAWSER_MEMORY_LENGTH, &t));
+        o = call(which, memory, sizeof memory - 1, journal, sizeof journal, t, manual, 0);
+        HOLD(refuses(&o, DOORHAWSER_MEMORY_LENGTH, &t));
+        if (which > UNDO) continue;
+        o = call(which, memory, sizeof memory, NULL, 0, t, manual, 0);
+        HOLD(refuses(&o, which == UNDO ? DOORHAWSER_NO_RECORD : DOORHAWSER_JOURNAL_FULL, &t));
+        doorhawser_twin used = t;
+        used.records = 1;
+        o = call(which, memory, sizeof memory, NULL, 0, used, manual, 0);
+        HOLD(refuses(&o, DOORHAWSER_JOURNAL_LENGTH, &used));
+        used.records = UINT64_MAX / DOORHAWSER_RECORD + 1; /* times 68 it would wrap */
+        o = call(which, memory, sizeof memory, journal, sizeof journal, used, manual, 0);
+        HOLD(refuses(&o, DOORHAWSER_JOURNAL_LENGTH, &used));
+    }
+    HOLD(doorhawser_newest(NULL, 0, 0).count == 0);
+    HOLD(doorhawser_newest(NULL, 0, UINT64_MAX).count == 0);
+    HOLD(doorhawser_newest(journal, sizeof journal, UINT64_MAX).count == 0);
+    HOLD(doorhawser_newest(journal, sizeof journal, 961).count == 0);
+    doorhawser_part p = doorhawser_newest(journal, sizeof journal, 960);
+    HOLD(p.at == 959 * 68 && p.count == 68);
+    HOLD(doorhawser_load(NULL, 0, NULL, 0).answer == DOORHAWSER_MEMORY_LENGTH);
+    HOLD(doorhawser_load(memory, sizeof memory, NULL, 0).answer == DOORHAWSER_NO_END);
+    HOLD(doorhawser_save(NULL, 0, 0, NULL, 0).answer == DOORHAWSER_MEMORY_LENGTH);
+    HOLD(doorhawser_save(memory, sizeof memory, 0, NULL, 0).answer == DOORHAWSER_OUTPUT_SHORT);
+    HOLD(kept());
+    done("null with length 0");
+}
+
+/* ---- every byte of a twin, there and back */
+
+static void twins(void) {
+    doorhawser_twin t = doorhawser_start(), zero;
+    memset(&zero, 0, sizeof zero);
+    zero.cc = 0x50;
+    HOLD(!memcmp(&t, &zero, sizeof t));
+    HOLD(doorhawser_abi() == DOORHAWSER_ABI);
+    /* refused: as given */
+    for (int n = 0; n < 20000; n++) {
+        t = any_twin();
+        doorhawser_outcome o = call(n % CALLS, NULL, 0, journal, sizeof journal, t, manual, 0);
+        HOLD(refuses(&o, DOORHAWSER_MEMORY_LENGTH, &t));
+    }
+    /* NOP: PC, the counters and the records alone */
+    memset(memory, 0x12, sizeof memory);
+    for (int n = 0; n < 20000; n++) {
+        t = any_twin();
+        t.wait = DOORHAWSER_RUNNING;
+        t.pc = (uint16_t)(t.pc % 0xFF00);
+        doorhawser_outcome expected;
+        memset(&expected, 0, sizeof expected);
+        expected.twin = t;
+        expected.twin.pc++;
+        expected.twin.cycles += 2;
+        expected.twin.instructions++;
+        if (n % 2) expected.twin.records++;
+        doorhawser_outcome o = call(n % 2 ? STEP : STEP_UNRECORDED, memory, sizeof memory, journal, sizeof journal, t, manual, 0);
+        HOLD(!memcmp(&o, &expected, sizeof o));
+        if (!(n % 2)) continue;
+        o = call(UNDO, memory, sizeof memory, journal, sizeof journal, o.twin, manual, 0);
+        HOLD(!memcmp(&o.twin, &t, sizeof t) && !o.answer);
+    }
+    done("twins there and back");
+}
+
+/* An NMI stacks every register where the manual says: CC A B DP X Y U PC from the new S on. */
+static void frames(void) {
+    for (int n = 0; n < 20000; n++) {
+        doorhawser_twin t = any_twin();
+        t.wait = n % 2 ? DOORHAWSER_RUNNING : DOORHAWSER_SYNC;
+        t.s = (uint16_t)(0x100 + t.s % 0x8000);
+        memset(memory, 0, sizeof memory);
+        memory[0xBFFC] = 0x90; /* the vector, read at FFFC */
+        memory[0x9000] = 0x12;
+        doorhawser_outcome o = doorhawser_interrupt_unrecorded(memory, sizeof memory, t, manual, DOORHAWSER_NMI);
+        const uint8_t *at = memory + t.s - 12;
+        HOLD(!o.answer && o.twin.s == t.s - 12 && o.twin.pc == 0x9000 && o.twin.wait == DOORHAWSER_RUNNING && !o.count);
+        HOLD(at[0] == (t.cc | 0x80) && at[1] == t.a && at[2] == t.b && at[3] == t.dp);
+        HOLD(at[4] << 8 == (t.x & 0xFF00) && at[5] == (t.x & 0xFF) && at[6] << 8 == (t.y & 0xFF00) && at[7] == (t.y & 0xFF));
+        HOLD(at[8] << 8 == (t.u & 0xFF00) && at[9] == (t.u & 0xFF) && at[10] << 8 == (t.pc & 0xFF00) && at[11] == (t.pc & 0xFF));
+        HOLD(o.twin.cc == (t.cc | 0xD0) && o.twin.a == t.a && o.twin.b == t.b && o.twin.dp == t.dp);
+        HOLD(o.twin.x == t.x && o.twin.y == t.y && o.twin.u == t.u && o.twin.cycles == t.cycles && o.twin.instructions == t.instructions);
+    }
+    done("registers stacked");
+}
+
+/* Twelve bytes pushed at FF04-FF0F are device writes: the system's for an interrupt, the program's for PSHS. PC U Y X DP B A CC; words are
+ * high byte first. */
+static void devices(void) {
+    const uint8_t at[] = {0x0E, 0x0F, 0x0C, 0x0D, 0x0A, 0x0B, 0x08, 0x09, 0x07, 0x06, 0x05, 0x04};
+    for (int system = 0; system < 2; system++) {
+        doorhawser_twin t = {.x = 0x1122, .y = 0x3344, .u = 0x5566, .s = 0xFF10, .pc = 0x7788, .a = 0x99, .b = 0xAA, .dp = 0xBB, .cc = 0x4C};
+        memset(memory, 0, sizeof memory);
+        memory[0x7788] = 0x34; /* PSHS of all */
+        memory[0x7789] = 0xFF;
+        memory[0xBFFC] = 0x90;
+        memory[0x9000] = 0x12;
+        keep();
+        doorhawser_outcome o = system ? doorhawser_interrupt_unrecorded(memory, sizeof memory, t, manual, DOORHAWSER_NMI)
+                                      : doorhawser_step_unrecorded(memory, sizeof memory, t, manual);
+        const uint8_t pc = system ? 0x88 : 0x8A, cc = system ? 0xCC : 0x4C;
+        const uint8_t pushed[] = {0x77, pc, 0x55, 0x66, 0x33, 0x44, 0x11, 0x22, 0xBB, 0xAA, 0x99, cc};
+        HOLD(!o.answer && o.count == 12 && !o.reads && !o.writes && kept());
+        for (int i = 0; i < 12; i++)
+            HOLD(o.devices[i].at == 0xFF00 + at[i] && o.devices[i].byte == pushed[i] && o.devices[i].system == system);
+    }
+    done("device writes");
+}
+
+/* What the numbers name: each interrupt by its vector and its frame, the waits by CWAI and SYNC, the flags by DEC of 00. */
+static void names(void) {
+    static const struct {
+        uint8_t which, frame;
+        uint16_t vector, leads;
+    } interrupts[] = {{DOORHAWSER_IRQ, 12, 0xFFF8, 0x9100}, {DOORHAWSER_FIRQ, 3, 0xFFF6, 0x9200}, {DOORHAWSER_NMI, 12, 0xFFFC, 0x9300}};
+    doorhawser_twin t = doorhawser_start();
+    memset(memory, 0x12, sizeof memory);
+    t.s = 0x8000;
+    t.cc = 0;
+    for (int i = 0; i < 3; i++) {
+        memory[doorhawser_place(interrupts[i].vector)] = (uint8_t)(interrupts[i].leads >> 8);
+        memory[doorhawser_place((uint16_t)(interrupts[i].vector + 1))] = 0;
+    }
+    for (int i = 0; i < 3; i++) {
+        doorhawser_outcome o = doorhawser_interrupt_unrecorded(memory, sizeof memory, t, manual, interrupts[i].which);
+        HOLD(!o.answer && o.twin.pc == interrupts[i].leads && o.twin.s == t.s - interrupts[i].frame);
+    }
+    memcpy(memory, "\x13\x3C\xFF\x4A", 4); /* SYNC, CWAI #FF, DECA */
+    HOLD(doorhawser_step_unrecorded(memory, sizeof memory, t, manual).twin.wait == DOORHAWSER_SYNC);
+    t.pc = 1;
+    HOLD(doorhawser_step_unrecorded(memory, sizeof memory, t, manual).twin.wait == DOORHAWSER_CWAI);
+    t.pc = 3;
+    doorhawser_settings bought = {0xFFFF, DOORHAWSER_BOUGHT, 0};
+    HOLD(doorhawser_step_unrecorded(memory, sizeof memory, t, manual).twin.cc == 0x08);
+    HOLD(doorhawser_step_unrecorded(memory, sizeof memory, t, bought).twin.cc == 0x0A);
+    done("what numbers name");
+}
+
+/* ---- a run is its steps, up to the first that is refused or writes to a device */
+
+static doorhawser_ran by_steps(uint8_t *m, doorhawser_twin t, doorhawser_settings s, uint64_t count) {
+    doorhawser_ran r;
+    memset(&r, 0, sizeof r);
+    r.last.twin = t;
+    for (r.left = count; r.left && !r.last.answer && !r.last.count;) {
+        r.last = doorhawser_step_unrecorded(m, DOORHAWSER_MEMORY, r.last.twin, s);
+        if (!r.last.answer) r.left--;
+    }
+    return r;
+}
+
+static void runs(void) {
+    static uint8_t other[DOORHAWSER_MEMORY];
+    unsigned long refused = 0, reported = 0, whole = 0;
+    for (int n = 0; n < 4000; n++) {
+        fill(memory, sizeof memory);
+        if (n % 2) memset(memory, 0x12, 0xC000); /* NOP, for longer runs, and in half of them a STA FF02 here and there */
+        for (int i = 0; n % 4 == 3 && i < 1000; i++) memcpy(memory + any() % 0xBF00, "\xB7\xFF\x02", 3);
+        memcpy(other, memory, sizeof other);
+        doorhawser_twin t = any_twin();
+        doorhawser_settings s = {(uint16_t)any(), (uint8_t)(any() & 1), 0};
+        if (n % 8) t.wait = DOORHAWSER_RUNNING;
+        uint64_t count = any() % 40;
+        doorhawser_ran r = doorhawser_run_unrecorded(memory, sizeof memory, t, s, count), e = by_steps(other, t, s, count);
+        HOLD(!memcmp(&r, &e, sizeof r) && !memcmp(memory, other, sizeof other));
+        refused += r.last.answer != 0;
+        reported += r.last.count != 0;
+        whole += r.left == 0 && count;
+    }
+    HOLD(refused > 500 && reported > 200 && whole > 500);
+    done("runs of steps");
+}
+
+/* ---- recorded calls taken back */
+
+static void journals(void) {
+    for (int n = 0; n < 40; n++) {
+        static doorhawser_twin before[960];
+        static uint8_t image[DOORHAWSER_MEMORY];
+        fill(memory, sizeof memory);
+        memcpy(image, memory, sizeof image);
+        doorhawser_twin t = any_twin();
+        t.records = 0;
+        uint64_t taken = 0;
+        for (int i = 0; i < 2000; i++) {
+            doorhawser_settings s = {(uint16_t)any(), (uint8_t)(any() & 1), 0};
+            int which = any() % 4 ? STEP : any() % 4 ? INTERRUPT : RESET;
+            if (taken < 960) before[taken] = t;
+            keep();
+            doorhawser_outcome o = call(which, memory, sizeof memory, journal, sizeof journal, t, s, (uint8_t)(any() % 3));
+            if (o.answer) {
+                HOLD(refuses(&o, o.answer, &t) && kept());
+                if (t.records == 960) HOLD(o.answer == DOORHAWSER_JOURNAL_FULL);
+                t.pc = (uint16_t)any(); /* elsewhere */
+                continue;
+            }
+            taken++;
+            t = o.twin;
+            HOLD(t.records == taken);
+        }
+        HOLD(taken == 960);
+        for (; taken; taken--) {
+            doorhawser_outcome o = doorhawser_undo(memory, sizeof memory, journal, sizeof journal, t);
+            HOLD(!o.answer && !o.count && !memcmp(&o.twin, &before[taken - 1], sizeof t));
+            t = o.twin;
+        }
+        HOLD(!memcmp(memory, image, sizeof image));
+        doorhawser_outcome o = doorhawser_undo(memory, sizeof memory, journal, sizeof journal, t);
+        HOLD(refuses(&o, DOORHAWSER_NO_RECORD, &t));
+    }
+    done("calls taken back");
+}
+
+/* ---- S-records */
+
+static void records(void) {
+    static uint8_t out[4 * DOORHAWSER_MEMORY], out_was[sizeof out], other[DOORHAWSER_MEMORY];
+    fill(memory, sizeof memory);
+    fill(out, sizeof out);
+    memcpy(out_was, out, sizeof out);
+    doorhawser_written w = doorhawser_save(memory, sizeof memory, 0xBEEF, out, sizeof out);
+    HOLD(!w.answer && w.count < sizeof out && !memcmp(out + w.count, out_was + w.count, sizeof out - w.count));
+    doorhawser_loaded l = doorhawser_load(other, sizeof other, out, w.count);
+    HOLD(!l.answer && l.start == 0xBEEF && !memcmp(memory, other, sizeof other));
+    memcpy(out, out_was, sizeof out);
+    doorhawser_written s = doorhawser_save(memory, sizeof memory, 0xBEEF, out, w.count - 1);
+    HOLD(s.answer == DOORHAWSER_OUTPUT_SHORT && s.count == 0 && !memcmp(out, out_was, sizeof out));
+    s = doorhawser_save(memory, sizeof memory, 0xBEEF, out, w.count);
+    HOLD(!s.answer && s.count == w.count);
+    static const struct {
+        const char *text;
+        uint64_t answer;
+    } bad[] = {
+        {"S10510005F5A31\nS9030000FC\nS9030000FC\n", DOORHAWSER_LINE_SHAPE},
+        {"S10510005F5A31\r\nS9030000FC\n", DOORHAWSER_LINE_SHAPE},
+        {"S10510005F5A30\nS9030000FC\n", DOORHAWSER_CHECKSUM},
+        {"S105FFFF5F5A43\nS9030000FC\n", DOORHAWSER_PAST_TOP},
+        {"S10510005F5A31\n", DOORHAWSER_NO_END},
+    };
+    keep();
+    for (size_t i = 0; i < sizeof bad / sizeof *bad; i++) {
+        l = doorhawser_load(memory, sizeof memory, (const uint8_t *)bad[i].text, strlen(bad[i].text));
+        HOLD(l.answer == bad[i].answer && l.start == 0 && kept());
+    }
+    HOLD(doorhawser_place(0xFFDF) == 0xFFDF && doorhawser_place(0xFFE0) == 0xBFE0 && doorhawser_place(0xFFFF) == 0xBFFF);
+    HOLD(doorhawser_peek(memory, 0xFFFE) == memory[0xBFFE] && doorhawser_peek(memory, 0xBFFE) == memory[0xBFFE]);
+    done("S-records");
+}
+
+int main(void) {
+    nulls();
+    out_of_range();
+    twins();
+    frames();
+    devices();
+    names();
+    runs();
+    journals();
+    records();
+    return 0;
+}
