@@ -131,7 +131,7 @@ def settings(rng):
     rt = rng.choice(RAMTOPS) if rng.random() < 0.8 else rng.randrange(65536)
     x = rng.random()
     if x < 0.15:
-        return w2(2) + w2(rt), rt, False
+        return w2(2) + w2(rt), rt, True
     man = x < 0.6
     return w2(3) + w2(rt) + bytes([1 if man else 0]), rt, man
 

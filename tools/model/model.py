@@ -756,7 +756,7 @@ def parse(data):
     if c not in (2, 3) or n < 2 + c:
         return None
     ram_top = w(2)
-    manual = 0
+    manual = 1  # document 02 [6]: a file that names no flags means the manual
     if c == 3:
         manual = data[4]
         if manual > 1:
