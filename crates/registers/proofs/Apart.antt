@@ -30,13 +30,13 @@ module _ (p q r t : ℕ) where
       go false true e f h = inr (leb-true r t f)
       go false false e f h = absurd (true≢false (sym h))
 
-  neither-holds : q ≤ p → t < r → (ltb p q || leb r t) ≡ false
+  pub neither-holds : q ≤ p → t < r → (ltb p q || leb r t) ≡ false
   neither-holds h k = rw (le-ltb p q h, lt-leb r t k)
 
-  above : q ≤ p → r ≤ t → (ltb p q || leb r t) ≡ true
+  pub above : q ≤ p → r ≤ t → (ltb p q || leb r t) ≡ true
   above h k = rw (le-ltb p q h, le-leb r t k)
 
-  below : p < q → (ltb p q || leb r t) ≡ true
+  pub below : p < q → (ltb p q || leb r t) ≡ true
   below h = rw (lt-ltb p q h)
 
 -- the OR of two partial overflows x and y against the whole z

@@ -6,6 +6,7 @@ pub mod SettingsV
 pub mod Pages
 pub mod Shifts
 pub mod Apart
+pub mod Formulas
 pub mod Lines
 pub mod Parting
 pub mod Fits

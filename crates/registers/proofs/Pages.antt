@@ -116,13 +116,24 @@ module _ (cc : CCBits) (a b : ℕ) (la : a < 256) where
   inc-page Manual = refl
   inc-page Bought = rw (inc-carry a la, high-bit 7 ((a + 1) % 256) (omega arith))
 
--- ---- V of the setting's page
+-- ---- V and H of the setting's page
 
 module _ (cc : CCBits) (a b : ℕ) (la : a < 256) (lb : b < 256) where
   pub add-after : (s : Flags) (w : Bool) → addV s a b (carryIn w cc) ≡ after «V» s (adding w) cc a b
   add-after s w =
       let c = carryIn w cc in
       rw (← (add-page cc a b la lb s w)) (sym (reads «V» cc (sumLines a b c) ((C := leb 256 (a + b + c)) ∷ []) (addV s a b c) refl))
+
+  pub sum-value : (s : Flags) (w : Bool) → by s (adding w) cc a b .value ≡ (a + b + carryIn w cc) % 256
+  sum-value s w = sym (ap (λ (p : Page). p .value) (add-page cc a b la lb s w))
+
+  -- H is the same in both settings
+  pub half-after : (s : Flags) (w : Bool) → leb 16 (a % 16 + b % 16 + carryIn w cc) ≡ after H s (adding w) cc a b
+  half-after s w =
+      let c = carryIn w cc in
+      let r = (a + b + c) % 256 in
+      rw (← (add-page cc a b la lb s w))
+      (sym (reads H cc [] ((N := leb 0x80 r) ∷ (Z := eqb r 0) ∷ («V» := addV s a b c) ∷ (C := leb 256 (a + b + c)) ∷ []) (leb 16 (a % 16 + b % 16 + c)) refl))
 
   pub sub-after : (s : Flags) (w : Bool) → subV s a b (carryIn w cc) ≡ after «V» s (subtracting w) cc a b
   sub-after s w =

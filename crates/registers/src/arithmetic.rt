@@ -38,11 +38,11 @@ impl CCBits {
         let c = self.carry_in(with_carry);
         let sum = a as u16 + b as u16 + c as u16;
         let result = (sum % 0x100) as u8;
-        let half = (a % 16) as u16 + (b % 16) as u16 + c as u16;
         let cv = self.set(CCBit::C, 0x100 <= sum)
             .set(CCBit::V, overflow::add_v(flags, a, b, c));
         Out8 {
-            cc: cv.set_zn_8(result).set(CCBit::H, 16 <= half),
+            cc: cv.set_zn_8(result)
+                .set(CCBit::H, overflow::add_h(a, b, result)),
             value: result,
         }
     }
