@@ -68,6 +68,7 @@ enum {
     DOORHAWSER_CHECKSUM = 21,        /* load: bad checksum */
     DOORHAWSER_PAST_TOP = 22,        /* load: data past FFFF */
     DOORHAWSER_NO_END = 23,          /* load: no S9 */
+    DOORHAWSER_POST_BYTE_8F = 24,    /* a post-byte of low form 8F other than 9F */
     DOORHAWSER_UNNAMED = 64          /* wait, flags or which outside its range, or a spare field that is not 0; judged before all others */
 };
 

@@ -517,6 +517,9 @@ class Machine:
                 ind = pb & 0x10
                 if low in (7, 10, 14) or (ind and low in (0, 2)):
                     raise Refuse(5)
+                # document 02 [2]: of low form 8F only 9F is in the manual; in 5's place, before any offset byte
+                if low == 15 and pb != 0x9F:
+                    raise Refuse(24)
                 v = r[ir]
                 if low == 0:
                     ea = v
