@@ -14,7 +14,7 @@ use Rattle.host_calls.specs.declared.HostPart.{HostPart}
 use Rattle.host_calls.specs.declared.HostLoaded.{HostLoaded}
 use Rattle.host_calls.specs.declared.HostWritten.{HostWritten}
 
--- raised with each change of a struct
+-- raised with each change of a struct, or of what a call takes
 abbrev pub abiNumber : ℕ
 abiNumber = 1
 
