@@ -1,17 +1,18 @@
 /* Doorhawser: the proved MC6809 twin, for hosts in C and C++ on x86-64 Linux.
  *
- * Link target/staticlib/libdoorhawser.a, which `tools/host build` makes. It needs no library: it calls memset, which every C compiler
- * expects where there is no C library too, and nothing else. It takes no heap, starts no thread, keeps nothing between calls and prints
- * nothing. A call is a function of what it is given, so twins are independent, and calls may run on as many threads as wanted as long as
- * no two of them are lent one buffer at a time.
+ * Link target/staticlib/libdoorhawser.a, which `tools/host build` makes. It calls one function that it does not bring along, memset, which
+ * compilers expect also where there is no C library; it needs no library besides. It takes no heap, starts no thread, keeps nothing between
+ * calls and prints nothing. A call is a function of what it is given, so twins are independent, and calls may run on as many threads as
+ * wanted as long as no two of them are lent one buffer at a time.
  *
  * The host owns all: the twin (48 bytes, handed over by value and handed back), a memory of 65,536 bytes and, for recorded calls, a
  * journal of any length: 68 bytes for each call that can be taken back.
  *
  * What is promised, and proved: every call takes every input, and ends. What it returns and what it leaves in the lent buffers is what its
- * definition says (crates/host/specs). A refused call returns its number, the twin as it was given and a list of no device writes, and
- * changes no byte of memory, journal or output. After recorded calls in any order, each accepted undo brings back the registers, the
- * wait, both counters and all memory outside FF00-FFDF as they stood before the newest accepted call that is not yet undone.
+ * definition says (docs/PROMISES.md, "Hosts in C and Rust"). A refused call returns its number, the twin as it was given and a list of no
+ * device writes, and changes no byte of memory, journal or output; of a run that holds of the refused step, and those before it are made.
+ * After recorded calls in any order, each accepted undo brings back the registers, the wait, both counters and all memory outside FF00-FFDF
+ * as they stood before the newest accepted call that is not yet undone: proved of the calls on a twin that these are by their definitions.
  *
  * What the prover does not see, and the host owes:
  *   - Pointers and lengths. A pointer with its length names bytes that are there, to be read, and written unless it is const. With length
@@ -103,7 +104,7 @@ typedef struct doorhawser_outcome {               /* 128 bytes */
 } doorhawser_outcome;
 
 typedef struct doorhawser_ran { /* 136 bytes */
-    doorhawser_outcome last;    /* of the last step made or refused */
+    doorhawser_outcome last;    /* of the last step; where that is refused, the twin is as the steps before it left it */
     uint64_t left;              /* the steps that were asked for and not accepted */
 } doorhawser_ran;
 
@@ -187,12 +188,14 @@ doorhawser_outcome doorhawser_reset(uint8_t *memory, size_t memory_length, uint8
 doorhawser_outcome doorhawser_undo(uint8_t *memory, size_t memory_length, const uint8_t *journal, size_t journal_length,
                                    doorhawser_twin twin);
 
-/* Not recorded: no journal, and the count of records stays. */
+/* Not recorded: no journal, and the count of records stays. An undo after them brings back the registers, and the bytes that the recorded
+ * call wrote; what these wrote elsewhere stays. */
 doorhawser_outcome doorhawser_step_unrecorded(uint8_t *memory, size_t memory_length, doorhawser_twin twin, doorhawser_settings settings);
 doorhawser_outcome doorhawser_interrupt_unrecorded(uint8_t *memory, size_t memory_length, doorhawser_twin twin,
                                                    doorhawser_settings settings, uint8_t which);
 doorhawser_outcome doorhawser_reset_unrecorded(uint8_t *memory, size_t memory_length, doorhawser_twin twin, doorhawser_settings settings);
-/* At most `count` steps, up to and with the first that is refused or writes to a device. `left` is count less the accepted steps. */
+/* At most `count` steps, up to and with the first that is refused or writes to a device. `left` is count less the accepted steps. With a
+ * count of 0 the answer is 0, and the twin as given. */
 doorhawser_ran doorhawser_run_unrecorded(uint8_t *memory, size_t memory_length, doorhawser_twin twin, doorhawser_settings settings,
                                          uint64_t count);
 

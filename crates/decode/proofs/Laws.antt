@@ -1,4 +1,4 @@
--- The laws of decoding: 3, 4 or 5 alone, 3 exactly, and what fits.
+-- The laws of decoding: 3, 4, 5 or 24 alone, 3 exactly, and what fits.
 -- Assumes nothing.
 use Prim.Native.Nat.{ℕ, _+_, _≤_, _<_}
 use mathlib.Core.Path.{_≡_, refl}

@@ -1,7 +1,7 @@
 -- The numbers of a host in another language: what they name, and where they name nothing.
 -- Assumes nothing.
 use Prim.Native.Nat.{ℕ, zero, suc, _<_}
-use mathlib.Core.Bool.{Bool, true, _&&_}
+use mathlib.Core.Bool.{Bool, _&&_}
 use mathlib.Core.Path.{_≡_}
 use lib.Dec.{ltb, eqb}
 use Rattle.answers.specs.Numbers.{numberOfAnswer}

@@ -12,7 +12,6 @@ use Rattle.machine.specs.Record.{waitByte, waitOf}
 use Rattle.machine.specs.declared.Machine.{Machine}
 use Rattle.machine.specs.declared.Settings.{Settings}
 use Rattle.calls.specs.declared.Report.{Report}
-use Rattle.journal.specs.Recorded.{freshTwin}
 use Rattle.journal.specs.declared.Outcome.{Outcome}
 use Rattle.journal.specs.declared.Twin.{Twin}
 use Rattle.host.specs.Numbers.{flagsOf, flagsNumber, isTwin, isSettings, unnamedNumber}

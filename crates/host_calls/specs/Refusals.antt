@@ -1,4 +1,4 @@
--- A refused call of a host leaves its twin, memory and journal, every byte.
+-- A refused recorded call of a host, or undo, leaves its twin, memory and journal, every byte.
 -- Assumes nothing.
 use Prim.Native.Nat.{ℕ}
 use mathlib.Core.Bool.{Bool, true}

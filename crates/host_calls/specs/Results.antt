@@ -1,6 +1,6 @@
 -- What a host gets of the newest record and of S-records.
 -- Assumes nothing.
-use Prim.Native.Nat.{ℕ, zero, suc, _-_, _*_}
+use Prim.Native.Nat.{ℕ}
 use mathlib.Core.Bool.{cond}
 use mathlib.Core.List.{List}
 use mathlib.Core.Path.{_≡_}
@@ -14,7 +14,7 @@ use Rattle.host_calls.specs.declared.HostPart.{HostPart}
 use Rattle.host_calls.specs.declared.HostLoaded.{HostLoaded}
 use Rattle.host_calls.specs.declared.HostWritten.{HostWritten}
 
--- raised with each change of a struct
+-- raised with each change of a struct, or of what a call takes
 abbrev pub abiNumber : ℕ
 abiNumber = 1
 

@@ -17,7 +17,7 @@ use host::HostTwin;
 use journal::RECORD;
 use journal::Twin;
 
-// Raised with each change of a struct.
+// Raised with each change of a struct, or of what a call takes.
 const ABI: u64 = 1;
 
 // `count` bytes of the journal from `at` on; 0 bytes where there is no record.
