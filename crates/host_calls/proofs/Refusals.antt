@@ -20,7 +20,7 @@ use Rattle.host.specs.Ends.{handed, Ends}
 use Rattle.host.specs.declared.HostTwin.{HostTwin}
 use Rattle.host.specs.declared.HostOutcome.{HostOutcome}
 use Rattle.host.proofs.Back.{twins-back}
-use Rattle.host_calls.specs.Refusals.{Keeps, CallsKeep, Kept, RefusedKept}
+use Rattle.host_calls.specs.Refusals.{Keeps, CallsKeep, HostKept, RefusedKept}
 
 not-done : {A : Type 0} {x : Refusal} → Refused x ≡ Done → A
 not-done e = let z : _≡_ {A = ℕ} 0 1 = cc in absurd (omega arith)
@@ -49,7 +49,7 @@ calls-keep =
 
 module _ (call : State → Ended) (t : HostTwin) (memory journal : List ℕ) (r : HostOutcome) (us vs : List ℕ) where
   refused-so : (x : Refusal) → Keeps call → isTwin t ≡ true → Ends true call t memory journal r us vs → call (handed memory journal t) .answer ≡ Refused x
-      → Kept t memory journal r us vs
+      → HostKept t memory journal r us vs
   unfolding hostOutcome
   refused-so x keeps named e d =
       let k = keeps (handed memory journal t) x d in
@@ -64,11 +64,11 @@ module _ (call : State → Ended) (t : HostTwin) (memory journal : List ℕ) (r 
   zero-so e d = ap (λ (o : HostOutcome). o .answer) (e .result) ∙ ap numberOfAnswer d
 
   by-answer : (a : Answer) → Keeps call → isTwin t ≡ true → Ends true call t memory journal r us vs → (r .answer ≡ 0 → ⊥) → call (handed memory journal t) .answer ≡ a
-      → Kept t memory journal r us vs
+      → HostKept t memory journal r us vs
   by-answer Done keeps named e n d = absurd (n (zero-so e d))
   by-answer (Refused x) keeps named e n d = refused-so x keeps named e d
 
-  unnamed-so : Ends false call t memory journal r us vs → Kept t memory journal r us vs
+  unnamed-so : Ends false call t memory journal r us vs → HostKept t memory journal r us vs
   unfolding unnamed
   unnamed-so e = record { twin = ap (λ (o : HostOutcome). o .twin) (e .result); memory-is = e .memory-is; journal-is = e .journal-is }
 

@@ -26,7 +26,7 @@ pub record CallsKeep : Type 0 where
   pub undo : Keeps undone
 
 -- so do the host's, whose test of the numbers names the twin
-pub record Kept (t : HostTwin) (memory journal : List ℕ) (r : HostOutcome) (memory′ journal′ : List ℕ) : Type 0 where
+pub record HostKept (t : HostTwin) (memory journal : List ℕ) (r : HostOutcome) (memory′ journal′ : List ℕ) : Type 0 where
   pub twin : r .twin ≡ t
   pub memory-is : memory′ ≡ memory
   pub journal-is : journal′ ≡ journal
@@ -35,4 +35,4 @@ abbrev pub RefusedKept : Type 0
 RefusedKept =
     (named : Bool) (call : State → Ended) (t : HostTwin) (memory journal : List ℕ) (r : HostOutcome) (memory′ journal′ : List ℕ)
     → Keeps call → (named ≡ true → isTwin t ≡ true) → Ends named call t memory journal r memory′ journal′ → (r .answer ≡ 0 → ⊥)
-    → Kept t memory journal r memory′ journal′
+    → HostKept t memory journal r memory′ journal′

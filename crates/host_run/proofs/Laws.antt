@@ -13,7 +13,7 @@ use Rattle.machine.specs.declared.Settings.{Settings}
 use Rattle.calls.specs.Steps.{stepOf, memoryAfterStep}
 use Rattle.calls.specs.declared.Report.{Report}
 use Rattle.host.specs.declared.HostTwin.{HostTwin}
-use Rattle.host_run.specs.Runs.{goesOn, uncounted, Running, running, stopped, hostRan, notRun, Runs}
+use Rattle.host_run.specs.Runs.{goesOn, uncounted, Running, running, runStopped, hostRan, notRun, RunEnds}
 use Rattle.host_run.specs.declared.HostRan.{HostRan}
 
 pub at-most-one : (a : Answer) → uncounted a ≤ 1
@@ -27,14 +27,14 @@ module _ (s : Settings) where
   run-more zero r mem h g = absurd (omega arith)
   run-more (suc n) r mem h g = let e : suc n - 1 ≡ n = omega arith in rw (g, e)
 
-  pub run-ends : (n : ℕ) (r : Report) (mem : List ℕ) → (ltb 0 n && goesOn r) ≡ false → running s n r mem ≡ stopped r n mem
+  pub run-ends : (n : ℕ) (r : Report) (mem : List ℕ) → (ltb 0 n && goesOn r) ≡ false → running s n r mem ≡ runStopped r n mem
   unfolding running
   run-ends zero r mem h = refl
   run-ends (suc n) r mem h = let g : goesOn r ≡ false = rw (lt-ltb 0 (suc n) (omega arith)) at h in rw g
 
 module _ (named : Bool) (run : Running) (t : HostTwin) (count : ℕ) (memory : List ℕ) (r : HostRan) where
-  pub runs : (us : List ℕ) → named ≡ true → r ≡ hostRan t (run .ran) → us ≡ run .memory → Runs named run t count memory r us
+  pub runs : (us : List ℕ) → named ≡ true → r ≡ hostRan t (run .ran) → us ≡ run .memory → RunEnds named run t count memory r us
   runs us h p q = record { result = rw h p; memory-is = rw h q }
 
-  pub runs-not : named ≡ false → r ≡ notRun t count → Runs named run t count memory r memory
+  pub runs-not : named ≡ false → r ≡ notRun t count → RunEnds named run t count memory r memory
   runs-not h p = record { result = rw h p; memory-is = rw h refl }

@@ -39,13 +39,13 @@ abbrev pub uncounted : Answer → ℕ
 uncounted Done = 0
 uncounted (Refused x) = 1
 
-abbrev pub stopped : Report → ℕ → List ℕ → Running
-stopped r left mem = record { ran = record { last = r; left = left + uncounted (r .answer) }; memory = mem }
+abbrev pub runStopped : Report → ℕ → List ℕ → Running
+runStopped r left mem = record { ran = record { last = r; left = left + uncounted (r .answer) }; memory = mem }
 
 -- at most so many steps more, after one that ended so
 unfoldable pub running : Settings → ℕ → Report → List ℕ → Running
-running s zero r mem = stopped r 0 mem
-running s (suc n) r mem = cond (goesOn r) (running s n (stepOf mem (r .machine) s) (memoryAfterStep mem (r .machine) s)) (stopped r (suc n) mem)
+running s zero r mem = runStopped r 0 mem
+running s (suc n) r mem = cond (goesOn r) (running s n (stepOf mem (r .machine) s) (memoryAfterStep mem (r .machine) s)) (runStopped r (suc n) mem)
 
 -- what a host gets of a run, and where its numbers name nothing
 abbrev pub hostRan : HostTwin → Ran → HostRan
@@ -54,6 +54,6 @@ hostRan t r = record { last = hostOutcome (keeping (t .records) (r .last)); left
 abbrev pub notRun : HostTwin → ℕ → HostRan
 notRun t count = record { last = unnamed t; left = count }
 
-pub record Runs (named : Bool) (run : Running) (t : HostTwin) (count : ℕ) (memory : List ℕ) (r : HostRan) (memory′ : List ℕ) : Type 0 where
+pub record RunEnds (named : Bool) (run : Running) (t : HostTwin) (count : ℕ) (memory : List ℕ) (r : HostRan) (memory′ : List ℕ) : Type 0 where
   pub result : r ≡ cond named (hostRan t (run .ran)) (notRun t count)
   pub memory-is : memory′ ≡ cond named (run .memory) memory

@@ -2,7 +2,7 @@
 ghost use mathlib.Core.Path.{_≡_};
 ghost use Rattle.host.specs.Numbers.{isNamed};
 ghost use Rattle.host.specs.Structs.{settingsFrom, machineFrom};
-ghost use Rattle.host_run.specs.Runs.{goesOn, before, uncounted, running, hostRan, notRun, Runs};
+ghost use Rattle.host_run.specs.Runs.{goesOn, before, uncounted, running, hostRan, notRun, RunEnds};
 use answers::Answer;
 use calls::Report;
 use host::HostOutcome;
@@ -86,7 +86,7 @@ pub extern "C" fn doorhawser_run_unrecorded(
     settings: HostSettings,
     count: u64,
 ) -> HostRan
-    ensures { λ r. ⌜ Runs (isNamed twin settings) (running (settingsFrom settings) count (before (machineFrom twin)) (now (mem .entry))) twin count (now (mem .entry)) r (now (mem .exit)) ⌝ }
+    ensures { λ r. ⌜ RunEnds (isNamed twin settings) (running (settingsFrom settings) count (before (machineFrom twin)) (now (mem .entry))) twin count (now (mem .entry)) r (now (mem .exit)) ⌝ }
 {
     if host::is_named(twin, settings) {
         let ran = run(
