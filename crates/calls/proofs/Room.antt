@@ -14,7 +14,7 @@ use Rattle.answers.specs.declared.Answer.{Answer}
 use Rattle.answers.specs.declared.Answer.the-variants.{Done, Refused}
 use Rattle.answers.specs.declared.Refusal.{Refusal}
 use Rattle.answers.specs.declared.Refusal.the-variants.{MemoryLength}
-use Rattle.memory.specs.Map.{byteAt}
+use Rattle.memory.specs.Map.{byteAt, wordAt}
 use Rattle.memory.specs.Writes.{listed, stored}
 use Rattle.machine.specs.declared.Effect.{Effect}
 use Rattle.machine.specs.declared.Machine.{Machine}
@@ -36,7 +36,7 @@ use Rattle.evaluate.specs.Evaluate.{evaluateOf}
 use Rattle.evaluate.proofs.Room.{small-exactly}
 use Rattle.stack.specs.Frames.{stackedBy, framed as stacked}
 use Rattle.stack.specs.Pushing.{bytesPushed}
-use Rattle.vectors.specs.Service.{vectorWord, served}
+use Rattle.vectors.specs.Service.{served}
 use Rattle.vectors.specs.Table.{addressOf, isEntire}
 use Rattle.vectors.specs.declared.table.Vector.{Vector}
 use Rattle.vectors.proofs.Laws.{vectors-refuse-exactly}
@@ -143,7 +143,7 @@ frame-eight false zero s = go (ltb s 3)
 module _ (mem : List ℕ) (m : Machine) (s : Settings) (v : Vector) where
   -- whether the vector leads to a zero byte
   leads : List ℕ → Bool
-  leads at = eqb (byteAt at (vectorWord at (addressOf v))) 0
+  leads at = eqb (byteAt at (wordAt at (addressOf v))) 0
 
   running : isEight (served mem s (m .regs) v .answer) ≡ ltb (m .regs .s) (bytesPushed (stackedBy (isEntire v)))
   unfolding leads
