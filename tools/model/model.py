@@ -1,5 +1,6 @@
 #!/usr/bin/env python3
-"""A second model of the machine of document 01, as document 02 changes it, and of its run program: reads a run file, prints what the run program has to print."""
+"""A second model of the machine of document 01, as document 02 changes it, and of its run program: reads a run file, prints what the run
+program has to print."""
 import sys
 
 JOURNAL_RECORDS = 960
