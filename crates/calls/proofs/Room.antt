@@ -1,7 +1,7 @@
 -- A call is refused by 8 exactly where a stack pointer is too small.
 -- Assumes nothing.
 use Prim.Native.Nat.{ℕ, _<_}
-use mathlib.Core.Bool.{Bool, true, false, cond, _&&_, _||_}
+use mathlib.Core.Bool.{Bool, true, false, cond, _&&_}
 use mathlib.Core.List.{List}
 use mathlib.Core.Logic.{_≢_}
 use mathlib.Core.Path.{_≡_, refl, ap, _∙_}
@@ -13,7 +13,7 @@ use Rattle.answers.specs.Numbers.{numberOf, numberOfAnswer}
 use Rattle.answers.specs.declared.Answer.{Answer}
 use Rattle.answers.specs.declared.Answer.the-variants.{Done, Refused}
 use Rattle.answers.specs.declared.Refusal.{Refusal}
-use Rattle.answers.specs.declared.Refusal.the-variants.{MemoryLength}
+use Rattle.answers.specs.declared.Refusal.the-variants.{MemoryLength, PastEnd}
 use Rattle.memory.specs.Map.{byteAt, wordAt}
 use Rattle.memory.specs.Writes.{listed, stored}
 use Rattle.machine.specs.declared.Effect.{Effect}
@@ -28,7 +28,6 @@ use Rattle.decode.specs.declared.instruction.Decoded.{Decoded}
 use Rattle.decode.specs.declared.instruction.Decoded.the-variants.{Instruction, Refused as NotDecoded}
 use Rattle.decode.proofs.Laws.{decode-refuses}
 use Rattle.addressing.specs.Address.{resolvedOf}
-use Rattle.addressing.specs.Laws.{OfResolving, RefusedBy}
 use Rattle.addressing.specs.declared.Resolved.{Resolved}
 use Rattle.addressing.specs.declared.Resolved.the-variants.{At as Addressed, Refused as NoAddress}
 use Rattle.addressing.proofs.Refusals.{resolve-refuses}
@@ -66,14 +65,6 @@ of-decoding x t =
     let p = both (leb 3 (numberOf x)) (leb (numberOf x) 5) t in
     ne-eqb (numberOf x) 8 (λ e. omega (arith, leb→le (numberOf x) 5 (p .1)))
 
-of-resolving : (x : Refusal) → OfResolving x → Other x
-of-resolving x t = ne-eqb (numberOf x) 8 (λ e. go (eqb (numberOf x) 4) refl (eqb (numberOf x) 6) refl e t)
-  where
-    go : (a : Bool) → eqb (numberOf x) 4 ≡ a → (b : Bool) → eqb (numberOf x) 6 ≡ b → numberOf x ≡ 8 → T (a || b) → ⊥
-    go true p b q e t = omega (arith, eqb-true (numberOf x) 4 p)
-    go false p true q e t = omega (arith, eqb-true (numberOf x) 6 q)
-    go false p false q e t = t
-
 abbrev OtherReached : Reached → Type 0
 OtherReached (At e r ea) = Unit {0}
 OtherReached (NotReached x) = Other x
@@ -82,9 +73,9 @@ reached-other : (mem : List ℕ) (m : Machine) → OtherReached (reached mem m)
 unfolding reached decodedTo
 reached-other mem m = go (eqb (length mem) 65536)
   where
-    of-address : (e : Entry) (a : Resolved) → RefusedBy OfResolving a → OtherReached (addressed e a)
+    of-address : (e : Entry) (a : Resolved) → ((x : Refusal) → a ≡ NoAddress x → x ≡ PastEnd) → OtherReached (addressed e a)
     of-address e (Addressed a) k = tt
-    of-address e (NoAddress x) k = of-resolving x k
+    of-address e (NoAddress x) k = rw (k x refl) refl
 
     of-decoded : (d : Decoded) → RefusedSo d → OtherReached (ofDecoded mem (m .regs) d)
     of-decoded (Instruction i) k = of-address (i .entry) (resolvedOf mem (m .regs) (i .operand) (i .next)) (resolve-refuses mem (m .regs) (i .operand) (i .next))
