@@ -57,7 +57,6 @@ enum {
     DOORHAWSER_OPCODE = 3,           /* opcode not in the manual */
     DOORHAWSER_PAST_END = 4,         /* a byte of the instruction, or the next address, lies past FFFF */
     DOORHAWSER_POST_BYTE = 5,        /* post-byte refused */
-    DOORHAWSER_WORD_AT_TOP = 6,      /* word access at FFFF */
     DOORHAWSER_TRANSFER_CODE = 7,    /* TFR or EXG code refused */
     DOORHAWSER_STACK_TOO_SMALL = 8,  /* stack pointer smaller than the bytes to push */
     DOORHAWSER_ZERO_AT_VECTOR = 9,   /* the vector leads to a zero byte */

@@ -13,7 +13,6 @@ const char *words_of(uint64_t answer) {
     case DOORHAWSER_PAST_END: return "a byte of the instruction, or the next address, lies past FFFF";
     case DOORHAWSER_POST_BYTE: return "post-byte refused";
     case DOORHAWSER_POST_BYTE_8F: return "a post-byte of low form 8F other than 9F";
-    case DOORHAWSER_WORD_AT_TOP: return "word access at FFFF";
     case DOORHAWSER_TRANSFER_CODE: return "TFR or EXG code refused";
     case DOORHAWSER_STACK_TOO_SMALL: return "stack pointer smaller than the bytes to push";
     case DOORHAWSER_ZERO_AT_VECTOR: return "the vector leads to a zero byte";

@@ -9,7 +9,7 @@ use lib.Dec.{ltb, eqb}
 use Rattle.answers.specs.Numbers.{numberOf}
 use Rattle.answers.specs.declared.Answer.the-variants.{Done, Refused}
 use Rattle.answers.specs.declared.Refusal.{Refusal}
-use Rattle.answers.specs.declared.Refusal.the-variants.{MemoryLength, Waiting, Opcode, PastEnd, PostByte, WordAtTop, TransferCode, StackTooSmall, ZeroAtVector, JournalFull, NoRecord, JournalLength, DivisionByZero, LeftByte, NoRoom, Malformed, OutputShort, LineShape, Checksum, PastTop, NoEnd, PostByte8F}
+use Rattle.answers.specs.declared.Refusal.the-variants.{MemoryLength, Waiting, Opcode, PastEnd, PostByte, TransferCode, StackTooSmall, ZeroAtVector, JournalFull, NoRecord, JournalLength, DivisionByZero, LeftByte, NoRoom, Malformed, OutputShort, LineShape, Checksum, PastTop, NoEnd, PostByte8F}
 use Rattle.registers.specs.declared.Flags.{Flags}
 use Rattle.registers.specs.declared.Flags.the-variants.{Bought, Manual}
 use Rattle.machine.specs.Record.{waitByte, waitOf}
@@ -32,7 +32,6 @@ below Waiting = omega arith
 below Opcode = omega arith
 below PastEnd = omega arith
 below PostByte = omega arith
-below WordAtTop = omega arith
 below TransferCode = omega arith
 below StackTooSmall = omega arith
 below ZeroAtVector = omega arith
