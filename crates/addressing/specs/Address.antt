@@ -27,8 +27,8 @@ use Rattle.addressing.specs.declared.Resolved.the-variants.{At, Refused}
 abbrev pub atAddress : Set → ℕ → Addressed
 atAddress r a = record { regs = r; ea = a }
 
-abbrev pub offsetBy : Set → Word → ℕ → Addressed
-offsetBy r i n = atAddress r ((wordOf r i + n) % 65536)
+abbrev pub offsetFrom : Set → Word → ℕ → Addressed
+offsetFrom r i n = atAddress r ((wordOf r i + n) % 65536)
 
 -- ,R+ and ,R++: the register, which is then n higher
 abbrev pub incremented : Set → Word → ℕ → Addressed
@@ -45,7 +45,7 @@ programRelative r next offset = atAddress r ((next % 65536 + offset) % 65536)
 -- a clause for each form: the registers r, the index register i, the offset n, the next instruction's address
 abbrev pub formAddress : Form → Set → Word → ℕ → ℕ → Addressed
 -- n,R with five bits
-formAddress Offset5 r i n next = offsetBy r i n
+formAddress Offset5 r i n next = offsetFrom r i n
 -- ,R+  ,R++  ,-R  ,--R
 formAddress Increment1 r i n next = incremented r i 1
 formAddress Increment2 r i n next = incremented r i 2
@@ -54,13 +54,13 @@ formAddress Decrement2 r i n next = decremented r i 2
 -- ,R
 formAddress NoOffset r i n next = atAddress r (wordOf r i)
 -- B,R  A,R with the accumulator's sign
-formAddress OffsetB r i n next = offsetBy r i (signedByte (r .b))
-formAddress OffsetA r i n next = offsetBy r i (signedByte (r .a))
+formAddress OffsetB r i n next = offsetFrom r i (signedByte (r .b))
+formAddress OffsetA r i n next = offsetFrom r i (signedByte (r .a))
 -- n,R with 8 and 16 bits
-formAddress Offset8 r i n next = offsetBy r i n
-formAddress Offset16 r i n next = offsetBy r i n
+formAddress Offset8 r i n next = offsetFrom r i n
+formAddress Offset16 r i n next = offsetFrom r i n
 -- D,R
-formAddress OffsetD r i n next = offsetBy r i (wordOf r D)
+formAddress OffsetD r i n next = offsetFrom r i (wordOf r D)
 -- n,PCR with 8 and 16 bits
 formAddress Program8 r i n next = programRelative r next n
 formAddress Program16 r i n next = programRelative r next n

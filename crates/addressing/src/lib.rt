@@ -1,6 +1,6 @@
 // The effective address of a decoded operand (process_addressing_mode of runtime.rs, without its decoding).
 ghost use mathlib.Core.Path.{_≡_};
-ghost use Rattle.addressing.specs.Address.{atAddress, offsetBy, incremented, decremented, programRelative, indexedBefore, throughPointer, indexedAddress, effectiveOf, advanced, resolvedOf};
+ghost use Rattle.addressing.specs.Address.{atAddress, offsetFrom, incremented, decremented, programRelative, indexedBefore, throughPointer, indexedAddress, effectiveOf, advanced, resolvedOf};
 use answers::Refusal;
 use decode::Form;
 use decode::Indexed;
@@ -22,7 +22,7 @@ pub enum Resolved {
 
 // The address that is n above the index register.
 fn offset_by(regs: Set, index: Word, n: u16) -> Addressed
-    ensures { λ r. ⌜ r ≡ offsetBy regs index n ⌝ }
+    ensures { λ r. ⌜ r ≡ offsetFrom regs index n ⌝ }
 {
     Addressed {
         regs,

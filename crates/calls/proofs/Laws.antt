@@ -52,7 +52,7 @@ use Rattle.evaluate.specs.Evaluate.{evaluateOf}
 use Rattle.evaluate.specs.Waits.{waitAfter}
 use Rattle.evaluate.proofs.Sound.{evaluated-sound}
 use Rattle.evaluate.proofs.Waits.{cwai-alone, sync-alone}
-use Rattle.calls.specs.Plans.{refusedWith, accepted, withRegisters, carriedOut, memoryWith, PlanFits, Unchanged}
+use Rattle.calls.specs.Plans.{refusedWith, accepted, withRegisters, carriedOut, memoryWith, PlanFits, NothingChanged}
 use Rattle.calls.specs.Steps.{addressed, ofDecoded, decodedTo, unlessWaiting, reached, finishedAs, finished, planned, stepPlan}
 use Rattle.calls.specs.Interrupts.{vectorOf, isMasked, taken, afterMasked, ofEffect, interruptPlan}
 use Rattle.calls.specs.Resets.{resetTo, resetPlan}
@@ -209,7 +209,7 @@ module _ (mem : List ℕ) (m : Machine) where
 -- ---- what follows
 
 module _ {P : Type 0} {Moves : Machine → Type 0} {m : Machine} (p : Plan) (w : Whole P Moves m p) where
-  whole-unchanged : (s : Settings) (mem : List ℕ) (x : Refusal) → p .answer ≡ Refused x → Unchanged s m mem p
+  whole-unchanged : (s : Settings) (mem : List ℕ) (x : Refusal) → p .answer ≡ Refused x → NothingChanged s m mem p
   unfolding stored reported
   whole-unchanged s mem x e =
       let q = w .refused x e in

@@ -36,7 +36,7 @@ use Rattle.evaluate.specs.Evaluate.{evaluateOf}
 use Rattle.evaluate.proofs.Room.{small-exactly}
 use Rattle.stack.specs.Frames.{stackedBy, framed as stacked}
 use Rattle.stack.specs.Pushing.{bytesPushed}
-use Rattle.vectors.specs.Service.{wordIn, served}
+use Rattle.vectors.specs.Service.{vectorWord, served}
 use Rattle.vectors.specs.Table.{addressOf, isEntire}
 use Rattle.vectors.specs.declared.table.Vector.{Vector}
 use Rattle.vectors.proofs.Laws.{vectors-refuse-exactly}
@@ -143,7 +143,7 @@ frame-eight false zero s = go (ltb s 3)
 module _ (mem : List ℕ) (m : Machine) (s : Settings) (v : Vector) where
   -- whether the vector leads to a zero byte
   leads : List ℕ → Bool
-  leads at = eqb (byteAt at (wordIn at (addressOf v))) 0
+  leads at = eqb (byteAt at (vectorWord at (addressOf v))) 0
 
   running : isEight (served mem s (m .regs) v .answer) ≡ ltb (m .regs .s) (bytesPushed (stackedBy (isEntire v)))
   unfolding leads

@@ -11,7 +11,7 @@ use Rattle.memory.specs.Writes.{listed}
 use Rattle.machine.specs.Machine.{MachineFits}
 use Rattle.machine.specs.declared.Machine.{Machine}
 use Rattle.machine.specs.declared.Settings.{Settings}
-use Rattle.calls.specs.Plans.{PlanFits, Unchanged}
+use Rattle.calls.specs.Plans.{PlanFits, NothingChanged}
 use Rattle.calls.specs.Steps.{stepPlan}
 use Rattle.calls.specs.Interrupts.{interruptPlan}
 use Rattle.calls.specs.Resets.{resetPlan}
@@ -37,7 +37,7 @@ planOf (reset t) mem m = resetPlan mem m
 -- a refused call leaves the machine and memory, and reports no device write
 abbrev pub RefusedCall : Type 0
 RefusedCall =
-    (c : Call) (mem : List ℕ) (m : Machine) (x : Refusal) → planOf c mem m .answer ≡ Refused x → Unchanged (settingsIn c) m mem (planOf c mem m)
+    (c : Call) (mem : List ℕ) (m : Machine) (x : Refusal) → planOf c mem m .answer ≡ Refused x → NothingChanged (settingsIn c) m mem (planOf c mem m)
 
 abbrev pub FewWrites : Type 0
 FewWrites = (c : Call) (mem : List ℕ) (m : Machine) → length (listed (planOf c mem m .writes)) ≤ 12

@@ -39,7 +39,7 @@ pub record PlanFits (p : Plan) : Type 0 where
   pub writes : AllFit (listed (p .writes))
 
 -- nothing has changed and nothing is reported
-pub record Unchanged (s : Settings) (m : Machine) (mem : List ℕ) (p : Plan) : Type 0 where
+pub record NothingChanged (s : Settings) (m : Machine) (mem : List ℕ) (p : Plan) : Type 0 where
   pub machine : carriedOut s p .machine ≡ m
   pub memory : memoryWith s p mem ≡ mem
   pub devices : carriedOut s p .devices ≡ writesOf []

@@ -25,7 +25,7 @@ use Rattle.decode.specs.declared.postbyte.PostByte.{PostByte}
 use Rattle.decode.specs.declared.postbyte.PostByte.the-variants.{Form as Taken, Refused}
 use Rattle.addressing.specs.Address.{atAddress, effectiveOf, indexedAddress}
 use Rattle.addressing.specs.declared.Resolved.the-variants.{At}
-use Rattle.checked.specs.Rows.{addressed, numberOfResolved}
+use Rattle.checked.specs.Rows.{effectiveOfRead, numberOfResolved}
 
 -- decoding reads the post-byte, which lies within memory's addresses
 decoded : (mem : List ℕ) (at post : ℕ) → at < 65536 → byteAt mem at ≡ post → operandAt Indexed mem at ≡ operandOf Indexed mem at post (at + 1)
@@ -46,7 +46,7 @@ unfolding indexOf
 names-x post e = rw e
 
 pub offset-row : (p x a : ℕ) → p < 0x80 → p / 32 % 4 ≡ 0 → (x + fiveBits p) % 65536 ≡ a
-    → (mem : List ℕ) (at : ℕ) (r : Set) → at < 65536 → byteAt mem at ≡ p → r .x ≡ x → addressed mem r (operandAt Indexed mem at) ≡ At (atAddress r a)
+    → (mem : List ℕ) (at : ℕ) (r : Set) → at < 65536 → byteAt mem at ≡ p → r .x ≡ x → effectiveOfRead mem r (operandAt Indexed mem at) ≡ At (atAddress r a)
 unfolding indexedAddress withForm
 offset-row p x a l f e mem at r h b g = rw (decoded mem at p h b, five p l, direct p l, names-x p f, g, e)
 
@@ -56,7 +56,7 @@ numberOfForm (Taken form) = 0
 numberOfForm (Refused x) = numberOf x
 
 pub refused-row : (p : ℕ) (q : PostByte) → formOf p ≡ q → T (isRefused q)
-    → (mem : List ℕ) (at : ℕ) (r : Set) → at < 65536 → byteAt mem at ≡ p → numberOfResolved (addressed mem r (operandAt Indexed mem at)) ≡ numberOfForm q
+    → (mem : List ℕ) (at : ℕ) (r : Set) → at < 65536 → byteAt mem at ≡ p → numberOfResolved (effectiveOfRead mem r (operandAt Indexed mem at)) ≡ numberOfForm q
 refused-row p (Taken form) e t mem at r h b = absurd t
 refused-row p (Refused x) e t mem at r h b = rw (decoded mem at p h b, e)
 

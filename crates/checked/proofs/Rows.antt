@@ -27,7 +27,7 @@ use Rattle.vectors.specs.Table.{isEntire}
 use Rattle.calls.specs.Interrupts.{vectorOf}
 use Rattle.calls.proofs.Room.{small-interrupt}
 use Rattle.checked.proofs.Addresses.{offset-row, numberOfForm, refused-row, system-row, ignored-row}
-use Rattle.checked.specs.Rows.{Row, of, carrying, postByte, badPostByte, systemWrite, ignoredWrite, refusedInterrupt, Shown, Gives, Holds, Every, rows}
+use Rattle.checked.specs.Rows.{Example, of, carrying, postByte, badPostByte, systemWrite, ignoredWrite, refusedInterrupt, Shown, Gives, Holds, Every, examples}
 
 -- two tests as one
 abbrev both : Bool → Bool → Bool
@@ -113,7 +113,7 @@ either : (at : ℕ) (t : Bool) → ltb at 0xFF00 ≡ t → T (t || leb 0xFFE0 at
 either at true e h = inl (ltb-true at 0xFF00 e)
 either at false e h = inr (leb→le 0xFFE0 at h)
 
-right : Row → Bool
+right : Example → Bool
 unfolding settings
 right (of o a b r bought manual) = both (settings o a b r bought manual true) (settings o a b r bought manual false)
 right (carrying o a b r bought manual) = settings o a b r bought manual true
@@ -123,7 +123,7 @@ right (systemWrite at p) = both (ltb at 0xFF00 || leb 0xFFE0 at) (eqb (placeOf a
 right (ignoredWrite at top) = both (ltb at 0xFF00) (ltb top at)
 right (refusedInterrupt i sp n) = both (ltb sp (bytesPushed (stackedBy (isEntire (vectorOf i))))) (eqb 8 n)
 
-holds : (x : Row) → T (right x) → Holds x
+holds : (x : Example) → T (right x) → Holds x
 unfolding right
 holds (of o a b r bought manual) t =
     let (set, clear) = both-T (settings o a b r bought manual true) _ t in
@@ -149,16 +149,16 @@ holds (refusedInterrupt i sp n) t =
     let (l, e) = both-T (ltb sp (bytesPushed (stackedBy (isEntire (vectorOf i))))) _ t in
     λ mem m s size k w q. small-interrupt mem m s i size k w (rw q (ltb→lt sp (bytesPushed (stackedBy (isEntire (vectorOf i)))) l)) ∙ eqb→eq 8 n e
 
-all-right : List Row → Bool
+all-right : List Example → Bool
 unfolding right
 all-right [] = true
 all-right (x ∷ xs) = both (right x) (all-right xs)
 
-all-hold : (xs : List Row) → T (all-right xs) → Every xs
+all-hold : (xs : List Example) → T (all-right xs) → Every xs
 unfolding all-right
 all-hold [] t = tt
 all-hold (x ∷ xs) t = let (e, f) = both-T (right x) _ t in (holds x e, all-hold xs f)
 
-pub every-row-holds : Every rows
+pub every-row-holds : Every examples
 unfolding all-right right settings page all-say says agree with-carry bitAt sumOut diffOut outside signed fiveBits formOf isIndirect placeOf
-every-row-holds = all-hold rows tt
+every-row-holds = all-hold examples tt

@@ -32,21 +32,21 @@ use Rattle.calls.specs.Interrupts.{isMasked, interruptOf}
 use Rattle.calls.specs.declared.InterruptType.{InterruptType}
 use Rattle.calls.specs.declared.InterruptType.the-variants.{Irq}
 
-pub data Row : Type 0 where
+pub data Example : Type 0 where
   -- an operation on a and b: the result, flags as bought, flags by the manual; whatever the condition codes were
-  of : Operation → ℕ → ℕ → ℕ → List Line → List Line → Row
+  of : Operation → ℕ → ℕ → ℕ → List Line → List Line → Example
   -- the same with the carry, or the borrow, set
-  carrying : Operation → ℕ → ℕ → ℕ → List Line → List Line → Row
+  carrying : Operation → ℕ → ℕ → ℕ → List Line → List Line → Example
   -- a post-byte and X: the effective address
-  postByte : ℕ → ℕ → ℕ → Row
+  postByte : ℕ → ℕ → ℕ → Example
   -- a post-byte: the number of its refusal
-  badPostByte : ℕ → ℕ → Row
+  badPostByte : ℕ → ℕ → Example
   -- a System write at an address: its place, whatever ram_top is
-  systemWrite : ℕ → ℕ → Row
+  systemWrite : ℕ → ℕ → Example
   -- a program's write at an address, with ram_top: ignored
-  ignoredWrite : ℕ → ℕ → Row
+  ignoredWrite : ℕ → ℕ → Example
   -- an interrupt that is not masked, outside CWAI, and S: the number of its refusal
-  refusedInterrupt : InterruptType → ℕ → ℕ → Row
+  refusedInterrupt : InterruptType → ℕ → ℕ → Example
 
 -- each flag named is as its line says
 abbrev pub Shown : CCBits → List Line → Type 0
@@ -57,22 +57,22 @@ abbrev pub Gives : Flags → Operation → CCBits → ℕ → ℕ → ℕ → Li
 Gives s o cc a b r lines = let p = by s o cc a b in (p .value ≡ r) × Shown (codes cc (p .flags)) lines
 
 -- the effective address of an indexed operand whose post-byte stands at `at`
-abbrev pub addressed : List ℕ → Set → OperandRead → Resolved
-addressed mem r (Read operand next) = effectiveOf operand mem r next
-addressed mem r (NotRead x) = Refused x
+abbrev pub effectiveOfRead : List ℕ → Set → OperandRead → Resolved
+effectiveOfRead mem r (Read operand next) = effectiveOf operand mem r next
+effectiveOfRead mem r (NotRead x) = Refused x
 
 abbrev pub numberOfResolved : Resolved → ℕ
 numberOfResolved (At a) = 0
 numberOfResolved (Refused x) = numberOf x
 
-abbrev pub Holds : Row → Type 0
+abbrev pub Holds : Example → Type 0
 Holds (of o a b r bought manual) = (cc : CCBits) → Gives Bought o cc a b r bought × Gives Manual o cc a b r manual
 Holds (carrying o a b r bought manual) =
     (cc : CCBits) → flag C cc ≡ true → Gives Bought o cc a b r bought × Gives Manual o cc a b r manual
 Holds (postByte p x a) =
-    (mem : List ℕ) (at : ℕ) (r : Set) → at < 65536 → byteAt mem at ≡ p → r .x ≡ x → addressed mem r (operandAt Indexed mem at) ≡ At (atAddress r a)
+    (mem : List ℕ) (at : ℕ) (r : Set) → at < 65536 → byteAt mem at ≡ p → r .x ≡ x → effectiveOfRead mem r (operandAt Indexed mem at) ≡ At (atAddress r a)
 Holds (badPostByte p n) =
-    (mem : List ℕ) (at : ℕ) (r : Set) → at < 65536 → byteAt mem at ≡ p → numberOfResolved (addressed mem r (operandAt Indexed mem at)) ≡ n
+    (mem : List ℕ) (at : ℕ) (r : Set) → at < 65536 → byteAt mem at ≡ p → numberOfResolved (effectiveOfRead mem r (operandAt Indexed mem at)) ≡ n
 Holds (systemWrite at p) = (top : ℕ) → landingOf at top (isSystem System) ≡ Stored p
 Holds (ignoredWrite at top) = landingOf at top (isSystem Program) ≡ Ignored
 Holds (refusedInterrupt i sp n) =
@@ -80,13 +80,13 @@ Holds (refusedInterrupt i sp n) =
     → numberOfAnswer (interruptOf mem m s i .answer) ≡ n
 
 -- every row holds
-abbrev pub Every : List Row → Type 0
+abbrev pub Every : List Example → Type 0
 Every [] = Unit
 Every (x ∷ xs) = Holds x × Every xs
 
 -- document 01, "Checked examples", the rows marked P
-abbrev pub rows : List Row
-rows =
+abbrev pub examples : List Example
+examples =
     of DEC 0x00 0 0xFF ((«V» := true) ∷ []) ((«V» := false) ∷ [])
     ∷ of DEC 0x80 0 0x7F ((«V» := false) ∷ []) ((«V» := true) ∷ [])
     ∷ of INC 0x7F 0 0x80 ((«V» := false) ∷ []) ((«V» := true) ∷ [])

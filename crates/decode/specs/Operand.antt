@@ -5,7 +5,7 @@ use mathlib.Core.Bool.{cond}
 use mathlib.Core.List.{List}
 use lib.Dec.{leb}
 use Rattle.u8oru16.specs.Value.{valueOf}
-use Rattle.u8oru16.specs.Negated.{extended}
+use Rattle.u8oru16.specs.Negated.{signExtended}
 use Rattle.u8oru16.specs.declared.u8u16.the-variants.{u8}
 use Rattle.memory.specs.Map.{byteAt}
 use Rattle.answers.specs.declared.Refusal.the-variants.{PastEnd}
@@ -23,7 +23,7 @@ use Rattle.decode.specs.declared.operand.OperandRead.the-variants.{Opera
 
 -- a byte with its sign, as a word
 abbrev pub signedByte : ℕ → ℕ
-signedByte b = valueOf (extended (u8 b))
+signedByte b = valueOf (signExtended (u8 b))
 
 -- the number that no, one or two bytes hold, high byte first
 abbrev pub operandNumber : ℕ → List ℕ → ℕ → ℕ

@@ -46,11 +46,11 @@ unfoldable pub formOf : ℕ → PostByte
 formOf post = formOfLow post (bitAnd post 0x8F)
 
 -- bits 5 and 6 name X, Y, U, S
-abbrev named : ℕ → Index
-named field = cond (eqb field 0) X (cond (eqb field 1) Y (cond (eqb field 2) U S))
+abbrev indexNamed : ℕ → Index
+indexNamed field = cond (eqb field 0) X (cond (eqb field 1) Y (cond (eqb field 2) U S))
 
 unfoldable pub indexOf : ℕ → Index
-indexOf post = named (post / 32 % 4)
+indexOf post = indexNamed (post / 32 % 4)
 
 -- the low five bits read as signed, as a word
 unfoldable pub fiveBits : ℕ → ℕ

@@ -10,7 +10,7 @@ use lib.Dec.{eqb, ltb}
 use Rattle.answers.specs.declared.Answer.{Answer}
 use Rattle.answers.specs.declared.Answer.the-variants.{Done, Refused as NotDone}
 use Rattle.answers.specs.declared.Refusal.the-variants.{WordAtTop, TransferCode, StackTooSmall, ZeroAtVector}
-use Rattle.u8oru16.specs.Negated.{extended}
+use Rattle.u8oru16.specs.Negated.{signExtended}
 use Rattle.u8oru16.specs.Value.{valueOf}
 use Rattle.u8oru16.specs.declared.u8u16.the-variants.{u8}
 use Rattle.registers.specs.ConditionCodes.{bitAt, put, flag}
@@ -64,7 +64,7 @@ use Rattle.operations.specs.declared.Changed.the-variants.{After, Refused}
 use Rattle.stack.specs.Frames.{stackedBy, framed}
 use Rattle.stack.specs.Pushing.{bytesPushed, pushed, oncePushed, jumpedToSubroutine}
 use Rattle.stack.proofs.Kept.{isOther, other-written, pull-keeps-codes}
-use Rattle.vectors.specs.Service.{wordIn, vectored, served}
+use Rattle.vectors.specs.Service.{vectorWord, vectored, served}
 use Rattle.vectors.specs.Table.{addressOf, masksOf, isEntire, softwareVector}
 use Rattle.vectors.specs.declared.table.Vector.{Vector}
 use Rattle.evaluate.specs.Evaluate.{effectOf}
@@ -198,7 +198,7 @@ changed-leaves (Branch c) s mem r ea e = go (condition c (r .cc))
 changed-leaves Jmp s mem r ea e = refl
 changed-leaves Nop s mem r ea e = refl
 changed-leaves Daa s mem r ea e = stays H (r .cc) (daaFlags (r .cc) (r .a)) refl
-changed-leaves Sex s mem r ea e = stays H (r .cc) (sexFlags (valueOf (extended (u8 (r .b))))) refl
+changed-leaves Sex s mem r ea e = stays H (r .cc) (sexFlags (valueOf (signExtended (u8 (r .b))))) refl
 changed-leaves Mul s mem r ea e = kept Manual MUL (r .cc) (r .a) (r .b) H refl
 changed-leaves Abx s mem r ea e = refl
 changed-leaves Andcc s mem r ea e = absurd (true≢false e)
@@ -248,7 +248,7 @@ unfolding vectored
 served-same mem s r v e =
     let frame = framed r (isEntire v) in
     let after = stored (s .«ram_top») (listed (frame .writes)) mem in
-    let pc = wordIn after (addressOf v) in
+    let pc = vectorWord after (addressOf v) in
     once r (frame .answer) _
     (either r (eqb (byteAt after pc) 0) (refuses r ZeroAtVector) (stores (jumped (orCodes (frame .regs) (masksOf v)) pc) (frame .writes)) refl
     (or-leaves 5 (frame .regs .cc .reg) (masksOf v) e ∙ frame-same r (isEntire v)))

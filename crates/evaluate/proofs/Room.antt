@@ -34,7 +34,7 @@ use Rattle.stack.specs.Pulling.{pulled, returnedFromInterrupt}
 use Rattle.stack.specs.Pushing.{order, chosen, bytesPushed, jumpedToSubroutine}
 use Rattle.stack.proofs.Laws.{stack-refuses-exactly}
 use Rattle.vectors.specs.Laws.{zeroNumber}
-use Rattle.vectors.specs.Service.{wordIn, served}
+use Rattle.vectors.specs.Service.{vectorWord, served}
 use Rattle.vectors.specs.Table.{addressOf, isEntire, softwareVector}
 use Rattle.vectors.specs.declared.table.Vector.{Vector}
 use Rattle.vectors.proofs.Laws.{vectors-refuse-exactly}
@@ -67,7 +67,7 @@ of-service : (mem : List ℕ) (s : Settings) (r : Set) (v : Vector) → isEight 
 of-service mem s r v =
     let after = stored (s .«ram_top») (listed (framed r (isEntire v) .writes)) mem in
     ap isEight (vectors-refuse-exactly .running mem s r v)
-    ∙ eight (ltb (r .s) (cond (isEntire v) 12 3)) (zeroNumber after v) (other (eqb (byteAt after (wordIn after (addressOf v))) 0) 9 0 refl refl)
+    ∙ eight (ltb (r .s) (cond (isEntire v) 12 3)) (zeroNumber after v) (other (eqb (byteAt after (vectorWord after (addressOf v))) 0) 9 0 refl refl)
 
 -- a change of registers has the number of its refusal
 numbered : (r : Set) (c : Changed) → numberOfAnswer (effectOf r c .answer) ≡ numberOfChanged c

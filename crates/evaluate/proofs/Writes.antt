@@ -44,7 +44,7 @@ use Rattle.stack.specs.Pulling.{pulled, returnedFromInterrupt}
 use Rattle.stack.specs.Pushing.{registersNamed, bytesPushed, pushes, pushed, oncePushed, jumpedToSubroutine}
 use Rattle.stack.proofs.Kept.{pull-writes-nothing}
 use Rattle.stack.proofs.Laws.{none-dropped}
-use Rattle.vectors.specs.Service.{wordIn, vectored, served}
+use Rattle.vectors.specs.Service.{vectorWord, vectored, served}
 use Rattle.vectors.specs.Table.{addressOf, masksOf, isEntire, softwareVector}
 use Rattle.vectors.specs.Waits.{waiting}
 use Rattle.vectors.specs.declared.table.Vector.{Vector}
@@ -98,7 +98,7 @@ unfolding vectored
 of-served mem s r v =
     let frame = framed r (isEntire v) in
     let after = stored (s .«ram_top») (listed (frame .writes)) mem in
-    let pc = wordIn after (addressOf v) in
+    let pc = vectorWord after (addressOf v) in
     once r (frame .answer) _ (frameWrites r (isEntire v))
     (λ a. either (eqb (byteAt after pc) 0) (refuses r ZeroAtVector) (stores (jumped (orCodes (frame .regs) (masksOf v)) pc) (frame .writes)) (frameWrites r (isEntire v))
     (λ d. not-done d) (λ d. of-frame r (isEntire v) a))

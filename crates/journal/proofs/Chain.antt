@@ -8,7 +8,7 @@ use lib.ListN.{length, take, drop, length-append, length-drop, take-append-drop}
 use lib.Seq.{sets-eq, take-append-le, drop-append-le, take-at, drop-at, length-take-le}
 use Rattle.memory.specs.Fits.{Bytes}
 use Rattle.machine.specs.Machine.{MachineFits}
-use Rattle.journal.specs.Record.{Saved, encode, most, recordLength}
+use Rattle.journal.specs.Record.{Saved, encode, mostStored, recordLength}
 use Rattle.journal.specs.Recorded.{State, recordAt, withRecord}
 use Rattle.journal.specs.Undos.{putBack}
 use Rattle.journal.specs.Sequence.{Same, Snap, All}
@@ -57,7 +57,7 @@ module _ (u : ℕ) (r j : List ℕ) (whole : length r ≡ recordLength) (space :
 pub record Leads (r m : List ℕ) (s : Snap) : Type 0 where
   pub saved : List Saved
   pub is : r ≡ encode (s .machine) saved
-  pub few : length saved ≤ most
+  pub few : length saved ≤ mostStored
   pub fit : All SavedFits saved
   pub sound : MachineFits (s .machine)
   pub leads : Same (putBack m saved) (s .memory)

@@ -15,7 +15,7 @@ use Rattle.memory.specs.declared.writes.Write.{Write}
 use Rattle.machine.specs.declared.Machine.{Machine}
 use Rattle.machine.specs.Record.{Cycles, Instructions, bytes, front, counter, offset, header, headerLength}
 use Rattle.machine.proofs.Header.{header-in-parts, length-front, length-counter, length-header}
-use Rattle.journal.specs.Record.{Saved, recordLength, entries, encode, most, entryLength, countAt, entriesAt}
+use Rattle.journal.specs.Record.{Saved, recordLength, entries, encode, mostStored, entryLength, countAt, entriesAt}
 use Rattle.journal.specs.Recorded.{savedAt, savedFor}
 
 -- ---- parts
@@ -65,7 +65,7 @@ saved-more top (v ∷ ws) w mem =
     rw (saved-more top ws w mem) (sym (append-assoc (savedAt mem (landingOf (v .at) top (v .system))) (savedFor top ws mem) (savedAt mem (landingOf (w .at) top (w .system)))))
 
 -- a turn of the loop: the entry of the write at i, after those of the first i
-module _ (top : ℕ) (list : List Write) (i : ℕ) (none : Write) (full : length list ≡ most) (h : i < most) (mem : List ℕ) where
+module _ (top : ℕ) (list : List Write) (i : ℕ) (none : Write) (full : length list ≡ mostStored) (h : i < mostStored) (mem : List ℕ) where
   saved-next : savedFor top (take (i + 1) list) mem ≡ savedFor top (take i list) mem ++ savedAt mem (landingOf (getD list i none .at) top (getD list i none .system))
   saved-next = rw (add-one, take-suc list i none (omega arith)) (saved-more top (take i list) (getD list i none) mem)
 
@@ -92,7 +92,7 @@ unfolding savedFor
 saved-few top [] mem = omega arith
 saved-few top (w ∷ ws) mem = simp length-append (omega (arith, saved-few top ws mem, one-at-most mem (landingOf (w .at) top (w .system))))
 
-pub saved-twelve : (top : ℕ) (list : List Write) (i : ℕ) (mem : List ℕ) → length list ≡ most → i ≤ most → length (savedFor top (take i list) mem) ≤ i
+pub saved-twelve : (top : ℕ) (list : List Write) (i : ℕ) (mem : List ℕ) → length list ≡ mostStored → i ≤ mostStored → length (savedFor top (take i list) mem) ≤ i
 saved-twelve top list i mem full h = omega (arith, saved-few top (take i list) mem, length-take-le i list (omega arith))
 
 -- ---- the count
@@ -104,13 +104,13 @@ zeros-left (suc k) (suc m) d h =
     let e : suc m - suc k ≡ m - k = omega arith in
     rw e (zeros-left k m d (omega arith))
 
-pub record-laid : (m : Machine) (es : List Saved) (d : List ℕ) (n : ℕ) → n ≡ length es → n ≤ most
+pub record-laid : (m : Machine) (es : List Saved) (d : List ℕ) (n : ℕ) → n ≡ length es → n ≤ mostStored
     → set (sets (header m ++ (replicate (recordLength - headerLength) 0 ++ d)) entriesAt (entries es)) countAt n ≡ encode m es ++ d
 unfolding encode header bytes
 record-laid m es d n e h =
     let k : length (entries es) ≡ entryLength * length es = length-entries es in
-    let x : drop (entriesAt + length (entries es)) (header m ++ (replicate (recordLength - headerLength) 0 ++ d)) ≡ replicate ((most * entryLength) - entryLength * length es) 0 ++ d =
-    sym (drop-drop (length (entries es)) entriesAt (header m ++ (replicate (recordLength - headerLength) 0 ++ d))) ∙ rw k (zeros-left (entryLength * length es) (most * entryLength) d (omega arith)) in
+    let x : drop (entriesAt + length (entries es)) (header m ++ (replicate (recordLength - headerLength) 0 ++ d)) ≡ replicate ((mostStored * entryLength) - entryLength * length es) 0 ++ d =
+    sym (drop-drop (length (entries es)) entriesAt (header m ++ (replicate (recordLength - headerLength) 0 ++ d))) ∙ rw k (zeros-left (entryLength * length es) (mostStored * entryLength) d (omega arith)) in
     ap (λ (l : List ℕ). set l countAt n) (sets-eq (entries es) (header m ++ (replicate (recordLength - headerLength) 0 ++ d)) entriesAt (omega arith))
     ∙ ap (λ (l : List ℕ). set (take entriesAt (header m ++ (replicate (recordLength - headerLength) 0 ++ d)) ++ entries es ++ l) countAt n) x
-    ∙ rw (e, append-assoc (entries es) (replicate ((most * entryLength) - entryLength * length es) 0) d)
+    ∙ rw (e, append-assoc (entries es) (replicate ((mostStored * entryLength) - entryLength * length es) 0) d)

@@ -11,7 +11,7 @@ use lib.ListN.{length, replicate, length-append, length-replicate}
 use Rattle.machine.specs.declared.Machine.{Machine}
 use Rattle.machine.specs.Machine.{MachineFits}
 use Rattle.machine.specs.Record.{bytes, numberAt, header, machineOf}
-use Rattle.journal.specs.Record.{Saved, entries, encode, waitAt, countOf, readEntries, entriesOf, most, entryLength, recordLength}
+use Rattle.journal.specs.Record.{Saved, entries, encode, waitAt, countOf, readEntries, entriesOf, mostStored, entryLength, recordLength}
 use Rattle.journal.specs.Sequence.{All}
 use Rattle.machine.proofs.Header.{wait-small, two-back, header-back}
 use Rattle.journal.proofs.Laying.{length-entries}
@@ -40,8 +40,8 @@ count-back m es = refl
 
 pub entries-back : (m : Machine) (es : List Saved) → All SavedFits es → entriesOf (encode m es) ≡ es
 unfolding entriesOf countOf encode header bytes
-entries-back m es f = read-entries es (replicate ((most * entryLength) - entryLength * length es) 0) f
+entries-back m es f = read-entries es (replicate ((mostStored * entryLength) - entryLength * length es) 0) f
 
-pub length-encode : (m : Machine) (es : List Saved) → length es ≤ most → length (encode m es) ≡ recordLength
+pub length-encode : (m : Machine) (es : List Saved) → length es ≤ mostStored → length (encode m es) ≡ recordLength
 unfolding encode header bytes
 length-encode m es h = simp (length-append, length-replicate) (omega (arith, length-entries es))

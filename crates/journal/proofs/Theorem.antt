@@ -26,10 +26,10 @@ use Rattle.machine.specs.declared.Machine.{Machine}
 use Rattle.calls.specs.Calls.{Call, step, interrupt, reset, settingsIn, planOf}
 use Rattle.calls.proofs.Laws.{few-writes, call-fits}
 use Rattle.machine.specs.Record.{machineOf}
-use Rattle.journal.specs.Record.{encode, waitAt, countOf, entriesOf, most, recordLength}
+use Rattle.journal.specs.Record.{encode, waitAt, countOf, entriesOf, mostStored, recordLength}
 use Rattle.journal.specs.Recorded.{State, ending, need, recordAt, withRecord, savedFor, admitted, callAnswer, recorded, concluded, called, whileWaiting}
 use Rattle.journal.specs.Undos.{newestIn, undoAnswer, putBack, restored, undone}
-use Rattle.journal.specs.Sequence.{All, Window, Event, forward, back, host, Legal, Snap, World, push, pop, hostWrites, call, next, run, start, BringsBack, Undoes, Unchanged, Demand3}
+use Rattle.journal.specs.Sequence.{All, Window, Event, forward, back, host, Legal, Snap, World, push, pop, hostWrites, call, next, run, withoutRecords, BringsBack, Undoes, Unchanged, Demand3}
 use Rattle.journal.proofs.Answers.{unless-done, admitted-done}
 use Rattle.journal.proofs.Laying.{saved-few}
 use Rattle.journal.proofs.Reading.{machine-back, wait-at, count-back, entries-back, length-encode}
@@ -67,7 +67,7 @@ module _ (s : State) (t : Snap) (ss : List Snap) (v : Inv s (t ∷ ss)) where
         le-leb (s .twin .used * recordLength) (length (s .journal)) (v .room),
         lt-ltb 0 (s .twin .used) (omega (arith, v .count)),
         le-leb (waitAt (newestIn s)) 2 (rw newest-is (wait-at (t .machine) (lead .saved))),
-        le-leb (countOf (newestIn s)) most (rw count-is (lead .few)),
+        le-leb (countOf (newestIn s)) mostStored (rw count-is (lead .few)),
       )
 
   restored-inv : Inv (restored s) ss
@@ -164,7 +164,7 @@ undoes s (t ∷ ts) v = record {
 record Taken (s : State) (f : Plan) : Type 0 where
   size : length (s .memory) ≡ 65536
   space : s .twin .used * recordLength + recordLength ≤ length (s .journal)
-  few : length (listed (f .writes)) ≤ most
+  few : length (listed (f .writes)) ≤ mostStored
   lawful : PlanFits f
 
 recorded-inv : (set : Settings) (s : State) (past : List Snap) (f : Plan) → Taken s f → Inv s past → Inv (recorded set f s) (push Done s past)
@@ -192,7 +192,7 @@ recorded-inv set s past f t v =
     ws : List Write
     ws = listed (f .writes)
 
-    few : length (savedFor (set .«ram_top») ws (s .memory)) ≤ most
+    few : length (savedFor (set .«ram_top») ws (s .memory)) ≤ mostStored
     few = omega (arith, saved-few (set .«ram_top») ws (s .memory), t .few)
 
     entry : List ℕ
@@ -263,9 +263,9 @@ undone-stays s h = stays (undoAnswer s) s (restored s) [] (λ e. h (undo-answer 
 pub demand-3 : Demand3
 demand-3 = record {
   undoes = λ m mem j es f b l.
-      let w : World = run es (start m mem j) in
+      let w : World = run es (withoutRecords m mem j) in
       undoes (w .now) (w .past)
-      (run-inv es (start m mem j) l (record { sound = f; bytes = b; count = refl; room = omega arith; size = λ h. absurd (omega arith); chain = tt }));
+      (run-inv es (withoutRecords m mem j) l (record { sound = f; bytes = b; count = refl; room = omega arith; size = λ h. absurd (omega arith); chain = tt }));
   refused-call = called-stays;
   refused-undo = undone-stays;
 }

@@ -13,8 +13,8 @@ pub record Saved : Type 0 where
   pub byte : ℕ
 
 -- a call stores at most twelve bytes; an entry has two bytes for the place and one for the byte
-abbrev pub most : ℕ
-most = 12
+abbrev pub mostStored : ℕ
+mostStored = 12
 
 abbrev pub entryLength : ℕ
 entryLength = 3
@@ -27,7 +27,7 @@ abbrev pub entriesAt : ℕ
 entriesAt = countAt + 1
 
 abbrev pub recordLength : ℕ
-recordLength = entriesAt + most * entryLength
+recordLength = entriesAt + mostStored * entryLength
 
 -- the entries in use
 unfoldable pub entries : List Saved → List ℕ
@@ -36,7 +36,7 @@ entries (e ∷ es) = bytes 2 (e .place) ++ (e .byte ∷ entries es)
 
 -- the whole record: entries in the order stored, and zeros for the unused ones
 unfoldable pub encode : Machine → List Saved → List ℕ
-encode m es = header m ++ (length es ∷ (entries es ++ replicate (most * entryLength - entryLength * length es) 0))
+encode m es = header m ++ (length es ∷ (entries es ++ replicate (mostStored * entryLength - entryLength * length es) 0))
 
 -- What is read back from a record
 unfoldable pub waitAt : List ℕ → ℕ

@@ -87,8 +87,8 @@ run [] w = w
 run (e ∷ es) w = run es (next e w)
 
 -- an empty journal: no record used, whatever bytes it has
-abbrev pub start : Machine → List ℕ → List ℕ → World
-start m mem j = record { now = record { twin = record { machine = m; used = 0 }; memory = mem; journal = j }; past = [] }
+abbrev pub withoutRecords : Machine → List ℕ → List ℕ → World
+withoutRecords m mem j = record { now = record { twin = record { machine = m; used = 0 }; memory = mem; journal = j }; past = [] }
 
 -- ---- what undo does
 
@@ -130,6 +130,6 @@ pub record Unchanged (s : State) (o : Ended) : Type 0 where
 
 -- From any machine that fits its widths, any memory of bytes and any journal, after any sequence
 pub record Demand3 : Type 0 where
-  pub undoes : (m : Machine) (mem j : List ℕ) (es : List Event) → MachineFits m → Bytes mem → All Legal es → Undoes (run es (start m mem j))
+  pub undoes : (m : Machine) (mem j : List ℕ) (es : List Event) → MachineFits m → Bytes mem → All Legal es → Undoes (run es (withoutRecords m mem j))
   pub refused-call : (c : Call) (s : State) → call c s .answer ≢ Done → Unchanged s (call c s)
   pub refused-undo : (s : State) → undone s .answer ≢ Done → Unchanged s (undone s)

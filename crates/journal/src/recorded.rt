@@ -7,7 +7,7 @@ ghost use lib.Seq.{sets};
 ghost use Rattle.memory.specs.Map.{landingOf};
 ghost use Rattle.memory.specs.Writes.{listed, writesOf};
 ghost use Rattle.machine.specs.Record.{header, headerLength};
-ghost use Rattle.journal.specs.Record.{most, entryLength, entriesAt, recordLength, entries, encode};
+ghost use Rattle.journal.specs.Record.{mostStored, entryLength, entriesAt, recordLength, entries, encode};
 ghost use Rattle.journal.specs.Recorded.{inHand, Typed, Leaves, savedAt, savedFor, admitted, concluded, whileWaiting, stepped, interrupted, wasReset};
 use super::COUNT;
 use super::ENTRIES;
@@ -69,7 +69,7 @@ fn write_header(rest: &mut [u8], machine: Machine)
 
 // One write's entry, if it is stored, after the n that are there; how many are there then.
 fn save(rest: &mut [u8], n: usize, mem: &[u8], ram_top: u16, one: Write) -> usize
-    requires { ⌜ (n < most) × ((recordLength ≤ length (now rest)) × (length (now mem) ≡ 65536)) ⌝ }
+    requires { ⌜ (n < mostStored) × ((recordLength ≤ length (now rest)) × (length (now mem) ≡ 65536)) ⌝ }
     ensures { λ r. ⌜ (r ≡ n + length (savedAt (now (mem .entry)) (landingOf (one .at) «ram_top» (one .system)))) × (now (rest .exit) ≡ sets (now (rest .entry)) (entriesAt + n * entryLength) (entries (savedAt (now (mem .entry)) (landingOf (one .at) «ram_top» (one .system))))) ⌝ }
 {
     let at = one.at;
@@ -88,7 +88,7 @@ fn save(rest: &mut [u8], n: usize, mem: &[u8], ram_top: u16, one: Write) -> usiz
 // The entries of a call's writes, in order, and their count.
 fn save_all(rest: &mut [u8], mem: &[u8], ram_top: u16, writes: Writes) -> usize
     requires { ⌜ (recordLength ≤ length (now rest)) × (length (now mem) ≡ 65536) ⌝ }
-    ensures { λ r. ⌜ (r ≡ length (savedFor «ram_top» (listed writes) (now (mem .entry)))) × ((r ≤ most) × (now (rest .exit) ≡ sets (now (rest .entry)) entriesAt (entries (savedFor «ram_top» (listed writes) (now (mem .entry)))))) ⌝ }
+    ensures { λ r. ⌜ (r ≡ length (savedFor «ram_top» (listed writes) (now (mem .entry)))) × ((r ≤ mostStored) × (now (rest .exit) ≡ sets (now (rest .entry)) entriesAt (entries (savedFor «ram_top» (listed writes) (now (mem .entry)))))) ⌝ }
 {
     let count = writes.count;
     let list = writes.list;

@@ -2,7 +2,7 @@
 ghost use mathlib.Core.Path.{_≡_};
 ghost use Prim.Native.Nat.{_+_, _≤_};
 ghost use lib.ListN.{length, drop};
-ghost use Rattle.journal.specs.Record.{most, entriesAt, recordLength, readEntries};
+ghost use Rattle.journal.specs.Record.{mostStored, entriesAt, recordLength, readEntries};
 ghost use Rattle.journal.specs.Recorded.{inHand, Typed, Leaves};
 ghost use Rattle.journal.specs.Undos.{newestOf, newestFrom, putBack, undone};
 use super::COUNT;
@@ -20,7 +20,7 @@ use memory::Writes;
 
 // The old bytes of a record's first n entries, put back raw, last entry first.
 fn put_back(mem: &mut [u8], r: &[u8], n: usize)
-    requires { ⌜ (length (now mem) ≡ 65536) × ((length (now r) ≡ recordLength) × (n ≤ most)) ⌝ }
+    requires { ⌜ (length (now mem) ≡ 65536) × ((length (now r) ≡ recordLength) × (n ≤ mostStored)) ⌝ }
     ensures { λ _. ⌜ now (mem .exit) ≡ putBack (now (mem .entry)) (readEntries n (drop entriesAt (now (r .entry)))) ⌝ }
 {
     let mut k = 0;

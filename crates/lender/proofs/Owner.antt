@@ -20,7 +20,7 @@ use Rattle.journal.specs.Recorded.{Ended}
 use Rattle.journal.specs.declared.Twin.{Twin}
 use Rattle.journal.proofs.Twin as T
 use Rattle.journal.proofs.Twin.Laws as T′
-use Rattle.lent.specs.Lending.{Returns, Leaves}
+use Rattle.lent.specs.Lending.{Returns, LeavesTwin}
 use Rattle.lent.specs.declared.Reported.{Reported}
 use Rattle.lent.specs.declared.Returned.{Returned}
 use Rattle.lent.proofs.Parts.{at-twin, at-report}
@@ -44,7 +44,7 @@ pub made : (r : Reported) (k : Twin) → Is N.the-row r (at-report r ∷ []) →
 made r k is g = LL.owes S.the-type S′.the-laws (pair r k) (is, (g, tt))
 
 -- a call on a lent twin that leaves so, with the twin put beside the report, returns so
-pub kept : (r : Reported) (k : Twin) (us vs : List ℕ) (e : Ended) → Leaves r k us vs e → Returns (pair r k) us vs e
+pub kept : (r : Reported) (k : Twin) (us vs : List ℕ) (e : Ended) → LeavesTwin r k us vs e → Returns (pair r k) us vs e
 kept r k us vs e p = record { result = λ i. pair (p .result i) (p .twin-is i); memory-is = p .memory-is; journal-is = p .journal-is }
 
 -- a twin in a local is a twin that can be lent, and the other way

@@ -28,7 +28,7 @@ use Rattle.journal.specs.declared.Twin.{Twin}
 use Rattle.journal.specs.Sequence.{call, Snap, Unchanged}
 use Rattle.journal.specs.History.{Contracts, Chain, begins, calls, undoes, writes, Counted, Undone, Demand3Of}
 use Rattle.journal.proofs.History.{Lies, lent, generated, Tells, tell, demand-of}
-use Rattle.lent.specs.Lending.{reportOf, Leaves}
+use Rattle.lent.specs.Lending.{reportOf, LeavesTwin}
 use Rattle.lent.proofs
 
 -- a fact that holds of some resource
@@ -44,7 +44,7 @@ plain-demand : Demand3Of plain
 plain-demand = demand-of plain (record { forward = λ c s e m. m; back = λ s e m. m })
 
 -- a call that leaves so ended so
-ends : (e f : Ended) → Leaves (reportOf e) (e .state .twin) (e .state .memory) (e .state .journal) f → e ≡ f
+ends : (e f : Ended) → LeavesTwin (reportOf e) (e .state .twin) (e .state .memory) (e .state .journal) f → e ≡ f
 ends e f l = λ i. record { answer = l .result i .answer; state = record { twin = l .twin-is i; memory = l .memory-is i; journal = l .journal-is i }; devices = l .result i .devices }
 
 module _ {M : Type 1} (𝓤 : URA M) (H : Heap 𝓤) (A : Atoms 𝓤) (mem : Memory → SProp 𝓤) (run : Routine → Fun 𝓤) where
@@ -77,7 +77,7 @@ module _ {M : Type 1} (𝓤 : URA M) (H : Heap 𝓤) (A : Atoms 𝓤) (mem : Mem
   abbrev pub lending : Contracts {1}
   lending = record { forward = forwards; back = Undoing }
 
-  tell-forward : (c : Call) (s : State) (e : Ended) → forwards c s e → ∥ ((e ≡ call c s) × Typed s) ∥₁
+  pub tell-forward : (c : Call) (s : State) (e : Ended) → forwards c s e → ∥ ((e ≡ call c s) × Typed s) ∥₁
   tell-forward (step t) s e m = ∥∥₁-map (true-fact 𝓤 _ (m .post)) (λ p. (ends e (call (step t) s) (p .0), p .1))
   tell-forward (interrupt t i) s e m = ∣ tell .forward (interrupt t i) s e (m .met) ∣₁
   tell-forward (reset t) s e m = ∣ tell .forward (reset t) s e (m .met) ∣₁

@@ -6,12 +6,12 @@ use Prim.Native.Nat.{ℕ}
 use mir.Val.{Val}
 use denote.Laws.{Is}
 use denote.Struct.Laws as LL
-use Rattle.journal.specs.Recorded.{Ended, Leaves as Recorded}
+use Rattle.journal.specs.Recorded.{Ended, LeavesTwin as Recorded}
 use Rattle.journal.specs.declared.Outcome.{Outcome}
 use Rattle.journal.specs.declared.Twin.{Twin}
 use Rattle.journal.proofs.Twin as T
 use Rattle.journal.proofs.Twin.Laws as T′
-use Rattle.lent.specs.Lending.{Returns, Leaves}
+use Rattle.lent.specs.Lending.{Returns, LeavesTwin}
 use Rattle.lent.specs.declared.Reported.{Reported}
 use Rattle.lent.specs.declared.Returned.{Returned}
 use Rattle.lent.proofs.Reported as N
@@ -39,7 +39,7 @@ pub report-of : (r : Returned) (w : Val) → Is S.the-row r (w ∷ []) → Is N.
 report-of r w is = LL.owed S.the-type S′.the-laws r _ is .0
 
 -- a call on values that returns so, with its twin stored, leaves so
-pub left : (r : Returned) (us vs : List ℕ) (e : Ended) → Returns r us vs e → Leaves (r .reported) (r .twin) us vs e
+pub left : (r : Returned) (us vs : List ℕ) (e : Ended) → Returns r us vs e → LeavesTwin (r .reported) (r .twin) us vs e
 left r us vs e p =
     record {
       result = ap (λ (z : Returned). z .reported) (p .result);

@@ -19,7 +19,7 @@ pub record Returns (r : Returned) (memory journal : List ℕ) (e : Ended) : Type
   pub journal-is : journal ≡ e .state .journal
 
 -- A call on a lent twin: the report comes back, and twin, memory and journal are left as the call ends
-pub record Leaves (r : Reported) (twin : Twin) (memory journal : List ℕ) (e : Ended) : Type 0 where
+pub record LeavesTwin (r : Reported) (twin : Twin) (memory journal : List ℕ) (e : Ended) : Type 0 where
   pub result : r ≡ reportOf e
   pub twin-is : twin ≡ e .state .twin
   pub memory-is : memory ≡ e .state .memory

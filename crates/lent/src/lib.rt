@@ -2,7 +2,7 @@
 // Each is three lines: every test and every refusal is in the call on values.
 ghost use Rattle.journal.specs.Recorded.{inHand, Typed, stepped};
 ghost use Rattle.journal.specs.Undos.{undone};
-ghost use Rattle.lent.specs.Lending.{Returns, Leaves};
+ghost use Rattle.lent.specs.Lending.{Returns, LeavesTwin};
 use answers::Answer;
 use journal::Twin;
 use machine::Settings;
@@ -48,7 +48,7 @@ fn undo_value(twin: Twin, mem: &mut [u8], journal: &[u8]) -> Returned
 
 // The recorded step of a lent twin.
 pub fn step(twin: &mut Twin, mem: &mut [u8], journal: &mut [u8], settings: Settings) -> Reported
-    ensures { λ r. ⌜ Leaves r (now (twin .exit)) (now (mem .exit)) (now (journal .exit)) (stepped settings (inHand (now (mem .entry)) (now (journal .entry)) (now (twin .entry)))) × Typed (inHand (now (mem .entry)) (now (journal .entry)) (now (twin .entry))) ⌝ }
+    ensures { λ r. ⌜ LeavesTwin r (now (twin .exit)) (now (mem .exit)) (now (journal .exit)) (stepped settings (inHand (now (mem .entry)) (now (journal .entry)) (now (twin .entry)))) × Typed (inHand (now (mem .entry)) (now (journal .entry)) (now (twin .entry))) ⌝ }
 {
     let done = step_value(*twin, mem, journal, settings);
     *twin = done.twin;
@@ -57,7 +57,7 @@ pub fn step(twin: &mut Twin, mem: &mut [u8], journal: &mut [u8], settings: Setti
 
 // The newest recorded call of a lent twin is taken back. The journal is only read.
 pub fn undo(twin: &mut Twin, mem: &mut [u8], journal: &[u8]) -> Reported
-    ensures { λ r. ⌜ Leaves r (now (twin .exit)) (now (mem .exit)) (now (journal .entry)) (undone (inHand (now (mem .entry)) (now (journal .entry)) (now (twin .entry)))) × Typed (inHand (now (mem .entry)) (now (journal .entry)) (now (twin .entry))) ⌝ }
+    ensures { λ r. ⌜ LeavesTwin r (now (twin .exit)) (now (mem .exit)) (now (journal .entry)) (undone (inHand (now (mem .entry)) (now (journal .entry)) (now (twin .entry)))) × Typed (inHand (now (mem .entry)) (now (journal .entry)) (now (twin .entry))) ⌝ }
 {
     let done = undo_value(*twin, mem, journal);
     *twin = done.twin;

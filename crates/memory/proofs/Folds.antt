@@ -13,7 +13,7 @@ use lib.Dec.{eqb, ltb}
 use lib.ListN.{length, set, take, getD, replicate, length-set, length-append}
 use lib.Seq.{take-suc, set-append-seam, length-take-le, take-all, take-append-seam, getD-set-same, getD-set-other, set-out}
 use Rattle.memory.specs.Map.{placeOf, byteAt, landingOf}
-use Rattle.memory.specs.Writes.{putAt, deviceAt, isDevice, overOf, stored, reported, twelve, writesOf, added, listed}
+use Rattle.memory.specs.Writes.{putAt, deviceAt, stored, reported, twelve, writesOf, added, listed}
 use Rattle.memory.specs.declared.Landing.{Landing}
 use Rattle.memory.specs.declared.Landing.the-variants.{Stored, Device, Ignored}
 use Rattle.memory.specs.declared.writes.Write.{Write}
@@ -74,17 +74,6 @@ pub added-more : (l : List Write) (w : Write) → length l < 12 → added (write
 unfolding added
 added-more l w h = rw (lt-ltb (length l) 12 h, place-more l w h, length-append l (w ∷ []))
 
--- a device's write is one more, another is none
-device-more : (a : Landing) (l : List Write) (w : Write) → length l < 12 → true ≡ isDevice a → added (writesOf l) w ≡ writesOf (l ++ deviceAt a w)
-device-more (Stored p) l w h e = cc
-device-more Device l w h e = added-more l w h
-device-more Ignored l w h e = cc
-
-none-more : (a : Landing) (l : List Write) (w : Write) → false ≡ isDevice a → writesOf l ≡ writesOf (l ++ deviceAt a w)
-none-more (Stored p) l w e = ap writesOf (sym (append-nil l))
-none-more Device l w e = cc
-none-more Ignored l w e = ap writesOf (sym (append-nil l))
-
 -- a turn of the loop: the write at i, after the first i
 module _ (top : ℕ) (list : List Write) (i : ℕ) (none : Write) (full : length list ≡ 12) (h : i < 12) where
   first : take (i + 1) list ≡ take i list ++ (getD list i none ∷ [])
@@ -97,19 +86,17 @@ module _ (top : ℕ) (list : List Write) (i : ℕ) (none : Write) (full : length
       → putAt lands-at (getD list i none .byte) mem ≡ stored top (take (i + 1) list) mem₀
   turn-mem mem₀ mem e = rw (first, stored-more top (take i list) (getD list i none) mem₀, e)
 
-  pub turn-device : (d : Writes) → d ≡ writesOf (reported top (take i list)) → true ≡ isDevice lands-at
+  pub turn-device : (d : Writes) → d ≡ writesOf (reported top (take i list)) → deviceAt lands-at (getD list i none) ≡ getD list i none ∷ []
       → added d (getD list i none) ≡ writesOf (reported top (take (i + 1) list))
   turn-device d e y =
       let short : length (reported top (take i list)) < 12 =
       omega (arith, reported-length top (take i list), length-take-le i list (omega arith)) in
-      rw (first, reported-more top (take i list) (getD list i none), e)
-      (device-more lands-at (reported top (take i list)) (getD list i none) short y)
+      rw (first, reported-more top (take i list) (getD list i none), e, y) (added-more (reported top (take i list)) (getD list i none) short)
 
-  pub turn-other : (d : Writes) → d ≡ writesOf (reported top (take i list)) → false ≡ isDevice lands-at
+  pub turn-other : (d : Writes) → d ≡ writesOf (reported top (take i list)) → deviceAt lands-at (getD list i none) ≡ []
       → d ≡ writesOf (reported top (take (i + 1) list))
   turn-other d e y =
-      rw (first, reported-more top (take i list) (getD list i none), e)
-      (none-more lands-at (reported top (take i list)) (getD list i none) y)
+      rw (first, reported-more top (take i list) (getD list i none), e, y, append-nil (reported top (take i list)))
 
 -- at the end of the loop: the first i are those that count
 pub all-taken : (list : List Write) (i count : ℕ) → length list ≡ 12 → (i ≤ 12) × (i ≤ count) → (count ≤ i) ⊎ (12 ≤ i) → take i list ≡ take count list
@@ -140,6 +127,12 @@ over-set mem q p v = go (ℕ-discrete q p) (decLt p (length mem))
         rw (eq-eqb q p e, le-ltb p (length mem) k, e, set-out mem p v k)
     go (no n) h = rw (ne-eqb q p n) (sym (getD-set-other mem q p v 0 (λ e. n (sym e))))
 
+-- the byte at place p, which was b, after v is written, by where the write lands
+abbrev overOf : ℕ → ℕ → ℕ → Landing → ℕ → ℕ
+overOf b p size (Stored q) v = cond (eqb q p && ltb p size) v b
+overOf b p size Device v = b
+overOf b p size Ignored v = b
+
 read-put : (a : Landing) (v : ℕ) (mem : List ℕ) (at size : ℕ) → length mem ≡ size → overOf (byteAt mem at) (placeOf at) size a v ≡ byteAt (putAt a v mem) at
 unfolding byteAt
 read-put (Stored q) v mem at size e = rw (← e) (over-set mem q (placeOf at) v)
@@ -147,13 +140,14 @@ read-put Device v mem at size e = refl
 read-put Ignored v mem at size e = refl
 
 module _ (top : ℕ) (list : List Write) (i : ℕ) (none : Write) (full : length list ≡ 12) (h : i < 12) where
-  pub turn-read : (mem : List ℕ) (at b : ℕ) → b ≡ byteAt (stored top (take i list) mem) at
-      → overOf b (placeOf at) (length mem) (landingOf (getD list i none .at) top (getD list i none .system)) (getD list i none .byte)
-      ≡ byteAt (stored top (take (i + 1) list) mem) at
-  turn-read mem at b e =
-      rw (first top list i none full h, stored-more top (take i list) (getD list i none) mem, e)
-      (read-put (landingOf (getD list i none .at) top (getD list i none .system)) (getD list i none .byte) (stored top (take i list) mem) at (length mem)
-      (length-stored top (take i list) mem))
+  pub turn-read : (mem : List ℕ) (at b r : ℕ) → b ≡ byteAt (stored top (take i list) mem) at
+      → ((old : List ℕ) → length old ≡ length mem → b ≡ getD old (placeOf at) 0
+      → r ≡ getD (putAt (landingOf (getD list i none .at) top (getD list i none .system)) (getD list i none .byte) old) (placeOf at) 0)
+      → r ≡ byteAt (stored top (take (i + 1) list) mem) at
+  unfolding byteAt
+  turn-read mem at b r e f =
+      rw (first top list i none full h, stored-more top (take i list) (getD list i none) mem)
+      (f (stored top (take i list) mem) (length-stored top (take i list) mem) e)
 
 -- a byte read after a list of writes: each that lands on its place is over it
 abbrev pub afterAll : ℕ → List Write → ℕ → ℕ → ℕ → ℕ

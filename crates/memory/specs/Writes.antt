@@ -1,9 +1,9 @@
 -- A list of writes, and what it does to memory and devices, in order.
 -- Assumes nothing.
 use Prim.Native.Nat.{ℕ, _+_, _-_, _/_, _%_}
-use mathlib.Core.Bool.{Bool, true, false, cond, _&&_}
+use mathlib.Core.Bool.{Bool, false, cond}
 use mathlib.Core.List.{List, [], _∷_, _++_}
-use lib.Dec.{eqb, ltb}
+use lib.Dec.{ltb}
 use lib.ListN.{length, set, take, replicate}
 use Rattle.memory.specs.Map.{lowAt, landingOf}
 use Rattle.u8oru16.specs.declared.u8u16.{u8u16}
@@ -24,17 +24,6 @@ abbrev pub deviceAt : Landing → Write → List Write
 deviceAt (Stored p) w = []
 deviceAt Device w = w ∷ []
 deviceAt Ignored w = []
-
-abbrev pub isDevice : Landing → Bool
-isDevice (Stored p) = false
-isDevice Device = true
-isDevice Ignored = false
-
--- the byte at place p, which was b, after v is written, by where the write lands
-abbrev pub overOf : ℕ → ℕ → ℕ → Landing → ℕ → ℕ
-overOf b p size (Stored q) v = cond (eqb q p && ltb p size) v b
-overOf b p size Device v = b
-overOf b p size Ignored v = b
 
 -- memory after a list of writes
 unfoldable pub stored : ℕ → List Write → List ℕ → List ℕ

@@ -1,8 +1,11 @@
 // The writes of a call: a list of them, carried out in order, and memory read as it will be after them.
+ghost use Prim.Native.Nat.{ℕ};
 ghost use mathlib.Core.Path.{_≡_};
-ghost use mathlib.Core.List.{[]};
+ghost use mathlib.Core.Bool.{cond};
+ghost use mathlib.Core.List.{List, [], _∷_};
+ghost use lib.ListN.{length, getD};
 ghost use Rattle.memory.specs.Map.{byteAt, wordAt, landingOf};
-ghost use Rattle.memory.specs.Writes.{writesOf, listed, added, addedAll, wordWrites, putAt, isDevice, stored, reported, overOf};
+ghost use Rattle.memory.specs.Writes.{writesOf, listed, added, addedAll, wordWrites, putAt, deviceAt, stored, reported};
 use crate::Landing;
 use crate::WordRead;
 use crate::map;
@@ -70,7 +73,7 @@ impl Writes {
 
 // One write carried out, and whether it is a device's.
 fn store(mem: &mut [u8], ram_top: u16, one: Write) -> bool
-    ensures { λ r. ⌜ (r ≡ isDevice (landingOf (one .at) «ram_top» (one .system))) × (now (mem .exit) ≡ putAt (landingOf (one .at) «ram_top» (one .system)) (one .byte) (now (mem .entry))) ⌝ }
+    ensures { λ r. ⌜ (deviceAt (landingOf (one .at) «ram_top» (one .system)) one ≡ cond r (one ∷ []) []) × (now (mem .exit) ≡ putAt (landingOf (one .at) «ram_top» (one .system)) (one .byte) (now (mem .entry))) ⌝ }
 {
     match map::lands(one.at, ram_top, one.system) {
         Landing::Stored(p) => {
@@ -103,16 +106,16 @@ pub fn store_all(mem: &mut [u8], ram_top: u16, writes: Writes) -> Writes
     devices
 }
 
-// A byte as one write leaves it: b before, at the place p of a memory of this length.
-fn over(b: u8, p: u16, length: usize, ram_top: u16, one: Write) -> u8
-    ensures { λ r. ⌜ r ≡ overOf b p length (landingOf (one .at) «ram_top» (one .system)) (one .byte) ⌝ }
+// A byte as one write leaves it: b before, at the place p of a memory of this size.
+fn over(b: u8, p: u16, size: usize, ram_top: u16, one: Write) -> u8
+    ensures { λ r. ⌜ ((old : List ℕ) → length old ≡ size → b ≡ getD old p 0 → r ≡ getD (putAt (landingOf (one .at) «ram_top» (one .system)) (one .byte) old) p 0) ⌝ }
 {
     match map::lands(one.at, ram_top, one.system) {
         Landing::Stored(q) => {
             if q != p {
                 return b;
             }
-            if (p as usize) < length { one.byte } else { b }
+            if (p as usize) < size { one.byte } else { b }
         }
         Landing::Device => b,
         Landing::Ignored => b,

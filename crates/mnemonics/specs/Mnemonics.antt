@@ -9,7 +9,7 @@ use mathlib.Core.List.{List, [], _∷_, _++_}
 use lib.Dec.{ltb}
 use lib.ListN.{length, replicate, getD}
 use Rattle.registers.specs.ConditionCodes.{ascii}
-use Rattle.registers.specs.Names.{textOf, wordName, indexWord, stackWord}
+use Rattle.registers.specs.Names.{registerText, wordName, indexWord, stackWord}
 use Rattle.registers.specs.declared.Word.{Word}
 use Rattle.opcodes.specs.Manual.{Row, Column, rows, each}
 use Rattle.opcodes.specs.declared.Acc.{Acc}
@@ -37,12 +37,12 @@ mnemonicWith bytes n = record { bytes = bytes; len = n }
 abbrev pub lettered : List ℕ → Mnemonic
 lettered l = mnemonicWith (l ++ replicate (5 - length l) 0) (length l)
 
-abbrev pub named : String → Mnemonic
-named text = lettered (ascii text)
+abbrev pub inLetters : String → Mnemonic
+inLetters text = lettered (ascii text)
 
 -- a stem, and the letter of an accumulator or of a register of 16 bits
-abbrev pub ending : String → ℕ → Mnemonic
-ending stem letter = lettered (ascii stem ++ (letter ∷ []))
+abbrev pub stemWith : String → ℕ → Mnemonic
+stemWith stem letter = lettered (ascii stem ++ (letter ∷ []))
 
 -- LB and the condition, or B and the condition
 abbrev pub branching : Bool → List ℕ → Mnemonic
@@ -54,7 +54,7 @@ accLetter B = code "B"
 
 -- the first letter of a register's name, and the only one
 abbrev pub wordLetter : Word → ℕ
-wordLetter w = getD (textOf (wordName w) .bytes) 0 0
+wordLetter w = getD (registerText (wordName w) .bytes) 0 0
 
 abbrev pub aluText : Binary → String
 aluText Add = "ADD"
@@ -104,40 +104,40 @@ softwareText Swi2 = "SWI2"
 softwareText Swi3 = "SWI3"
 
 abbrev pub registerMnemonic : RegisterOp → Bool → Mnemonic
-registerMnemonic (Alu o a) long = ending (aluText o) (accLetter a)
-registerMnemonic (OnAcc o a) long = ending (unaryText o) (accLetter a)
-registerMnemonic (TestAcc a) long = ending "TST" (accLetter a)
-registerMnemonic TestMemory long = named "TST"
-registerMnemonic Addd long = named "ADDD"
-registerMnemonic Subd long = named "SUBD"
-registerMnemonic (Load16 w) long = ending "LD" (wordLetter w)
-registerMnemonic (Cmp16 w) long = ending "CMP" (wordLetter w)
-registerMnemonic (Lea i) long = ending "LEA" (wordLetter (indexWord i))
+registerMnemonic (Alu o a) long = stemWith (aluText o) (accLetter a)
+registerMnemonic (OnAcc o a) long = stemWith (unaryText o) (accLetter a)
+registerMnemonic (TestAcc a) long = stemWith "TST" (accLetter a)
+registerMnemonic TestMemory long = inLetters "TST"
+registerMnemonic Addd long = inLetters "ADDD"
+registerMnemonic Subd long = inLetters "SUBD"
+registerMnemonic (Load16 w) long = stemWith "LD" (wordLetter w)
+registerMnemonic (Cmp16 w) long = stemWith "CMP" (wordLetter w)
+registerMnemonic (Lea i) long = stemWith "LEA" (wordLetter (indexWord i))
 registerMnemonic (Branch c) long = branching long (ascii (condText c))
-registerMnemonic Jmp long = named "JMP"
-registerMnemonic Nop long = named "NOP"
-registerMnemonic Daa long = named "DAA"
-registerMnemonic Sex long = named "SEX"
-registerMnemonic Mul long = named "MUL"
-registerMnemonic Abx long = named "ABX"
-registerMnemonic Andcc long = named "ANDCC"
-registerMnemonic Orcc long = named "ORCC"
-registerMnemonic Exg long = named "EXG"
-registerMnemonic Tfr long = named "TFR"
+registerMnemonic Jmp long = inLetters "JMP"
+registerMnemonic Nop long = inLetters "NOP"
+registerMnemonic Daa long = inLetters "DAA"
+registerMnemonic Sex long = inLetters "SEX"
+registerMnemonic Mul long = inLetters "MUL"
+registerMnemonic Abx long = inLetters "ABX"
+registerMnemonic Andcc long = inLetters "ANDCC"
+registerMnemonic Orcc long = inLetters "ORCC"
+registerMnemonic Exg long = inLetters "EXG"
+registerMnemonic Tfr long = inLetters "TFR"
 
 abbrev pub memoryMnemonic : MemoryOp → Bool → Mnemonic
-memoryMnemonic (OnMemory o) long = named (unaryText o)
-memoryMnemonic (Store8 a) long = ending "ST" (accLetter a)
-memoryMnemonic (Store16 w) long = ending "ST" (wordLetter w)
+memoryMnemonic (OnMemory o) long = inLetters (unaryText o)
+memoryMnemonic (Store8 a) long = stemWith "ST" (accLetter a)
+memoryMnemonic (Store16 w) long = stemWith "ST" (wordLetter w)
 memoryMnemonic Bsr long = branching long (ascii "SR")
-memoryMnemonic Jsr long = named "JSR"
-memoryMnemonic Rts long = named "RTS"
-memoryMnemonic Rti long = named "RTI"
-memoryMnemonic (Interrupt s) long = named (softwareText s)
-memoryMnemonic Cwai long = named "CWAI"
-memoryMnemonic Sync long = named "SYNC"
-memoryMnemonic (Push s) long = ending "PSH" (wordLetter (stackWord s))
-memoryMnemonic (Pull s) long = ending "PUL" (wordLetter (stackWord s))
+memoryMnemonic Jsr long = inLetters "JSR"
+memoryMnemonic Rts long = inLetters "RTS"
+memoryMnemonic Rti long = inLetters "RTI"
+memoryMnemonic (Interrupt s) long = inLetters (softwareText s)
+memoryMnemonic Cwai long = inLetters "CWAI"
+memoryMnemonic Sync long = inLetters "SYNC"
+memoryMnemonic (Push s) long = stemWith "PSH" (wordLetter (stackWord s))
+memoryMnemonic (Pull s) long = stemWith "PUL" (wordLetter (stackWord s))
 
 abbrev pub mnemonicOf : Op → Bool → Mnemonic
 mnemonicOf (Registers o) long = registerMnemonic o long
@@ -145,4 +145,4 @@ mnemonicOf (Memory o) long = memoryMnemonic o long
 
 -- the operation of each row has the row's own name; of the branches those of more than two bytes are long
 abbrev pub EachNamed : Type 0
-EachNamed = each (λ (r : Row) (c : Column). mnemonicOf (r .operation) (ltb 2 (c .bytes))) rows ≡ each (λ (r : Row) (c : Column). named (r .name)) rows
+EachNamed = each (λ (r : Row) (c : Column). mnemonicOf (r .operation) (ltb 2 (c .bytes))) rows ≡ each (λ (r : Row) (c : Column). inLetters (r .name)) rows

@@ -2,7 +2,7 @@
 ghost use mathlib.Core.Path.{_≡_};
 ghost use mathlib.Core.List.{[], _∷_};
 ghost use Rattle.registers.specs.ConditionCodes.{ascii};
-ghost use Rattle.mnemonics.specs.Mnemonics.{mnemonicWith, lettered, named, ending, branching, accLetter, wordLetter, aluText, unaryText, condText, softwareText};
+ghost use Rattle.mnemonics.specs.Mnemonics.{mnemonicWith, lettered, inLetters, stemWith, branching, accLetter, wordLetter, aluText, unaryText, condText, softwareText};
 use opcodes::Acc;
 use opcodes::Alu;
 use opcodes::Cond;
@@ -84,7 +84,7 @@ pub fn three_and_word(a: u8, b: u8, c: u8, word: Word) -> Mnemonic
 }
 
 pub fn of_alu(alu: Alu, acc: Acc) -> Mnemonic
-    ensures { λ r. ⌜ r ≡ ending (aluText alu) (accLetter acc) ⌝ }
+    ensures { λ r. ⌜ r ≡ stemWith (aluText alu) (accLetter acc) ⌝ }
 {
     match alu {
         Alu::Add => three_and_acc(b'A', b'D', b'D', acc),
@@ -118,14 +118,14 @@ fn unary_stem(unary: Unary) -> [u8; 3]
 }
 
 pub fn on_acc(unary: Unary, acc: Acc) -> Mnemonic
-    ensures { λ r. ⌜ r ≡ ending (unaryText unary) (accLetter acc) ⌝ }
+    ensures { λ r. ⌜ r ≡ stemWith (unaryText unary) (accLetter acc) ⌝ }
 {
     let stem = unary_stem(unary);
     three_and_acc(stem[0], stem[1], stem[2], acc)
 }
 
 pub fn on_memory(unary: Unary) -> Mnemonic
-    ensures { λ r. ⌜ r ≡ named (unaryText unary) ⌝ }
+    ensures { λ r. ⌜ r ≡ inLetters (unaryText unary) ⌝ }
 {
     let stem = unary_stem(unary);
     three(stem[0], stem[1], stem[2])
@@ -178,7 +178,7 @@ pub fn of_subroutine(long: bool) -> Mnemonic
 }
 
 pub fn of_software(software: Software) -> Mnemonic
-    ensures { λ r. ⌜ r ≡ named (softwareText software) ⌝ }
+    ensures { λ r. ⌜ r ≡ inLetters (softwareText software) ⌝ }
 {
     match software {
         Software::Swi => three(b'S', b'W', b'I'),

@@ -7,7 +7,7 @@ use mathlib.Core.List.{List, [], _∷_, _++_}
 use borrow.Author.Tests.{ltb-true}
 use lib.Dec.{eqb, ltb}
 use Rattle.opcodes.specs.Manual.{Row, Column, rows, amongColumns, amongRows, prefix, entryOf}
-use Rattle.opcodes.specs.Places.{says, inRow, named, Stands, documented, undocumented, EachPlace}
+use Rattle.opcodes.specs.Places.{entrySaid, inRow, named, Stands, documented, undocumented, EachPlace}
 use Rattle.opcodes.specs.declared.Entry.{Entry}
 use Rattle.opcodes.specs.declared.Place.{Place}
 use Rattle.opcodes.specs.declared.Place.the-variants.{Instruction, None}
@@ -30,7 +30,7 @@ of-columns : (n : ℕ) (r : Row) (cs : List Column) (x : Place) (m : List Entry)
 unfolding inRow
 of-columns n r [] x m h = h
 of-columns n r (c ∷ cs) x m h =
-    pick (eqb n (c .opcode)) (says r c) (amongColumns n (r .operation) cs x) (inRow n r cs) m (of-columns n r cs x m h)
+    pick (eqb n (c .opcode)) (entrySaid r c) (amongColumns n (r .operation) cs x) (inRow n r cs) m (of-columns n r cs x m h)
 
 of-rows : (n : ℕ) (rs : List Row) → amongRows n rs ≡ first (named n rs)
 unfolding first named

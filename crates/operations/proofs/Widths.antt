@@ -9,7 +9,7 @@ use lib.Bits.{and-lt, or-lt}
 use lib.Dec.{eqb, ltb, lit<}
 use Rattle.answers.specs.declared.Refusal.{Refusal}
 use Rattle.answers.specs.declared.Refusal.the-variants.{TransferCode}
-use Rattle.u8oru16.specs.Negated.{extended}
+use Rattle.u8oru16.specs.Negated.{signExtended}
 use Rattle.u8oru16.specs.Value.{valueOf}
 use Rattle.u8oru16.specs.declared.u8u16.{u8u16}
 use Rattle.u8oru16.specs.declared.u8u16.the-variants.{u8, u16}
@@ -128,7 +128,7 @@ with-fits B r o f k = record { x = f .x; y = f .y; u = f .u; s = f .s; pc = f .p
 
 -- ---- operations
 
-signed-fits : (b : ℕ) → b < 256 → valueOf (extended (u8 b)) < 65536
+signed-fits : (b : ℕ) → b < 256 → valueOf (signExtended (u8 b)) < 65536
 signed-fits b h = go (ltb b 0x80)
   where
     go : (t : Bool) → cond t b (0xFF00 + b) < 65536
@@ -187,7 +187,7 @@ changes-fit Jmp s mem r ea g = branch-fits mem r ea g true
 changes-fit Nop s mem r ea g = g .registers
 changes-fit Daa s mem r ea g =
     with-fits A r _ (g .registers) (record { value = mod-lt (corrected (r .cc) (r .a)) (lit< tt); codes = codes-fit (r .cc) (daaFlags (r .cc) (r .a)) (g .registers .cc) })
-changes-fit Sex s mem r ea g = on-d r (g .registers) (sexFlags (valueOf (extended (u8 (r .b))))) (valueOf (extended (u8 (r .b)))) (signed-fits (r .b) (g .registers .b))
+changes-fit Sex s mem r ea g = on-d r (g .registers) (sexFlags (valueOf (signExtended (u8 (r .b))))) (valueOf (signExtended (u8 (r .b)))) (signed-fits (r .b) (g .registers .b))
 changes-fit Mul s mem r ea g =
     on-d r (g .registers) (manual MUL (r .cc) (r .a) (r .b) .flags) (manual MUL (r .cc) (r .a) (r .b) .value) (result-fits Manual MUL (r .cc) (r .a) (r .b) (g .registers .a) (g .registers .b))
 changes-fit Abx s mem r ea g = word-written r (g .registers) X ((r .x + r .b) % 65536) (mod-lt (r .x + r .b) (lit< tt))

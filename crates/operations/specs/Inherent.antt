@@ -4,7 +4,7 @@ use Prim.Native.Nat.{ℕ, _+_, _/_, _%_}
 use mathlib.Core.Bool.{Bool, cond, _&&_, _||_}
 use mathlib.Core.List.{List, [], _∷_}
 use lib.Dec.{eqb, leb, ltb}
-use Rattle.u8oru16.specs.Negated.{extended}
+use Rattle.u8oru16.specs.Negated.{signExtended}
 use Rattle.u8oru16.specs.Value.{valueOf}
 use Rattle.u8oru16.specs.declared.u8u16.the-variants.{u8}
 use Rattle.registers.specs.ConditionCodes.{flag}
@@ -43,7 +43,7 @@ sexFlags d = (N := leb 0x8000 d) ∷ (Z := eqb d 0) ∷ []
 
 abbrev pub sexOf : Set → Set
 sexOf r =
-    let d = valueOf (extended (u8 (r .b))) in
+    let d = valueOf (signExtended (u8 (r .b))) in
     withWord (withCodes r (codes (r .cc) (sexFlags d))) D d
 
 -- MUL: A times B, unsigned, as D; Z by D, C is bit 7 of B; N and V not affected

@@ -8,7 +8,7 @@ use borrow.Author.Tests.{le-leb, lt-leb, ne-eqb}
 use lib.ListN.{length, take, drop, length-append, length-drop}
 use lib.Seq.{sets, take-all}
 use Rattle.registers.specs.declared.Flags.the-variants.{Bought, Manual}
-use Rattle.srecord.specs.File.{loadedOf, memoryAfter}
+use Rattle.srecord.specs.File.{loadedOf, memoryLoaded}
 use Rattle.answers.specs.declared.Answer.the-variants.{Done, Refused}
 use Rattle.srecord.specs.declared.Loaded.{Loaded}
 use Rattle.answers.specs.declared.Refusal.{Refusal}
@@ -21,7 +21,7 @@ use Rattle.machine.specs.declared.Settings.{Settings}
 use Rattle.calls.specs.declared.Report.{Report}
 use Rattle.calls.specs.Resets.{resetOf, memoryAfterReset}
 use Rattle.player.specs.Plays.{refusalLine, zeros}
-use Rattle.player.specs.Boots.{ramTop, flagByte, steps, text, shown, stepLines, runLines, bootLines, bootPrinted}
+use Rattle.player.specs.Boots.{ramTop, flagByte, steps, text, reportLine, stepLines, runLines, bootLines, bootPrinted}
 use Rattle.player.proofs.Playing.{line-bound}
 
 -- ---- the steps
@@ -39,11 +39,11 @@ module _ (t : Settings) (out₀ : List ℕ) (at : ℕ) where
   module _ (whole : List ℕ) where
     one-less : (n used : ℕ) (out mem : List ℕ) (m : Machine) → ToGo t out₀ at whole (suc n) used out mem m
         → {r : Report} → r ≡ stepOf mem m t → {new : List ℕ} → new ≡ memoryAfterStep mem m t
-        → {size : ℕ} {text : List ℕ} → size ≡ length (shown r) → text ≡ sets out used (shown r)
+        → {size : ℕ} {text : List ℕ} → size ≡ length (reportLine r) → text ≡ sets out used (reportLine r)
         → ToGo t out₀ at whole n (used + size) text new (r .machine)
     unfolding stepLines
     one-less n used out mem m h {r} er {new} en {size} {text} ee et =
-        let x = shown (stepOf mem m t) in
+        let x = reportLine (stepOf mem m t) in
         let y = stepLines t n (memoryAfterStep mem m t) (stepOf mem m t .machine) in
         let b = line-bound (r .answer) (r .machine) in
         record {
@@ -54,7 +54,7 @@ module _ (t : Settings) (out₀ : List ℕ) (at : ℕ) where
 
     pub turn : (n used : ℕ) (out mem : List ℕ) (m : Machine) → ToGo t out₀ at whole n used out mem m → 0 < n
         → {r : Report} → r ≡ stepOf mem m t → {new : List ℕ} → new ≡ memoryAfterStep mem m t
-        → {size : ℕ} {text : List ℕ} → size ≡ length (shown r) → text ≡ sets out used (shown r)
+        → {size : ℕ} {text : List ℕ} → size ≡ length (reportLine r) → text ≡ sets out used (reportLine r)
         → ToGo t out₀ at whole (n - 1) (used + size) text new (r .machine)
     turn n used out mem m h p er en ee et = let e : n ≡ suc (n - 1) = omega arith in one-less (n - 1) used out mem m (rw e at h) er en ee et
 
@@ -70,12 +70,12 @@ module _ (t : Settings) (out₀ : List ℕ) (at : ℕ) where
 
 module _ (t : Settings) (n : ℕ) (mem out₀ : List ℕ) where
   pub reset-first : {m : Machine} → m ≡ fresh → {r : Report} → r ≡ resetOf mem m t → {new : List ℕ} → new ≡ memoryAfterReset mem m t
-      → {at : ℕ} {out : List ℕ} → at ≡ length (shown r) → out ≡ sets out₀ 0 (shown r)
+      → {at : ℕ} {out : List ℕ} → at ≡ length (reportLine r) → out ≡ sets out₀ 0 (reportLine r)
       → {end : ℕ} {done : List ℕ} → end ≡ at + length (stepLines t n new (r .machine)) → done ≡ sets out at (stepLines t n new (r .machine))
       → (end ≡ length (runLines t n mem)) × (done ≡ sets out₀ 0 (runLines t n mem))
   unfolding runLines
   reset-first em er en ea eo ee ed =
-      let x = shown (resetOf mem fresh t) in
+      let x = reportLine (resetOf mem fresh t) in
       let y = stepLines t n (memoryAfterReset mem fresh t) (resetOf mem fresh t .machine) in
       let z : 0 + length x ≡ length x = omega arith in
       (rw (ee, ea, en, er, em) (omega (arith, length-append x y)), rw (ed, eo, ea, en, er, em) (sym (rw z at (sets-append out₀ x y 0))))
@@ -87,7 +87,7 @@ module _ (t : Settings) (n : ℕ) (file : List ℕ) {blank : List ℕ} (eb : bla
   unfolding bootLines
   refused-file ea = rw (← eb, ← el, ea)
 
-  pub sound-file : {mem : List ℕ} → mem ≡ memoryAfter blank file → l .answer ≡ Done → bootLines t n file ≡ runLines t n mem
+  pub sound-file : {mem : List ℕ} → mem ≡ memoryLoaded blank file → l .answer ≡ Done → bootLines t n file ≡ runLines t n mem
   unfolding bootLines
   sound-file em ea = rw (em, ← eb, ← el, ea)
 

@@ -12,7 +12,7 @@ use Rattle.answers.specs.Numbers.{numberOf}
 use Rattle.answers.specs.declared.Refusal.the-variants.{Malformed}
 use Rattle.text.proofs.Texts.{alone-fits}
 use Rattle.machine.specs.Machine.{fresh, settingsOf}
-use Rattle.srecord.specs.File.{loadedOf, memoryAfter}
+use Rattle.srecord.specs.File.{loadedOf, memoryLoaded}
 use Rattle.answers.specs.declared.Answer.{Answer}
 use Rattle.answers.specs.declared.Answer.the-variants.{Done, Refused}
 use Rattle.calls.specs.Steps.{stepOf, memoryAfterStep}
@@ -46,7 +46,7 @@ module _ (t : Settings) where
 
   file-fits : (n : ℕ) → n < 65536 → (file : List ℕ) → length (bootLines t n file) ≤ 33 * 65536
   unfolding bootLines runLines
-  file-fits n h file = go (loadedOf (zeros 65536) file .answer) (memoryAfter (zeros 65536) file)
+  file-fits n h file = go (loadedOf (zeros 65536) file .answer) (memoryLoaded (zeros 65536) file)
     where
       go : (a : Answer) (mem : List ℕ) → length (loadedLines a t n mem) ≤ 33 * 65536
       go Done mem =

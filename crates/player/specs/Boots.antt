@@ -10,7 +10,7 @@ use lib.ListN.{length, getD, drop, replicate}
 use Rattle.answers.specs.declared.Answer.{Answer}
 use Rattle.answers.specs.declared.Answer.the-variants.{Done, Refused}
 use Rattle.answers.specs.declared.Refusal.the-variants.{Malformed}
-use Rattle.srecord.specs.File.{loadedOf, memoryAfter}
+use Rattle.srecord.specs.File.{loadedOf, memoryLoaded}
 use Rattle.memory.specs.Fits.{Bytes}
 use Rattle.registers.specs.declared.Flags.the-variants.{Bought, Manual}
 use Rattle.machine.specs.Machine.{fresh, settingsOf}
@@ -46,17 +46,17 @@ isWhole input = leb 5 (length input) && leb (length input) (5 + 0x100000)
 -- ---- the run
 
 -- the line of a call that is not recorded
-abbrev pub shown : Report → List ℕ
-shown r = callLine (r .answer) (r .machine)
+abbrev pub reportLine : Report → List ℕ
+reportLine r = callLine (r .answer) (r .machine)
 
 -- n steps, a line for each
 unfoldable pub stepLines : Settings → ℕ → List ℕ → Machine → List ℕ
 stepLines t zero mem m = []
-stepLines t (suc n) mem m = shown (stepOf mem m t) ++ stepLines t n (memoryAfterStep mem m t) (stepOf mem m t .machine)
+stepLines t (suc n) mem m = reportLine (stepOf mem m t) ++ stepLines t n (memoryAfterStep mem m t) (stepOf mem m t .machine)
 
 -- a reset of a fresh machine, and then n steps
 unfoldable pub runLines : Settings → ℕ → List ℕ → List ℕ
-runLines t n mem = shown (resetOf mem fresh t) ++ stepLines t n (memoryAfterReset mem fresh t) (resetOf mem fresh t .machine)
+runLines t n mem = reportLine (resetOf mem fresh t) ++ stepLines t n (memoryAfterReset mem fresh t) (resetOf mem fresh t .machine)
 
 -- by the answer to the file: a refused file prints the number of its refusal, a sound one is run in the memory that it left
 abbrev pub loadedLines : Answer → Settings → ℕ → List ℕ → List ℕ
@@ -65,7 +65,7 @@ loadedLines Done t n mem = runLines t n mem
 
 -- the file's data are laid in zeroed memory
 unfoldable pub bootLines : Settings → ℕ → List ℕ → List ℕ
-bootLines t n file = loadedLines (loadedOf (zeros 65536) file .answer) t n (memoryAfter (zeros 65536) file)
+bootLines t n file = loadedLines (loadedOf (zeros 65536) file .answer) t n (memoryLoaded (zeros 65536) file)
 
 -- a malformed head prints its number, 16
 unfoldable pub bootPrinted : List ℕ → List ℕ

@@ -24,7 +24,7 @@ use Rattle.operations.specs.Transfers.{transferable}
 use Rattle.stack.specs.Frames.{stackedBy, framed}
 use Rattle.stack.specs.Laws.{topMet}
 use Rattle.stack.specs.Pushing.{order, chosen}
-use Rattle.vectors.specs.Service.{wordIn}
+use Rattle.vectors.specs.Service.{vectorWord}
 use Rattle.vectors.specs.Table.{addressOf, softwareVector}
 
 -- 7: the post-byte of TFR or EXG, which stands at ea, names no two registers of one size
@@ -69,7 +69,7 @@ memoryToZero Rts s mem r = false
 memoryToZero Rti s mem r = false
 memoryToZero (Swi which) s mem r =
     let after = afterFrame s mem r in
-    not (ltb (r .s) 12) && eqb (byteAt after (wordIn after (addressOf (softwareVector which)))) 0
+    not (ltb (r .s) 12) && eqb (byteAt after (vectorWord after (addressOf (softwareVector which)))) 0
 memoryToZero Cwai s mem r = false
 memoryToZero Sync s mem r = false
 memoryToZero (Push own) s mem r = false

@@ -15,17 +15,17 @@ use Rattle.registers.specs.declared.Index.the-variants.{X as indexX, Y a
 use Rattle.registers.specs.declared.Stack.{Stack}
 use Rattle.registers.specs.declared.Stack.the-variants.{S as stackS, U as stackU}
 
-abbrev pub sizeOf : Name → ℕ
-sizeOf A = 1
-sizeOf B = 1
-sizeOf D = 2
-sizeOf X = 2
-sizeOf Y = 2
-sizeOf U = 2
-sizeOf S = 2
-sizeOf PC = 2
-sizeOf DP = 1
-sizeOf CC = 1
+abbrev pub registerSize : Name → ℕ
+registerSize A = 1
+registerSize B = 1
+registerSize D = 2
+registerSize X = 2
+registerSize Y = 2
+registerSize U = 2
+registerSize S = 2
+registerSize PC = 2
+registerSize DP = 1
+registerSize CC = 1
 
 abbrev pub lettersWith : List ℕ → ℕ → Letters
 lettersWith bytes n = record { bytes = bytes; len = n }
@@ -33,17 +33,17 @@ lettersWith bytes n = record { bytes = bytes; len = n }
 abbrev letters : String → Letters
 letters name = lettersWith (padded 2 name) (length (ascii name))
 
-abbrev pub textOf : Name → Letters
-textOf A = letters "A"
-textOf B = letters "B"
-textOf D = letters "D"
-textOf X = letters "X"
-textOf Y = letters "Y"
-textOf U = letters "U"
-textOf S = letters "S"
-textOf PC = letters "PC"
-textOf DP = letters "DP"
-textOf CC = letters "CC"
+abbrev pub registerText : Name → Letters
+registerText A = letters "A"
+registerText B = letters "B"
+registerText D = letters "D"
+registerText X = letters "X"
+registerText Y = letters "Y"
+registerText U = letters "U"
+registerText S = letters "S"
+registerText PC = letters "PC"
+registerText DP = letters "DP"
+registerText CC = letters "CC"
 
 -- the registers of 16 bits that LD, ST and CMP name, as registers
 abbrev pub wordName : Word → Name

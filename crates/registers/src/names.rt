@@ -1,6 +1,6 @@
 // The registers' names: their letters and sizes; and Word, Index and Stack, which name some of the registers, turned into names of the set.
 ghost use mathlib.Core.Path.{_≡_};
-ghost use Rattle.registers.specs.Names.{sizeOf, lettersWith, textOf, wordName, indexWord, stackWord, otherStack};
+ghost use Rattle.registers.specs.Names.{registerSize, lettersWith, registerText, wordName, indexWord, stackWord, otherStack};
 use crate::Index;
 use crate::Letters;
 use crate::Name;
@@ -15,7 +15,7 @@ fn letters_of(bytes: [u8; 2], len: usize) -> Letters
 
 impl Name {
     pub fn to_str(self) -> Letters
-        ensures { λ r. ⌜ r ≡ textOf self ⌝ }
+        ensures { λ r. ⌜ r ≡ registerText self ⌝ }
     {
         match self {
             Name::A => letters_of(*b"A\0", 1),
@@ -33,7 +33,7 @@ impl Name {
 }
 
 pub fn reg_size(reg: Name) -> u16
-    ensures { λ r. ⌜ r ≡ sizeOf reg ⌝ }
+    ensures { λ r. ⌜ r ≡ registerSize reg ⌝ }
 {
     match reg {
         Name::A => 1,

@@ -8,7 +8,7 @@ use native.Mathlib.Omega.{arith}
 use borrow.Author.Tests.{lt-leb, leb-true, eqb-true}
 use lib.Dec.{leb, eqb}
 use lib.ListN.{length, getD}
-use Rattle.runfile.specs.Format.{Read, got, missing, wordAt, settingsAt, piecesAt, operationAt, operationsAt, sectionsOf, wholly, RunFile, says, malformed, parsed, nextOf, InOrder, TheyFit, NotLonger, ThenNone}
+use Rattle.runfile.specs.Format.{Read, got, missing, twoBytesAt, settingsAt, piecesAt, operationAt, operationsAt, sectionsOf, wholly, RunFile, says, malformed, parsed, nextOf, InOrder, TheyFit, NotLonger, ThenNone}
 use Rattle.runfile.specs.declared.Next.the-variants.{Is}
 use Rattle.runfile.specs.declared.Operation.{Operation}
 use Rattle.runfile.specs.declared.Operation.the-variants.{Step}
@@ -70,11 +70,11 @@ module _ (file : List ℕ) (f : RunFile) (h : parsed file ≡ says f) where
   last : (start : ℕ) × Stand file (f .operations) start (length file)
   unfolding sectionsOf
   last =
-      let a = then-got (wordAt file 0) (parts .1) in
+      let a = then-got (twoBytesAt file 0) (parts .1) in
       let b = then-got (settingsAt file (a .0) (a .1 .0)) (a .1 .1 .1) in
-      let c = then-got (wordAt file (b .1 .0)) (b .1 .1 .1) in
+      let c = then-got (twoBytesAt file (b .1 .0)) (b .1 .1 .1) in
       let d = then-got (piecesAt file (c .0) (c .1 .0)) (c .1 .1 .1) in
-      let m = then-got (wordAt file (d .1 .0)) (d .1 .1 .1) in
+      let m = then-got (twoBytesAt file (d .1 .0)) (d .1 .1 .1) in
       let o = then-got (operationsAt file (m .0) (m .1 .0)) (m .1 .1 .1) in
       let w : _≡_ {A = RunFile} (record { settings = b .0; pieces = d .0; operations = o .0 }) f = cc (o .1 .1 .1) in
       let e : o .1 .0 ≡ length file = cc (o .1 .1 .1) in

@@ -10,7 +10,7 @@ use borrow.Author.Tests.{leb-true, leb-false, le-leb, lt-leb, not-true, not-fals
 use lib.Dec.{eqb, leb}
 use lib.ListN.{length, getD, take, drop}
 use Rattle.machine.specs.Machine.{settingsOf}
-use Rattle.runfile.specs.Format.{Read, got, missing, then, room, wordIn, wordAt, defaultFlags, flaggedAt, settingsAt, settled, sectionsOf, spanAt, pieceAt, operationAt, operationNumbered, Piece}
+use Rattle.runfile.specs.Format.{Read, got, missing, andThen, room, wordIn, twoBytesAt, defaultFlags, flaggedAt, settingsAt, settled, sectionsOf, spanAt, pieceAt, operationAt, operationNumbered, Piece}
 use Rattle.runfile.specs.declared.Operation.{Operation}
 
 -- a sum that fits, and one that could wrap
@@ -33,17 +33,17 @@ pub one-byte : {at n : ℕ} → at < n → leb (at + 1) n ≡ true
 one-byte {at} {n} h = le-leb (at + 1) n (omega arith)
 
 -- the first of two things read one after the other
-pub then-got : {A B : Type 0} (r : Read A) {f : A → ℕ → Read B} {b : B} {end : ℕ} → then r f ≡ got b end
+pub then-got : {A B : Type 0} (r : Read A) {f : A → ℕ → Read B} {b : B} {end : ℕ} → andThen r f ≡ got b end
     → (a : A) × ((next : ℕ) × ((r ≡ got a next) × (f a next ≡ got b end)))
 then-got (got a next) e = (a, (next, (refl, e)))
 then-got missing e = let z : _≡_ {A = ℕ} 0 1 = cc in absurd (omega arith)
 
-pub word-got : (file : List ℕ) (at : ℕ) → at + 2 ≤ length file → wordAt file at ≡ got (wordIn file at) (at + 2)
-unfolding wordAt
+pub word-got : (file : List ℕ) (at : ℕ) → at + 2 ≤ length file → twoBytesAt file at ≡ got (wordIn file at) (at + 2)
+unfolding twoBytesAt
 word-got file at h = rw (le-leb (at + 2) (length file) h)
 
-pub word-missing : (file : List ℕ) (at : ℕ) → length file < at + 2 → wordAt file at ≡ missing
-unfolding wordAt
+pub word-missing : (file : List ℕ) (at : ℕ) → length file < at + 2 → twoBytesAt file at ≡ missing
+unfolding twoBytesAt
 word-missing file at h = rw (lt-leb (at + 2) (length file) h)
 
 -- ---- the settings
@@ -81,7 +81,7 @@ module _ (file : List ℕ) (at : ℕ) where
       let e : at + 2 + 2 ≡ at + 4 = omega arith in
       rw (word-got file at (omega arith), word-got file (at + 2) (omega arith), e) (go goes)
     where
-      go : (t : Bool) → (then {A = ℕ × ℕ} (cond t (got (wordIn file at, size) (at + 4)) missing) λ s from. got (record { address = s .0; bytes = take (s .1) (drop from file) }) (from + s .1))
+      go : (t : Bool) → (andThen {A = ℕ × ℕ} (cond t (got (wordIn file at, size) (at + 4)) missing) λ s from. got (record { address = s .0; bytes = take (s .1) (drop from file) }) (from + s .1))
           ≡ cond t (got this (at + 4 + size)) missing
       go true = refl
       go false = refl

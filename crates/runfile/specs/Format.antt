@@ -25,9 +25,9 @@ pub data Read (A : Type 0) : Type 0 where
   missing : Read A
 
 -- read one thing, then the next from the place after it
-abbrev pub then : {A B : Type 0} → Read A → (A → ℕ → Read B) → Read B
-then (got a at) f = f a at
-then missing f = missing
+abbrev pub andThen : {A B : Type 0} → Read A → (A → ℕ → Read B) → Read B
+andThen (got a at) f = f a at
+andThen missing f = missing
 
 -- the file has n bytes from a place on
 abbrev pub room : List ℕ → ℕ → ℕ → Bool
@@ -37,8 +37,8 @@ room file at n = leb (at + n) (length file)
 abbrev pub wordIn : List ℕ → ℕ → ℕ
 wordIn file at = 256 * getD file at 0 + getD file (at + 1) 0
 
-unfoldable pub wordAt : List ℕ → ℕ → Read ℕ
-wordAt file at = cond (room file at 2) (got (wordIn file at) (at + 2)) missing
+unfoldable pub twoBytesAt : List ℕ → ℕ → Read ℕ
+twoBytesAt file at = cond (room file at 2) (got (wordIn file at) (at + 2)) missing
 
 -- ---- settings
 
@@ -54,12 +54,12 @@ abbrev pub defaultFlags : Flags
 defaultFlags = Bought
 
 abbrev pub flaggedAt : List ℕ → ℕ → ℕ → Read Settings
-flaggedAt file top at = then (flagAt file at) λ f next. got (settingsOf top f) next
+flaggedAt file top at = andThen (flagAt file at) λ f next. got (settingsOf top f) next
 
 -- count 2: ram_top; count 3: ram_top and flags
 unfoldable pub settingsAt : List ℕ → ℕ → ℕ → Read Settings
 settingsAt file count at =
-    then (wordAt file at) λ top next.
+    andThen (twoBytesAt file at) λ top next.
     cond (eqb count 2) (got (settingsOf top defaultFlags) next)
     (cond (eqb count 3) (flaggedAt file top next)
     missing)
@@ -73,19 +73,19 @@ pub record Piece : Type 0 where
 -- a piece's address and length, and the place of its bytes: all of them are there, and none is to go past FFFF
 unfoldable pub spanAt : List ℕ → ℕ → Read (ℕ × ℕ)
 spanAt file at =
-    then (wordAt file at) λ address next.
-    then (wordAt file next) λ size from.
+    andThen (twoBytesAt file at) λ address next.
+    andThen (twoBytesAt file next) λ size from.
     cond (room file from size && leb (address + size) 0x10000) (got (address, size) from) missing
 
 unfoldable pub pieceAt : List ℕ → ℕ → Read Piece
-pieceAt file at = then (spanAt file at) λ s from. got (record { address = s .0; bytes = take (s .1) (drop from file) }) (from + s .1)
+pieceAt file at = andThen (spanAt file at) λ s from. got (record { address = s .0; bytes = take (s .1) (drop from file) }) (from + s .1)
 
 -- n pieces, one after another
 unfoldable pub piecesAt : List ℕ → ℕ → ℕ → Read (List Piece)
 piecesAt file zero at = got [] at
 piecesAt file (suc n) at =
-    then (pieceAt file at) λ p next.
-    then (piecesAt file n next) λ ps end.
+    andThen (pieceAt file at) λ p next.
+    andThen (piecesAt file n next) λ ps end.
     got (p ∷ ps) end
 
 -- ---- operations
@@ -101,8 +101,8 @@ operationAt file at = cond (room file at 1 && leb (getD file at 0) 5) (got (oper
 unfoldable pub operationsAt : List ℕ → ℕ → ℕ → Read (List Operation)
 operationsAt file zero at = got [] at
 operationsAt file (suc n) at =
-    then (operationAt file at) λ o next.
-    then (operationsAt file n next) λ os end.
+    andThen (operationAt file at) λ o next.
+    andThen (operationsAt file n next) λ os end.
     got (o ∷ os) end
 
 -- ---- the file
@@ -115,18 +115,18 @@ pub record RunFile : Type 0 where
 -- the second and the third section, each after its count
 abbrev pub afterSettings : List ℕ → Settings → ℕ → Read RunFile
 afterSettings file s at =
-    then (wordAt file at) λ n from.
-    then (piecesAt file n from) λ ps next.
-    then (wordAt file next) λ m start.
-    then (operationsAt file m start) λ os end.
+    andThen (twoBytesAt file at) λ n from.
+    andThen (piecesAt file n from) λ ps next.
+    andThen (twoBytesAt file next) λ m start.
+    andThen (operationsAt file m start) λ os end.
     got (record { settings = s; pieces = ps; operations = os }) end
 
 -- the sections after the settings, where these could be read
 abbrev pub settled : List ℕ → Read Settings → Read RunFile
-settled file r = then r λ s next. afterSettings file s next
+settled file r = andThen r λ s next. afterSettings file s next
 
 unfoldable pub sectionsOf : List ℕ → Read RunFile
-sectionsOf file = then (wordAt file 0) λ count at. settled file (settingsAt file count at)
+sectionsOf file = andThen (twoBytesAt file 0) λ count at. settled file (settingsAt file count at)
 
 pub data Parsed : Type 0 where
   says : RunFile → Parsed
@@ -153,13 +153,13 @@ loaded size (says f) = Ready (record { operations = size - length (f .operations
 loaded size malformed = Refused Malformed
 
 -- pieces laid raw, in order
-abbrev pub laid : List Piece → List ℕ → List ℕ
-laid [] mem = mem
-laid (p ∷ ps) mem = laid ps (sets mem (p .address) (p .bytes))
+abbrev pub piecesLaid : List Piece → List ℕ → List ℕ
+piecesLaid [] mem = mem
+piecesLaid (p ∷ ps) mem = piecesLaid ps (sets mem (p .address) (p .bytes))
 
 -- a malformed file places nothing
 abbrev pub placed : Parsed → List ℕ → List ℕ
-placed (says f) mem = laid (f .pieces) mem
+placed (says f) mem = piecesLaid (f .pieces) mem
 placed malformed mem = mem
 
 -- ---- the laws
@@ -190,5 +190,5 @@ endOf size missing = size + 1
 
 -- what is laid of pieces that were read
 abbrev pub laidOf : Read (List Piece) → List ℕ → List ℕ
-laidOf (got ps end) mem = laid ps mem
+laidOf (got ps end) mem = piecesLaid ps mem
 laidOf missing mem = mem

@@ -11,10 +11,10 @@ use lib.ListN.{length, take, drop, replicate, length-append, length-drop, length
 use lib.Seq.{sets, sets-eq, take-at, drop-append-add, drop-drop, take-add, length-take-le, take-all}
 use borrow.Author.Tests.{eq-eqb, ne-eqb, le-leb, eqb-true, lt-ltb, le-ltb}
 use Rattle.text.specs.Hex.{glyph}
-use Rattle.srecord.specs.Layout.{pairs, textOf}
+use Rattle.srecord.specs.Layout.{pairs, lineText}
 use Rattle.srecord.specs.Line.{Meaning, piece, start, mayHold, meant, lineOf}
-use Rattle.srecord.specs.File.{linesOf, meaningsOf, done, judged, landed, loadedOf, memoryAfter}
-use Rattle.srecord.specs.Written.{rowOf, isZero, rowText, rowsText, textFor}
+use Rattle.srecord.specs.File.{linesOf, meaningsOf, done, judged, landed, loadedOf, memoryLoaded}
+use Rattle.srecord.specs.Written.{bytesOfRow, isZero, rowText, rowsText, textFor}
 use Rattle.srecord.specs.Promises.{blank, ReadsBack, OneForm}
 use Rattle.srecord.specs.declared.Loaded.{Loaded}
 use Rattle.srecord.proofs.Bools.{and-parts}
@@ -50,14 +50,14 @@ cut (c ∷ l) rest h = rw (ne-eqb c 10 (h .0), cut l rest (h .1))
 
 -- the first line of a text
 line-cut : (kind a : ℕ) (d rest : List ℕ) → a < 65536 → Each d → mayHold kind (length d) ≡ true
-    → meaningsOf (textOf kind a d ++ rest) ≡ meant kind a d ∷ meaningsOf rest
+    → meaningsOf (lineText kind a d ++ rest) ≡ meant kind a d ∷ meaningsOf rest
 unfolding meaningsOf
 line-cut kind a d rest low are may =
     let k = hold-kinds (held kind (length d) may) in
     let t = text-is kind a d in
     let p = pairs (allBytes a d) in
     let c = cut (83 ∷ kind ∷ p) rest ((λ e. omega arith), ((λ e. omega arith), no-feed _ (are-bytes kind a d low are may))) in
-    let s : textOf kind a d ++ rest ≡ (83 ∷ kind ∷ p) ++ (10 ∷ rest) =
+    let s : lineText kind a d ++ rest ≡ (83 ∷ kind ∷ p) ++ (10 ∷ rest) =
     rw t (ap (λ (l : List ℕ). 83 ∷ kind ∷ l) (append-assoc p (10 ∷ []) rest)) in
     ap (λ (l : List ℕ). map lineOf (linesOf l)) s
     ∙ ap (map lineOf) c
@@ -137,27 +137,27 @@ blank-length = length-replicate {A = ℕ} 65536 0
 module _ (mem : List ℕ) (full : length mem ≡ 65536) (are : Each mem) where
   module _ (k : ℕ) (rest : List ℕ) (h : k < 2048) where
     -- a row and what follows it
-    row-means : meaningsOf (textOf 49 (32 * k) (rowOf mem k) ++ rest) ≡ piece (32 * k) (rowOf mem k) ∷ meaningsOf rest
+    row-means : meaningsOf (lineText 49 (32 * k) (bytesOfRow mem k) ++ rest) ≡ piece (32 * k) (bytesOfRow mem k) ∷ meaningsOf rest
     row-means =
         let w = row-width mem k full h in
-        line-cut 49 (32 * k) (rowOf mem k) rest (omega arith) (each-take 32 (drop (32 * k) mem) (each-drop (32 * k) mem are)) (rw w)
-        ∙ rw (le-leb (32 * k + length (rowOf mem k)) 65536 (omega arith))
+        line-cut 49 (32 * k) (bytesOfRow mem k) rest (omega arith) (each-take 32 (drop (32 * k) mem) (each-drop (32 * k) mem are)) (rw w)
+        ∙ rw (le-leb (32 * k + length (bytesOfRow mem k)) 65536 (omega arith))
 
     judge-row : judged (meaningsOf (rowText mem k ++ rest)) ≡ judged (meaningsOf rest)
     unfolding rowText judged
-    judge-row = go (isZero (rowOf mem k)) refl
+    judge-row = go (isZero (bytesOfRow mem k)) refl
       where
-        go : (w : Bool) → isZero (rowOf mem k) ≡ w
-            → judged (meaningsOf (cond (isZero (rowOf mem k)) [] (textOf 49 (32 * k) (rowOf mem k)) ++ rest)) ≡ judged (meaningsOf rest)
+        go : (w : Bool) → isZero (bytesOfRow mem k) ≡ w
+            → judged (meaningsOf (cond (isZero (bytesOfRow mem k)) [] (lineText 49 (32 * k) (bytesOfRow mem k)) ++ rest)) ≡ judged (meaningsOf rest)
         go true e = rw e
         go false e = rw (e, row-means)
 
     land-row : landed (meaningsOf (rowText mem k ++ rest)) (upTo mem 65536 (32 * k)) ≡ landed (meaningsOf rest) (upTo mem 65536 (32 * k + 32))
     unfolding rowText landed
-    land-row = go (isZero (rowOf mem k)) refl
+    land-row = go (isZero (bytesOfRow mem k)) refl
       where
-        go : (w : Bool) → isZero (rowOf mem k) ≡ w
-            → landed (meaningsOf (cond (isZero (rowOf mem k)) [] (textOf 49 (32 * k) (rowOf mem k)) ++ rest)) (upTo mem 65536 (32 * k))
+        go : (w : Bool) → isZero (bytesOfRow mem k) ≡ w
+            → landed (meaningsOf (cond (isZero (bytesOfRow mem k)) [] (lineText 49 (32 * k) (bytesOfRow mem k)) ++ rest)) (upTo mem 65536 (32 * k))
             ≡ landed (meaningsOf rest) (upTo mem 65536 (32 * k + 32))
         go true e = rw e (ap (landed (meaningsOf rest)) (row-zero mem 65536 (32 * k) full (omega arith) e))
         go false e = rw (e, row-means) (ap (landed (meaningsOf rest)) (row-stored mem 65536 (32 * k) full (omega arith)))
@@ -177,24 +177,24 @@ module _ (mem : List ℕ) (full : length mem ≡ 65536) (are : Each mem) where
       rw (append-assoc (rowsText mem k) (rowText mem k) rest, e) (land-rows k (rowText mem k ++ rest) (omega arith) ∙ land-row k rest (omega arith))
 
   module _ (a : ℕ) (low : a < 65536) where
-    end-means : meaningsOf (textOf 57 a []) ≡ start a ∷ []
+    end-means : meaningsOf (lineText 57 a []) ≡ start a ∷ []
     unfolding meaningsOf linesOf
-    end-means = ap meaningsOf (sym (append-nil (textOf 57 a []))) ∙ line-cut 57 a [] [] low tt refl
+    end-means = ap meaningsOf (sym (append-nil (lineText 57 a []))) ∙ line-cut 57 a [] [] low tt refl
 
     judged-text : judged (meaningsOf (textFor mem a)) ≡ done a
     unfolding textFor judged
-    judged-text = judge-rows 2048 (textOf 57 a []) (omega arith) ∙ rw end-means
+    judged-text = judge-rows 2048 (lineText 57 a []) (omega arith) ∙ rw end-means
 
     landed-text : landed (meaningsOf (textFor mem a)) blank ≡ mem
     unfolding textFor blank
     landed-text =
-        land-rows 2048 (textOf 57 a []) (omega arith)
+        land-rows 2048 (lineText 57 a []) (omega arith)
         ∙ ap (λ (ms : List Meaning). landed ms (upTo mem 65536 65536)) end-means
         ∙ land-end a (upTo mem 65536 65536)
         ∙ whole mem 65536 full
 
 pub reads-back : ReadsBack
-unfolding loadedOf memoryAfter
+unfolding loadedOf memoryLoaded
 reads-back mem a full are low =
     let j = judged-text mem full (each mem are) a low in
     let l : loadedOf blank (textFor mem a) ≡ done a = rw (eq-eqb (length blank) 65536 blank-length) j in
@@ -205,4 +205,4 @@ one-form mem other a b full whole are bytes low small e =
     let p = reads-back mem a full are low in
     let q = reads-back other b whole bytes small in
     let l : done a ≡ done b = sym (p .0) ∙ ap (loadedOf blank) e ∙ q .0 in
-    (sym (p .1) ∙ ap (memoryAfter blank) e ∙ q .1, ap (λ (r : Loaded). r .start) l)
+    (sym (p .1) ∙ ap (memoryLoaded blank) e ∙ q .1, ap (λ (r : Loaded). r .start) l)

@@ -7,17 +7,17 @@ use mathlib.Core.List.{List, [], _∷_}
 use lib.ListN.{length, getD, take, drop, length-drop}
 use lib.Seq.{getD-drop, getD-take, length-take-le}
 use Rattle.text.specs.Hex.{byteOf}
-use Rattle.srecord.specs.Layout.{bytesOf}
-use Rattle.srecord.specs.Line.{bytes}
+use Rattle.srecord.specs.Layout.{pairedBytes}
+use Rattle.srecord.specs.Line.{lineBytes}
 
-pub bytes-length : (t : List ℕ) → length (bytesOf t) ≡ length t / 2
-unfolding bytesOf
+pub bytes-length : (t : List ℕ) → length (pairedBytes t) ≡ length t / 2
+unfolding pairedBytes
 bytes-length [] = refl
 bytes-length (c ∷ []) = refl
 bytes-length (a ∷ b ∷ t) = let h = bytes-length t in omega arith
 
-bytes-get : (t : List ℕ) (i : ℕ) → 2 * i + 1 < length t → getD (bytesOf t) i 0 ≡ byteOf (getD t (2 * i) 0) (getD t (2 * i + 1) 0)
-unfolding bytesOf
+bytes-get : (t : List ℕ) (i : ℕ) → 2 * i + 1 < length t → getD (pairedBytes t) i 0 ≡ byteOf (getD t (2 * i) 0) (getD t (2 * i + 1) 0)
+unfolding pairedBytes
 bytes-get [] i h = absurd (omega arith)
 bytes-get (c ∷ []) i h = absurd (omega arith)
 bytes-get (a ∷ b ∷ t) zero h = refl
@@ -26,11 +26,11 @@ bytes-get (a ∷ b ∷ t) (suc i) h =
     let f : suc (suc (2 * i)) + 1 ≡ suc (suc (2 * i + 1)) = omega arith in
     rw (e, f) (bytes-get t i (omega arith))
 
-pub line-bytes : (text : List ℕ) → length (bytes text) ≡ (length text - 2) / 2
+pub line-bytes : (text : List ℕ) → length (lineBytes text) ≡ (length text - 2) / 2
 line-bytes text = bytes-length (drop 2 text) ∙ rw (length-drop 2 text)
 
 -- byte i of a line
-pub byte-of : (text : List ℕ) (i : ℕ) → i < length (bytes text) → getD (bytes text) i 0 ≡ byteOf (getD text (2 + 2 * i) 0) (getD text (3 + 2 * i) 0)
+pub byte-of : (text : List ℕ) (i : ℕ) → i < length (lineBytes text) → getD (lineBytes text) i 0 ≡ byteOf (getD text (2 + 2 * i) 0) (getD text (3 + 2 * i) 0)
 byte-of text i h =
     let n = line-bytes text in
     let d = length-drop 2 text in

@@ -8,9 +8,9 @@ use mathlib.Core.List.{List, []}
 use lib.ListN.{length, drop, length-append, length-take}
 use lib.Seq.{sets}
 use borrow.Author.Tests.{eq-eqb, ne-eqb, lt-ltb, le-ltb}
-use Rattle.srecord.specs.Layout.{textOf}
-use Rattle.srecord.specs.File.{meaningsOf, judged, failed, landed, allowed, loadedOf, memoryAfter}
-use Rattle.srecord.specs.Written.{rowOf, isZero, rowText, rowsText, textFor, stopped, writtenOf, outputAfter}
+use Rattle.srecord.specs.Layout.{lineText}
+use Rattle.srecord.specs.File.{meaningsOf, judged, failed, landed, unlessRefused, loadedOf, memoryLoaded}
+use Rattle.srecord.specs.Written.{bytesOfRow, isZero, rowText, rowsText, textFor, stopped, outputWritten, outputAfter}
 use Rattle.answers.specs.Numbers.{numberOf, numberOfAnswer}
 use Rattle.answers.specs.declared.Answer.{Answer}
 use Rattle.answers.specs.declared.Answer.the-variants.{Done, Refused}
@@ -30,13 +30,13 @@ is-done : (x : Answer) → numberOfAnswer x ≡ 0 → x ≡ Done
 is-done Done e = refl
 is-done (Refused r) e = absurd (no-zero r e)
 
-kept : (x : Answer) (new old : List ℕ) → (numberOfAnswer x ≡ 0 → ⊥) → allowed x new old ≡ old
+kept : (x : Answer) (new old : List ℕ) → (numberOfAnswer x ≡ 0 → ⊥) → unlessRefused x new old ≡ old
 kept Done new old n = absurd (n refl)
 kept (Refused r) new old n = refl
 
 module _ (mem file : List ℕ) where
-  pub read-length : (length mem ≡ 65536 → ⊥) → (failed MemoryLength ≡ loadedOf mem file) × (mem ≡ memoryAfter mem file)
-  unfolding loadedOf memoryAfter
+  pub read-length : (length mem ≡ 65536 → ⊥) → (failed MemoryLength ≡ loadedOf mem file) × (mem ≡ memoryLoaded mem file)
+  unfolding loadedOf memoryLoaded
   read-length n = rw (ne-eqb (length mem) 65536 n) (refl, refl)
 
   module _ (e : length mem ≡ 65536) (l : Loaded) (j : l ≡ judged (meaningsOf file)) where
@@ -44,22 +44,22 @@ module _ (mem file : List ℕ) where
     unfolding loadedOf
     loaded = rw (eq-eqb (length mem) 65536 e) (sym j)
 
-    pub read-done : numberOfAnswer (l .answer) ≡ 0 → (l ≡ loadedOf mem file) × (landed (meaningsOf file) mem ≡ memoryAfter mem file)
-    unfolding memoryAfter
+    pub read-done : numberOfAnswer (l .answer) ≡ 0 → (l ≡ loadedOf mem file) × (landed (meaningsOf file) mem ≡ memoryLoaded mem file)
+    unfolding memoryLoaded
     read-done z = (sym loaded, rw (loaded, is-done (l .answer) z))
 
-    pub read-refused : (numberOfAnswer (l .answer) ≡ 0 → ⊥) → (l ≡ loadedOf mem file) × (mem ≡ memoryAfter mem file)
-    unfolding memoryAfter
+    pub read-refused : (numberOfAnswer (l .answer) ≡ 0 → ⊥) → (l ≡ loadedOf mem file) × (mem ≡ memoryLoaded mem file)
+    unfolding memoryLoaded
     read-refused n = (sym loaded, rw loaded (sym (kept (l .answer) (landed (meaningsOf file) mem) mem n)))
 
 row-bound : (mem : List ℕ) (k : ℕ) → length (rowText mem k) ≤ 75
 unfolding rowText
-row-bound mem k = go (isZero (rowOf mem k)) refl
+row-bound mem k = go (isZero (bytesOfRow mem k)) refl
   where
-    go : (w : Bool) → isZero (rowOf mem k) ≡ w → length (cond (isZero (rowOf mem k)) [] (textOf 49 (32 * k) (rowOf mem k))) ≤ 75
+    go : (w : Bool) → isZero (bytesOfRow mem k) ≡ w → length (cond (isZero (bytesOfRow mem k)) [] (lineText 49 (32 * k) (bytesOfRow mem k))) ≤ 75
     go true e = rw e (omega arith)
     go false e =
-        let n = text-length 49 (32 * k) (rowOf mem k) in
+        let n = text-length 49 (32 * k) (bytesOfRow mem k) in
         let m = length-take 32 (drop (32 * k) mem) in
         rw e (omega arith)
 
@@ -72,29 +72,29 @@ rows-bound mem (suc k) =
     simp length-append (omega arith)
 
 module _ (mem : List ℕ) (a : ℕ) (out : List ℕ) where
-  pub write-length : (length mem ≡ 65536 → ⊥) → (stopped MemoryLength ≡ writtenOf mem a out) × (out ≡ outputAfter mem a out)
-  unfolding writtenOf outputAfter
+  pub write-length : (length mem ≡ 65536 → ⊥) → (stopped MemoryLength ≡ outputWritten mem a out) × (out ≡ outputAfter mem a out)
+  unfolding outputWritten outputAfter
   write-length n = rw (ne-eqb (length mem) 65536 n) (refl, refl)
 
   all-length : length (textFor mem a) ≡ length (rowsText mem 2048) + 11
   unfolding textFor
-  all-length = length-append (rowsText mem 2048) (textOf 57 a []) ∙ rw (text-length 57 a [])
+  all-length = length-append (rowsText mem 2048) (lineText 57 a []) ∙ rw (text-length 57 a [])
 
   module _ (e : length mem ≡ 65536) where
-    pub write-short : length out < length (rowsText mem 2048) + 11 → (stopped OutputShort ≡ writtenOf mem a out) × (out ≡ outputAfter mem a out)
-    unfolding writtenOf outputAfter
+    pub write-short : length out < length (rowsText mem 2048) + 11 → (stopped OutputShort ≡ outputWritten mem a out) × (out ≡ outputAfter mem a out)
+    unfolding outputWritten outputAfter
     write-short h =
         let n = all-length in
         rw (eq-eqb (length mem) 65536 e, lt-ltb (length out) (length (textFor mem a)) (omega arith)) (refl, refl)
 
     pub write-done : (size at : ℕ) (mid new : List ℕ) → size ≡ length (rowsText mem 2048) + 11 → size ≤ length out → at ≡ length (rowsText mem 2048)
-        → mid ≡ sets out 0 (rowsText mem 2048) → new ≡ sets mid at (textOf 57 a [])
-        → (_≡_ {A = Written} (record { count = size; answer = Done }) (writtenOf mem a out)) × (new ≡ outputAfter mem a out)
-    unfolding writtenOf outputAfter textFor
+        → mid ≡ sets out 0 (rowsText mem 2048) → new ≡ sets mid at (lineText 57 a [])
+        → (_≡_ {A = Written} (record { count = size; answer = Done }) (outputWritten mem a out)) × (new ≡ outputAfter mem a out)
+    unfolding outputWritten outputAfter textFor
     write-done size at mid new s h p f g =
         let n = all-length in
         let t = text-length 57 a [] in
         let k : size ≡ length (textFor mem a) = omega arith in
         let o : new ≡ sets out 0 (textFor mem a) =
-        g ∙ rw f (sets-two 0 at (rowsText mem 2048) (textOf 57 a []) out (omega arith)) in
+        g ∙ rw f (sets-two 0 at (rowsText mem 2048) (lineText 57 a []) out (omega arith)) in
         rw (eq-eqb (length mem) 65536 e, le-ltb (length out) (length (textFor mem a)) (omega arith), k) (refl, o)

@@ -11,9 +11,9 @@ use lib.Seq.{length-take-le, take-length}
 use borrow.Author.Tests.{eqb-true}
 use Rattle.text.specs.Hex.{isDigit}
 use Rattle.text.proofs.Digits.{byte-small, hex2-of-byte}
-use Rattle.srecord.specs.Layout.{pairs, isPaired, bytesOf, checksum, summed, textOf}
-use Rattle.srecord.specs.Line.{Meaning, isSummed, bytes, addressOf, dataOf, meant, lineOf}
-use Rattle.srecord.specs.Promises.{Bytes, IsLine, Stands, LineExact}
+use Rattle.srecord.specs.Layout.{pairs, isPaired, pairedBytes, checksum, summed, lineText}
+use Rattle.srecord.specs.Line.{Meaning, isSummed, lineBytes, lineAddress, dataOf, meant, lineOf}
+use Rattle.srecord.specs.Promises.{AllBytes, IsLine, StandsFor, LineExact}
 use Rattle.srecord.proofs.Bools.{and-parts}
 use Rattle.srecord.proofs.Scan.{take-one}
 use Rattle.srecord.proofs.Shapes.{Held, in-0, in-1, in-9, Shaped, may-hold}
@@ -21,22 +21,22 @@ use Rattle.srecord.proofs.Lines.{Found, bad, good, found}
 use Rattle.srecord.proofs.Sound.{Each, each-take, each-drop, text-is}
 
 -- pairs of digits and a line feed are the text of their bytes
-paired-exact : (t : List ℕ) → isPaired t ≡ true → t ≡ pairs (bytesOf t) ++ (10 ∷ [])
-unfolding isPaired bytesOf pairs
+paired-exact : (t : List ℕ) → isPaired t ≡ true → t ≡ pairs (pairedBytes t) ++ (10 ∷ [])
+unfolding isPaired pairedBytes pairs
 paired-exact [] e = cc
 paired-exact (c ∷ []) e = rw (eqb-true c 10 e)
 paired-exact (a ∷ b ∷ t) e =
     let p = and-parts (isDigit a) (isDigit b && isPaired t) e in
     let q = and-parts (isDigit b) (isPaired t) (p .1) in
-    ap (λ (l : List ℕ). a ∷ b ∷ l) (paired-exact t (q .1)) ∙ ap (λ (l : List ℕ). l ++ (pairs (bytesOf t) ++ (10 ∷ []))) (sym (hex2-of-byte a b (p .0) (q .0)))
+    ap (λ (l : List ℕ). a ∷ b ∷ l) (paired-exact t (q .1)) ∙ ap (λ (l : List ℕ). l ++ (pairs (pairedBytes t) ++ (10 ∷ []))) (sym (hex2-of-byte a b (p .0) (q .0)))
 
-each-byte : (t : List ℕ) → Each (bytesOf t)
-unfolding bytesOf
+each-byte : (t : List ℕ) → Each (pairedBytes t)
+unfolding pairedBytes
 each-byte [] = tt
 each-byte (c ∷ []) = tt
 each-byte (a ∷ b ∷ t) = (byte-small a b, each-byte t)
 
-are-bytes : (l : List ℕ) → Each l → Bytes l
+are-bytes : (l : List ℕ) → Each l → AllBytes l
 are-bytes [] h i = omega arith
 are-bytes (b ∷ l) h zero = h .0
 are-bytes (b ∷ l) h (suc i) = are-bytes l (h .1) i
@@ -60,7 +60,7 @@ whole c h l s d e small f =
 
 -- the bytes of a line, by its count and its checksum
 all-bytes : (bs : List ℕ) → Each bs → 4 ≤ length bs → getD bs 0 0 ≡ length bs - 1 → isSummed bs ≡ true
-    → bs ≡ summed (addressOf bs) (dataOf bs) ++ (checksum (summed (addressOf bs) (dataOf bs)) ∷ [])
+    → bs ≡ summed (lineAddress bs) (dataOf bs) ++ (checksum (summed (lineAddress bs) (dataOf bs)) ∷ [])
 unfolding isSummed
 all-bytes [] are h c s = absurd (omega arith)
 all-bytes (b ∷ []) are h c s = absurd (omega arith)
@@ -73,41 +73,41 @@ all-bytes (b ∷ d ∷ e ∷ bs) are h c s =
     let w = whole b d e (getD bs (length bs - 1) 0) (take (length bs - 1) bs) (omega arith) (are .1 .1 .0) f in
     rw n (ap (λ (l : List ℕ). b ∷ d ∷ e ∷ l) (last-one bs (omega arith)) ∙ w)
 
-text-exact : (text : List ℕ) → Shaped text → isSummed (bytes text) ≡ true
-    → text ≡ textOf (getD text 1 0) (addressOf (bytes text)) (dataOf (bytes text))
+text-exact : (text : List ℕ) → Shaped text → isSummed (lineBytes text) ≡ true
+    → text ≡ lineText (getD text 1 0) (lineAddress (lineBytes text)) (dataOf (lineBytes text))
 text-exact [] s f = absurd (omega (arith, s .size))
 text-exact (c ∷ []) s f = absurd (omega (arith, s .size))
 text-exact (c ∷ k ∷ t) s f =
     let p = paired-exact t (s .paired) in
-    let b = all-bytes (bytesOf t) (each-byte t) (s .room) (s .count) f in
+    let b = all-bytes (pairedBytes t) (each-byte t) (s .room) (s .count) f in
     ap (λ (n : ℕ). n ∷ k ∷ t) (s .first)
     ∙ ap (λ (l : List ℕ). 83 ∷ k ∷ l) (p ∙ ap (λ (bs : List ℕ). pairs bs ++ (10 ∷ [])) b)
-    ∙ sym (text-is k (addressOf (bytesOf t)) (dataOf (bytesOf t)))
+    ∙ sym (text-is k (lineAddress (pairedBytes t)) (dataOf (pairedBytes t)))
 
-is-line : (text : List ℕ) → Shaped text → isSummed (bytes text) ≡ true → IsLine text (getD text 1 0) (addressOf (bytes text)) (dataOf (bytes text))
+is-line : (text : List ℕ) → Shaped text → isSummed (lineBytes text) ≡ true → IsLine text (getD text 1 0) (lineAddress (lineBytes text)) (dataOf (lineBytes text))
 is-line text s f =
     let are = each-byte (drop 2 text) in
-    let h = are-bytes (bytes text) are 1 in
-    let l = are-bytes (bytes text) are 2 in
+    let h = are-bytes (lineBytes text) are 1 in
+    let l = are-bytes (lineBytes text) are 2 in
     record {
       address = omega arith;
-      values = are-bytes (dataOf (bytes text)) (each-take (length (bytes text) - 4) (drop 3 (bytes text)) (each-drop 3 (bytes text) are));
+      values = are-bytes (dataOf (lineBytes text)) (each-take (length (lineBytes text) - 4) (drop 3 (lineBytes text)) (each-drop 3 (lineBytes text) are));
       count = rw (s .width) (may-hold (s .may));
       exact = text-exact text s f;
     }
 
-stands : (text : List ℕ) (kind a : ℕ) (d : List ℕ) → IsLine text kind a d → Held (length d) kind → Stands text (meant kind a d)
+stands : (text : List ℕ) (kind a : ℕ) (d : List ℕ) → IsLine text kind a d → Held (length d) kind → StandsFor text (meant kind a d)
 stands text _ a d l (in-0 h) = (a, l)
 stands text _ a d l (in-9 e) = rw (empty d e) at l
 stands text _ a d l (in-1 h k) = go (leb (a + length d) 65536) refl
   where
-    go : (w : Bool) → leb (a + length d) 65536 ≡ w → Stands text (meant 49 a d)
+    go : (w : Bool) → leb (a + length d) 65536 ≡ w → StandsFor text (meant 49 a d)
     go true r = rw r l
     go false r = rw r tt
 
 pub line-exact : LineExact
 line-exact text = go (lineOf text) (found text)
   where
-    go : (m : Meaning) → Found text m → Stands text m
+    go : (m : Meaning) → Found text m → StandsFor text m
     go _ (bad r) = tt
-    go _ (good s q) = stands text (getD text 1 0) (addressOf (bytes text)) (dataOf (bytes text)) (is-line text s q) (rw (s .width) (s .may))
+    go _ (good s q) = stands text (getD text 1 0) (lineAddress (lineBytes text)) (dataOf (lineBytes text)) (is-line text s q) (rw (s .width) (s .may))

@@ -6,14 +6,14 @@ use mathlib.Core.Bool.{Bool, true, false}
 use mathlib.Core.List.{List}
 use lib.Dec.{eqb, ltb}
 use lib.ListN.{length}
-use Rattle.srecord.specs.File.{loadedOf, memoryAfter}
-use Rattle.srecord.specs.Written.{textFor, writtenOf, outputAfter}
+use Rattle.srecord.specs.File.{loadedOf, memoryLoaded}
+use Rattle.srecord.specs.Written.{textFor, outputWritten, outputAfter}
 use Rattle.srecord.specs.Promises.{RefusedKeeps}
 use Rattle.answers.specs.declared.Answer.the-variants.{Done, Refused}
 use Rattle.answers.specs.declared.Refusal.{Refusal}
 
-memory-kept : (mem file : List ℕ) (r : Refusal) → loadedOf mem file .answer ≡ Refused r → memoryAfter mem file ≡ mem
-unfolding memoryAfter
+memory-kept : (mem file : List ℕ) (r : Refusal) → loadedOf mem file .answer ≡ Refused r → memoryLoaded mem file ≡ mem
+unfolding memoryLoaded
 memory-kept mem file r e = rw e
 
 module _ (mem : List ℕ) (a : ℕ) (out : List ℕ) where
@@ -25,11 +25,11 @@ module _ (mem : List ℕ) (a : ℕ) (out : List ℕ) where
   unfolding outputAfter
   narrow e f = rw (e, f)
 
-  wide : eqb (length mem) 65536 ≡ true → ltb (length out) (length (textFor mem a)) ≡ false → writtenOf mem a out .answer ≡ Done
-  unfolding writtenOf
+  wide : eqb (length mem) 65536 ≡ true → ltb (length out) (length (textFor mem a)) ≡ false → outputWritten mem a out .answer ≡ Done
+  unfolding outputWritten
   wide e f = rw (e, f)
 
-  output-kept : (r : Refusal) → writtenOf mem a out .answer ≡ Refused r → outputAfter mem a out ≡ out
+  output-kept : (r : Refusal) → outputWritten mem a out .answer ≡ Refused r → outputAfter mem a out ≡ out
   output-kept r h = go (eqb (length mem) 65536) refl (ltb (length out) (length (textFor mem a))) refl
     where
       go : (u : Bool) → eqb (length mem) 65536 ≡ u → (v : Bool) → ltb (length out) (length (textFor mem a)) ≡ v → outputAfter mem a out ≡ out

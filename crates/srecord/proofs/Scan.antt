@@ -12,7 +12,7 @@ use lib.ListN.{length, getD, take, drop, drop-of-length-le}
 use lib.Seq.{drop-cons, take-suc}
 use Rattle.text.specs.Hex.{isDigit}
 use Rattle.srecord.specs.Layout.{isPaired, total}
-use Rattle.srecord.specs.File.{first, joined, linesOf, lineEnd}
+use Rattle.srecord.specs.File.{first, inFrontOf, linesOf, lineEnd}
 use Rattle.srecord.specs.Written.{isZero}
 
 -- one character more
@@ -35,7 +35,7 @@ both : (a b t r : Bool) → (a && b) ≡ r → (a && (b && t)) ≡ (r && t)
 both true b t r e = rw (← e)
 both false b t r e = rw (← e)
 
-pub first-joined : (c : ℕ) (ls : List (List ℕ)) → first (joined c ls) ≡ c ∷ first ls
+pub first-joined : (c : ℕ) (ls : List (List ℕ)) → first (inFrontOf c ls) ≡ c ∷ first ls
 first-joined c [] = refl
 first-joined c (l ∷ ls) = refl
 

@@ -10,9 +10,9 @@ use lib.Seq.{take-append-seam, getD-append-seam}
 use borrow.Author.Tests.{eq-eqb, le-leb}
 use Rattle.text.specs.Hex.{hex2}
 use Rattle.text.proofs.Digits.{glyph-is-digit, byte-of-hex2}
-use Rattle.srecord.specs.Layout.{pairs, isPaired, bytesOf, checksum, summed, textOf}
-use Rattle.srecord.specs.Line.{most, mayHold, isShaped, isSummed, bytes, addressOf, dataOf, meant, lineOf}
-use Rattle.srecord.specs.Promises.{Bytes, LineReads}
+use Rattle.srecord.specs.Layout.{pairs, isPaired, pairedBytes, checksum, summed, lineText}
+use Rattle.srecord.specs.Line.{mostData, mayHold, isShaped, isSummed, lineBytes, lineAddress, dataOf, meant, lineOf}
+use Rattle.srecord.specs.Promises.{AllBytes, LineReads}
 use Rattle.srecord.proofs.Laying.{pairs-append, pairs-one}
 use Rattle.srecord.proofs.Lines.{sound}
 use Rattle.srecord.proofs.Shapes.{Held, in-0, in-1, in-9, held}
@@ -22,7 +22,7 @@ abbrev pub Each : List ℕ → Type 0
 Each [] = Unit {0}
 Each (b ∷ l) = (b < 256) × Each l
 
-pub each : (l : List ℕ) → Bytes l → Each l
+pub each : (l : List ℕ) → AllBytes l → Each l
 each [] h = tt
 each (b ∷ l) h = (h 0, each l (λ i. h (suc i)))
 
@@ -42,8 +42,8 @@ unfolding isPaired pairs
 pairs-paired [] h = refl
 pairs-paired (b ∷ l) h = rw (glyph-is-digit (b / 16) (omega (arith, h .0)), glyph-is-digit (b % 16) (omega arith)) (pairs-paired l (h .1))
 
-pub pairs-bytes : (l : List ℕ) → Each l → bytesOf (pairs l ++ (10 ∷ [])) ≡ l
-unfolding bytesOf pairs
+pub pairs-bytes : (l : List ℕ) → Each l → pairedBytes (pairs l ++ (10 ∷ [])) ≡ l
+unfolding pairedBytes pairs
 pairs-bytes [] h = refl
 pairs-bytes (b ∷ l) h = rw (byte-of-hex2 b (h .0), pairs-bytes l (h .1))
 
@@ -52,7 +52,7 @@ bytes-append [] m h k = k
 bytes-append (b ∷ l) m h k = (h .0, bytes-append l m (h .1) k)
 
 -- a kind is no line feed, and the data are not too many
-pub hold-kinds : {kind n : ℕ} → Held n kind → (10 < kind) × (n ≤ most)
+pub hold-kinds : {kind n : ℕ} → Held n kind → (10 < kind) × (n ≤ mostData)
 hold-kinds (in-0 h) = (omega arith, h)
 hold-kinds (in-1 h k) = (omega arith, k)
 hold-kinds (in-9 h) = (omega arith, omega arith)
@@ -61,8 +61,8 @@ hold-kinds (in-9 h) = (omega arith, omega arith)
 abbrev pub allBytes : ℕ → List ℕ → List ℕ
 allBytes a d = summed a d ++ (checksum (summed a d) ∷ [])
 
-pub text-is : (kind a : ℕ) (d : List ℕ) → textOf kind a d ≡ 83 ∷ kind ∷ (pairs (allBytes a d) ++ (10 ∷ []))
-unfolding textOf
+pub text-is : (kind a : ℕ) (d : List ℕ) → lineText kind a d ≡ 83 ∷ kind ∷ (pairs (allBytes a d) ++ (10 ∷ []))
+unfolding lineText
 text-is kind a d =
     rw (pairs-append (summed a d) (checksum (summed a d) ∷ []), pairs-one (checksum (summed a d)))
     (ap (λ (l : List ℕ). 83 ∷ kind ∷ l) (sym (append-assoc (pairs (summed a d)) (hex2 (checksum (summed a d))) (10 ∷ []))))
@@ -82,7 +82,7 @@ module _ (kind a : ℕ) (d : List ℕ) (low : a < 65536) (are : Each d) (may : m
   all-length : length all ≡ length d + 4
   all-length = length-append (summed a d) (sum ∷ []) ∙ omega arith
 
-  bytes-are : bytes (83 ∷ kind ∷ (pairs all ++ (10 ∷ []))) ≡ all
+  bytes-are : lineBytes (83 ∷ kind ∷ (pairs all ++ (10 ∷ []))) ≡ all
   bytes-are = pairs-bytes all are-bytes
 
   is-shaped : isShaped (83 ∷ kind ∷ (pairs all ++ (10 ∷ []))) ≡ true
@@ -100,7 +100,7 @@ module _ (kind a : ℕ) (d : List ℕ) (low : a < 65536) (are : Each d) (may : m
       let one : length all - 1 ≡ length (summed a d) = omega arith in
       rw (one, getD-append-seam (summed a d) sum [] 0, take-append-seam (summed a d) (sum ∷ [])) (eq-eqb sum sum refl)
 
-  address-is : addressOf all ≡ a
+  address-is : lineAddress all ≡ a
   address-is = omega arith
 
   data-is : dataOf all ≡ d
@@ -109,7 +109,7 @@ module _ (kind a : ℕ) (d : List ℕ) (low : a < 65536) (are : Each d) (may : m
       let four : length all - 4 ≡ length d = omega arith in
       rw four (take-append-seam d (sum ∷ []))
 
-  pub reads : lineOf (textOf kind a d) ≡ meant kind a d
+  pub reads : lineOf (lineText kind a d) ≡ meant kind a d
   reads =
       let s = is-shaped in
       let b = bytes-are in

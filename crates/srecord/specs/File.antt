@@ -15,14 +15,14 @@ use Rattle.answers.specs.declared.Refusal.{Refusal}
 use Rattle.answers.specs.declared.Refusal.the-variants.{MemoryLength, LineShape, NoEnd}
 
 -- a character before the lines that follow it
-abbrev pub joined : ℕ → List (List ℕ) → List (List ℕ)
-joined c [] = (c ∷ []) ∷ []
-joined c (l ∷ ls) = (c ∷ l) ∷ ls
+abbrev pub inFrontOf : ℕ → List (List ℕ) → List (List ℕ)
+inFrontOf c [] = (c ∷ []) ∷ []
+inFrontOf c (l ∷ ls) = (c ∷ l) ∷ ls
 
 -- a text cut after each line feed; only the last line may have none
 unfoldable pub linesOf : List ℕ → List (List ℕ)
 linesOf [] = []
-linesOf (c ∷ t) = cond (eqb c lineFeed) ((c ∷ []) ∷ linesOf t) (joined c (linesOf t))
+linesOf (c ∷ t) = cond (eqb c lineFeed) ((c ∷ []) ∷ linesOf t) (inFrontOf c (linesOf t))
 
 -- the first line, if there is one
 abbrev pub first : List (List ℕ) → List ℕ
@@ -67,9 +67,9 @@ unfoldable pub loadedOf : List ℕ → List ℕ → Loaded
 loadedOf mem file = cond (eqb (length mem) 65536) (judged (meaningsOf file)) (failed MemoryLength)
 
 -- a refused file leaves memory as it was
-abbrev pub allowed : Answer → List ℕ → List ℕ → List ℕ
-allowed Done new old = new
-allowed (Refused r) new old = old
+abbrev pub unlessRefused : Answer → List ℕ → List ℕ → List ℕ
+unlessRefused Done new old = new
+unlessRefused (Refused r) new old = old
 
-unfoldable pub memoryAfter : List ℕ → List ℕ → List ℕ
-memoryAfter mem file = allowed (loadedOf mem file .answer) (landed (meaningsOf file) mem) mem
+unfoldable pub memoryLoaded : List ℕ → List ℕ → List ℕ
+memoryLoaded mem file = unlessRefused (loadedOf mem file .answer) (landed (meaningsOf file) mem) mem

@@ -33,10 +33,10 @@ isPaired (c ∷ []) = eqb c lineFeed
 isPaired (a ∷ b ∷ t) = isDigit a && (isDigit b && isPaired t)
 
 -- the bytes that pairs of digits stand for
-unfoldable pub bytesOf : List ℕ → List ℕ
-bytesOf [] = []
-bytesOf (c ∷ []) = []
-bytesOf (a ∷ b ∷ t) = byteOf a b ∷ bytesOf t
+unfoldable pub pairedBytes : List ℕ → List ℕ
+pairedBytes [] = []
+pairedBytes (c ∷ []) = []
+pairedBytes (a ∷ b ∷ t) = byteOf a b ∷ pairedBytes t
 
 unfoldable pub total : List ℕ → ℕ
 total [] = 0
@@ -50,5 +50,5 @@ checksum bs = 255 - total bs % 256
 abbrev pub summed : ℕ → List ℕ → List ℕ
 summed a d = (length d + 3) ∷ a / 256 ∷ a % 256 ∷ d
 
-unfoldable pub textOf : ℕ → ℕ → List ℕ → List ℕ
-textOf kind a d = letterS ∷ kind ∷ (pairs (summed a d) ++ (hex2 (checksum (summed a d)) ++ (lineFeed ∷ [])))
+unfoldable pub lineText : ℕ → ℕ → List ℕ → List ℕ
+lineText kind a d = letterS ∷ kind ∷ (pairs (summed a d) ++ (hex2 (checksum (summed a d)) ++ (lineFeed ∷ [])))

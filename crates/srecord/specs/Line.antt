@@ -5,7 +5,7 @@ use mathlib.Core.Bool.{Bool, cond, _&&_}
 use mathlib.Core.List.{List}
 use lib.Dec.{eqb, leb}
 use lib.ListN.{length, getD, take, drop}
-use Rattle.srecord.specs.Layout.{letterS, kind0, kind1, kind9, isPaired, bytesOf, checksum}
+use Rattle.srecord.specs.Layout.{letterS, kind0, kind1, kind9, isPaired, pairedBytes, checksum}
 use Rattle.srecord.specs.declared.line.Line.{Line}
 use Rattle.srecord.specs.declared.line.Line.the-variants.{Header, Data, End, Bad}
 use Rattle.answers.specs.declared.Refusal.{Refusal}
@@ -21,29 +21,29 @@ pub data Meaning : Type 0 where
   refused : Refusal → Meaning
 
 -- the most data bytes of a line
-abbrev pub most : ℕ
-most = 252
+abbrev pub mostData : ℕ
+mostData = 252
 
 -- whether a line of this kind may have n data bytes
 abbrev pub mayHold : ℕ → ℕ → Bool
-mayHold kind n = cond (eqb kind kind0) (leb n most) (cond (eqb kind kind1) (leb 1 n && leb n most) (eqb kind kind9 && eqb n 0))
+mayHold kind n = cond (eqb kind kind0) (leb n mostData) (cond (eqb kind kind1) (leb 1 n && leb n mostData) (eqb kind kind9 && eqb n 0))
 
 -- of the bytes of a line: the count is that of the bytes after it, and the data between address and checksum are as many as the kind may have
 abbrev pub isCounted : ℕ → List ℕ → Bool
 isCounted kind bs = leb 4 (length bs) && (eqb (getD bs 0 0) (length bs - 1) && mayHold kind (length bs - 4))
 
-abbrev pub bytes : List ℕ → List ℕ
-bytes text = bytesOf (drop 2 text)
+abbrev pub lineBytes : List ℕ → List ℕ
+lineBytes text = pairedBytes (drop 2 text)
 
 unfoldable pub isShaped : List ℕ → Bool
-isShaped text = eqb (getD text 0 0) letterS && (isPaired (drop 2 text) && isCounted (getD text 1 0) (bytes text))
+isShaped text = eqb (getD text 0 0) letterS && (isPaired (drop 2 text) && isCounted (getD text 1 0) (lineBytes text))
 
 -- the last byte is the checksum of those before it
 unfoldable pub isSummed : List ℕ → Bool
 isSummed bs = eqb (getD bs (length bs - 1) 0) (checksum (take (length bs - 1) bs))
 
-abbrev pub addressOf : List ℕ → ℕ
-addressOf bs = 256 * getD bs 1 0 + getD bs 2 0
+abbrev pub lineAddress : List ℕ → ℕ
+lineAddress bs = 256 * getD bs 1 0 + getD bs 2 0
 
 abbrev pub dataOf : List ℕ → List ℕ
 dataOf bs = take (length bs - 4) (drop 3 bs)
@@ -58,12 +58,12 @@ meant kind a d =
 unfoldable pub lineOf : List ℕ → Meaning
 lineOf text =
     cond (isShaped text)
-    (cond (isSummed (bytes text)) (meant (getD text 1 0) (addressOf (bytes text)) (dataOf (bytes text))) (refused Checksum))
+    (cond (isSummed (lineBytes text)) (meant (getD text 1 0) (lineAddress (lineBytes text)) (dataOf (lineBytes text))) (refused Checksum))
     (refused LineShape)
 
 -- what `line_of` answers: the meaning, with the count of the data in place of the data
-abbrev pub shown : Meaning → Line
-shown (heading d) = Header
-shown (piece a d) = Data a (length d)
-shown (start a) = End a
-shown (refused r) = Bad r
+abbrev pub lineAnswer : Meaning → Line
+lineAnswer (heading d) = Header
+lineAnswer (piece a d) = Data a (length d)
+lineAnswer (start a) = End a
+lineAnswer (refused r) = Bad r

@@ -3,8 +3,8 @@ ghost use mathlib.Core.Path.{_≡_};
 ghost use Prim.Native.Nat.{_+_, _≤_};
 ghost use lib.ListN.{length, take, drop};
 ghost use lib.Seq.{sets};
-ghost use Rattle.srecord.specs.Line.{bytes};
-ghost use Rattle.srecord.specs.File.{lineEnd, failed, meaningsOf, judged, landed, loadedOf, memoryAfter};
+ghost use Rattle.srecord.specs.Line.{lineBytes};
+ghost use Rattle.srecord.specs.File.{lineEnd, failed, meaningsOf, judged, landed, loadedOf, memoryLoaded};
 use super::Loaded;
 use super::line::Line;
 use super::line::byte;
@@ -62,8 +62,8 @@ fn judge(file: &[u8]) -> Loaded
 
 // The data of an S1 line, stored from its address on.
 fn store_data(mem: &mut [u8], text: &[u8], address: u16, count: usize)
-    requires { ⌜ (address + count ≤ length (now mem)) × (3 + count ≤ length (bytes (now text))) ⌝ }
-    ensures { λ _. ⌜ now (mem .exit) ≡ sets (now (mem .entry)) address (take count (drop 3 (bytes (now (text .entry))))) ⌝ }
+    requires { ⌜ (address + count ≤ length (now mem)) × (3 + count ≤ length (lineBytes (now text))) ⌝ }
+    ensures { λ _. ⌜ now (mem .exit) ≡ sets (now (mem .entry)) address (take count (drop 3 (lineBytes (now (text .entry))))) ⌝ }
 {
     let first = address as usize;
     let mut i = 0;
@@ -91,7 +91,7 @@ fn store_lines(mem: &mut [u8], file: &[u8])
 
 // All lines are judged before the first byte is stored, so that a refused file leaves memory untouched.
 pub fn read(mem: &mut [u8], file: &[u8]) -> Loaded
-    ensures { λ r. ⌜ (r ≡ loadedOf (now (mem .entry)) (now (file .entry))) × (now (mem .exit) ≡ memoryAfter (now (mem .entry)) (now (file .entry))) ⌝ }
+    ensures { λ r. ⌜ (r ≡ loadedOf (now (mem .entry)) (now (file .entry))) × (now (mem .exit) ≡ memoryLoaded (now (mem .entry)) (now (file .entry))) ⌝ }
 {
     if mem.len() != 65536 {
         return refused(Refusal::MemoryLength);

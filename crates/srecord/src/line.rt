@@ -4,7 +4,7 @@ ghost use mathlib.Core.Bool.{true};
 ghost use Prim.Native.Nat.{_%_, _≤_};
 ghost use lib.ListN.{length, getD, take};
 ghost use Rattle.srecord.specs.Layout.{total};
-ghost use Rattle.srecord.specs.Line.{bytes, mayHold, isShaped, isSummed, addressOf, dataOf, meant, lineOf, shown};
+ghost use Rattle.srecord.specs.Line.{lineBytes, mayHold, isShaped, isSummed, lineAddress, dataOf, meant, lineOf, lineAnswer};
 use super::layout::paired;
 use answers::Refusal;
 
@@ -18,7 +18,7 @@ pub enum Line {
 
 // How many bytes a line has: two digits for each, after the S and the kind.
 fn size(text: &[u8]) -> usize
-    ensures { λ r. ⌜ r ≡ length (bytes (now (text .entry))) ⌝ }
+    ensures { λ r. ⌜ r ≡ length (lineBytes (now (text .entry))) ⌝ }
 {
     if text.len() < 2 {
         0
@@ -29,7 +29,7 @@ fn size(text: &[u8]) -> usize
 
 // Byte i of a line, 0 if it has none.
 pub fn byte(text: &[u8], i: usize) -> u8
-    ensures { λ r. ⌜ r ≡ getD (bytes (now (text .entry))) i 0 ⌝ }
+    ensures { λ r. ⌜ r ≡ getD (lineBytes (now (text .entry))) i 0 ⌝ }
 {
     if size(text) <= i {
         return 0;
@@ -39,8 +39,8 @@ pub fn byte(text: &[u8], i: usize) -> u8
 
 // The low byte of the sum of the first n bytes of a line.
 fn sum_bytes(text: &[u8], n: usize) -> u8
-    requires { ⌜ n ≤ length (bytes (now text)) ⌝ }
-    ensures { λ r. ⌜ r ≡ total (take n (bytes (now (text .entry)))) % 256 ⌝ }
+    requires { ⌜ n ≤ length (lineBytes (now text)) ⌝ }
+    ensures { λ r. ⌜ r ≡ total (take n (lineBytes (now (text .entry)))) % 256 ⌝ }
 {
     let mut sum = 0;
     let mut i = 0;
@@ -93,7 +93,7 @@ fn shaped(text: &[u8]) -> bool
 // Whether the last byte is the checksum of those before it: the complement of the low byte of their sum.
 fn summed(text: &[u8]) -> bool
     requires { ⌜ isShaped (now text) ≡ true ⌝ }
-    ensures { λ r. ⌜ r ≡ isSummed (bytes (now (text .entry))) ⌝ }
+    ensures { λ r. ⌜ r ≡ isSummed (lineBytes (now (text .entry))) ⌝ }
 {
     let n = size(text) - 1;
     let sum = sum_bytes(text, n);
@@ -103,7 +103,7 @@ fn summed(text: &[u8]) -> bool
 // What a line says whose shape and checksum are right.
 fn meaning(text: &[u8]) -> Line
     requires { ⌜ isShaped (now text) ≡ true ⌝ }
-    ensures { λ r. ⌜ r ≡ shown (meant (getD (now (text .entry)) 1 0) (addressOf (bytes (now (text .entry)))) (dataOf (bytes (now (text .entry))))) ⌝ }
+    ensures { λ r. ⌜ r ≡ lineAnswer (meant (getD (now (text .entry)) 1 0) (lineAddress (lineBytes (now (text .entry)))) (dataOf (lineBytes (now (text .entry))))) ⌝ }
 {
     let address = 256 * byte(text, 1) as u16 + byte(text, 2) as u16;
     let count = size(text) - 4;
@@ -122,7 +122,7 @@ fn meaning(text: &[u8]) -> Line
 
 // One line, with its line feed. The commonest S9 line is known by its text.
 pub fn line_of(text: &[u8]) -> Line
-    ensures { λ r. ⌜ r ≡ shown (lineOf (now (text .entry))) ⌝ }
+    ensures { λ r. ⌜ r ≡ lineAnswer (lineOf (now (text .entry))) ⌝ }
 {
     if check::same(text, b"S9030000FC\n") {
         return Line::End(0);

@@ -4,9 +4,9 @@ ghost use mathlib.Core.List.{[]};
 ghost use Prim.Native.Nat.{_+_, _*_, _≤_};
 ghost use lib.ListN.{length};
 ghost use lib.Seq.{sets};
-ghost use Rattle.srecord.specs.Layout.{kind9, pairs, textOf};
-ghost use Rattle.srecord.specs.Line.{most};
-ghost use Rattle.srecord.specs.Written.{stopped, rowsText, isZero, writtenOf, outputAfter};
+ghost use Rattle.srecord.specs.Layout.{kind9, pairs, lineText};
+ghost use Rattle.srecord.specs.Line.{mostData};
+ghost use Rattle.srecord.specs.Written.{stopped, rowsText, isZero, outputWritten, outputAfter};
 use super::layout::sum_of;
 use answers::Answer;
 use answers::Refusal;
@@ -31,8 +31,8 @@ fn put_pairs(out: &mut [u8], at: usize, list: &[u8])
 
 // One line. The data are not too many, so that the count is a byte.
 fn put_line(out: &mut [u8], at: usize, kind: u8, address: u16, list: &[u8])
-    requires { ⌜ (length (now list) ≤ most) × (at + (11 + 2 * length (now list)) ≤ length (now out)) ⌝ }
-    ensures { λ _. ⌜ now (out .exit) ≡ sets (now (out .entry)) at (textOf kind address (now (list .entry))) ⌝ }
+    requires { ⌜ (length (now list) ≤ mostData) × (at + (11 + 2 * length (now list)) ≤ length (now out)) ⌝ }
+    ensures { λ _. ⌜ now (out .exit) ≡ sets (now (out .entry)) at (lineText kind address (now (list .entry))) ⌝ }
 {
     let head = [83, kind];
     text::put(out, at, &head);
@@ -103,7 +103,7 @@ fn put_rows(mem: &[u8], out: &mut [u8]) -> usize
 // The S9 line: a fixed text for the start 0000.
 fn put_end(out: &mut [u8], at: usize, start: u16)
     requires { ⌜ at + 11 ≤ length (now out) ⌝ }
-    ensures { λ _. ⌜ now (out .exit) ≡ sets (now (out .entry)) at (textOf kind9 start []) ⌝ }
+    ensures { λ _. ⌜ now (out .exit) ≡ sets (now (out .entry)) at (lineText kind9 start []) ⌝ }
 {
     if start == 0 {
         text::put(out, at, b"S9030000FC\n");
@@ -123,7 +123,7 @@ fn unwritten(refusal: Refusal) -> Written
 
 // The text's length is found before the first byte is written, so that a short output stays unchanged.
 pub fn write(mem: &[u8], start: u16, out: &mut [u8]) -> Written
-    ensures { λ r. ⌜ (r ≡ writtenOf (now (mem .entry)) start (now (out .entry))) × (now (out .exit) ≡ outputAfter (now (mem .entry)) start (now (out .entry))) ⌝ }
+    ensures { λ r. ⌜ (r ≡ outputWritten (now (mem .entry)) start (now (out .entry))) × (now (out .exit) ≡ outputAfter (now (mem .entry)) start (now (out .entry))) ⌝ }
 {
     if mem.len() != 65536 {
         return unwritten(Refusal::MemoryLength);

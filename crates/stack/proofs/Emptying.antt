@@ -11,7 +11,7 @@ use lib.Seq.{drop-cons}
 use Rattle.u8oru16.specs.declared.u8u16.the-variants.{u8, u16}
 use Rattle.answers.specs.declared.Refusal.{Refusal}
 use Rattle.registers.specs.ConditionCodes.{bitAt}
-use Rattle.registers.specs.Names.{sizeOf}
+use Rattle.registers.specs.Names.{registerSize}
 use Rattle.registers.specs.RegisterSet.{written}
 use Rattle.registers.specs.declared.Name.{Name}
 use Rattle.registers.specs.declared.Name.the-variants.{CC}
@@ -45,10 +45,10 @@ bit-at : (stack : Stack) (k : ℕ) → k < 8 → getD (reverse (order stack)) k 
 bit-at stack k h = let e : 7 - (7 - k) ≡ k = omega arith in rw (reversed stack k h, bit-of stack (7 - k) (omega arith), e)
 
 module _ (mem : List ℕ) (r : Set) (at : ℕ) (stack : Stack) (k : ℕ) where
-  byte-size : k < 4 → sizeOf (nameAt stack k) ≡ 1
+  byte-size : k < 4 → registerSize (nameAt stack k) ≡ 1
   byte-size g = let e : 7 - k ≡ 4 + (3 - k) = omega arith in rw (reversed stack k (omega arith), e) (byte-of r stack (3 - k) (omega arith) .size)
 
-  word-size : 3 < k → k < 8 → sizeOf (nameAt stack k) ≡ 2
+  word-size : 3 < k → k < 8 → registerSize (nameAt stack k) ≡ 2
   word-size g h = rw (reversed stack k h) (word-of r stack (7 - k) (omega arith) .size)
 
   byte-into : k < 4 → pulledInto mem (nameAt stack k) (To r at) ≡ To (written r (nameAt stack k) (u8 (byteAt mem at))) ((at + 1) % 65536)

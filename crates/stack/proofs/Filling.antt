@@ -10,7 +10,7 @@ use lib.ListN.{length, getD, set, take, drop, length-append, take-append-drop}
 use lib.Seq.{take-suc}
 use Rattle.u8oru16.specs.Value.{valueOf}
 use Rattle.registers.specs.ConditionCodes.{bitAt}
-use Rattle.registers.specs.Names.{sizeOf}
+use Rattle.registers.specs.Names.{registerSize}
 use Rattle.registers.specs.RegisterSet.{read}
 use Rattle.registers.specs.declared.Name.{Name}
 use Rattle.registers.specs.declared.Name.the-variants.{A, B, D, X, Y, U, S, PC, DP, CC}
@@ -26,13 +26,13 @@ use Rattle.stack.specs.Pushing.{order, chosen, registersNamed, bytesPush
 
 abbrev pub size : List Name → ℕ
 size [] = 0
-size (name ∷ rest) = sizeOf name + size rest
+size (name ∷ rest) = registerSize name + size rest
 
 size-append : (l m : List Name) → size (l ++ m) ≡ size l + size m
 size-append [] m = omega arith
 size-append (n ∷ l) m = omega (arith, size-append l m)
 
-value-length : (at : ℕ) (r : Set) (name : Name) (system : Bool) → length (valueWrites at (read r name) system) ≡ sizeOf name
+value-length : (at : ℕ) (r : Set) (name : Name) (system : Bool) → length (valueWrites at (read r name) system) ≡ registerSize name
 value-length at r A system = refl
 value-length at r B system = refl
 value-length at r D system = refl
@@ -48,19 +48,19 @@ pub pushes-length : (r : Set) (system : Bool) (pointer : ℕ) (l : List Name) �
 unfolding pushes
 pushes-length r system pointer [] = refl
 pushes-length r system pointer (n ∷ l) =
-    length-append (valueWrites (pointer - sizeOf n) (read r n) system) (pushes r system (pointer - sizeOf n) l)
-    ∙ rw (value-length (pointer - sizeOf n) r n system, pushes-length r system (pointer - sizeOf n) l)
+    length-append (valueWrites (pointer - registerSize n) (read r n) system) (pushes r system (pointer - registerSize n) l)
+    ∙ rw (value-length (pointer - registerSize n) r n system, pushes-length r system (pointer - registerSize n) l)
 
 pub pushes-more : (r : Set) (system : Bool) (pointer : ℕ) (l : List Name) (n : Name)
-    → pushes r system pointer (l ++ (n ∷ [])) ≡ pushes r system pointer l ++ valueWrites (pointer - size l - sizeOf n) (read r n) system
+    → pushes r system pointer (l ++ (n ∷ [])) ≡ pushes r system pointer l ++ valueWrites (pointer - size l - registerSize n) (read r n) system
 unfolding pushes
 pushes-more r system pointer [] n =
-    let e : pointer - 0 - sizeOf n ≡ pointer - sizeOf n = omega arith in
-    rw e (append-nil (valueWrites (pointer - sizeOf n) (read r n) system))
+    let e : pointer - 0 - registerSize n ≡ pointer - registerSize n = omega arith in
+    rw e (append-nil (valueWrites (pointer - registerSize n) (read r n) system))
 pushes-more r system pointer (m ∷ l) n =
-    let at = pointer - sizeOf m in
-    let e : pointer - (sizeOf m + size l) - sizeOf n ≡ at - size l - sizeOf n = omega arith in
-    rw (pushes-more r system at l n, e) (sym (append-assoc (valueWrites at (read r m) system) (pushes r system at l) (valueWrites (at - size l - sizeOf n) (read r n) system)))
+    let at = pointer - registerSize m in
+    let e : pointer - (registerSize m + size l) - registerSize n ≡ at - size l - registerSize n = omega arith in
+    rw (pushes-more r system at l n, e) (sym (append-assoc (valueWrites at (read r m) system) (pushes r system at l) (valueWrites (at - size l - registerSize n) (read r n) system)))
 
 eight : (a b c d e f g h : ℕ) → 2 * a + (2 * b + (2 * c + (2 * d + (1 * e + (1 * f + (1 * g + (1 * h + 0))))))) ≡ 2 * (a + b + c + d) + (e + f + g + h)
 eight a b c d e f g h = omega arith
@@ -81,11 +81,11 @@ module _ (mask : ℕ) where
   chosen-within n l =
       omega (arith, size-append (chosen mask (take n l)) (chosen mask (drop n l)), ap size (chosen-append (take n l) (drop n l)), ap (λ (m : List (ℕ × Name)). size (chosen mask m)) (take-append-drop n l))
 
-  bit-size : (k : ℕ) (n : Name) (l : List (ℕ × Name)) → size (chosen mask ((k, n) ∷ l)) ≡ sizeOf n * (mask / 2 ^ k % 2) + size (chosen mask l)
+  bit-size : (k : ℕ) (n : Name) (l : List (ℕ × Name)) → size (chosen mask ((k, n) ∷ l)) ≡ registerSize n * (mask / 2 ^ k % 2) + size (chosen mask l)
   unfolding chosen bitAt
   bit-size k n l = go (mask / 2 ^ k % 2) (omega arith)
     where
-      go : (d : ℕ) → d < 2 → size (cond (eqb d 1) (n ∷ chosen mask l) (chosen mask l)) ≡ sizeOf n * d + size (chosen mask l)
+      go : (d : ℕ) → d < 2 → size (cond (eqb d 1) (n ∷ chosen mask l) (chosen mask l)) ≡ registerSize n * d + size (chosen mask l)
       go zero h = omega arith
       go (suc zero) h = omega arith
       go (suc (suc d)) h = absurd (omega arith)
@@ -126,11 +126,11 @@ bit-of stack (suc (suc (suc (suc (suc (suc (suc (suc n)))))))) h = absurd (omega
 
 -- the first four are words, the last four bytes
 pub record IsWord (r : Set) (name : Name) : Type 0 where
-  pub size : sizeOf name ≡ 2
+  pub size : registerSize name ≡ 2
   pub written : (at : ℕ) (system : Bool) → valueWrites at (read r name) system ≡ wordWrites at (valueOf (read r name)) system
 
 pub record IsByte (r : Set) (name : Name) : Type 0 where
-  pub size : sizeOf name ≡ 1
+  pub size : registerSize name ≡ 1
   pub written : (at : ℕ) (system : Bool) → valueWrites at (read r name) system ≡ record { at = at; byte = valueOf (read r name); system = system } ∷ []
 
 pub word-of : (r : Set) (stack : Stack) (n : ℕ) → n < 4 → IsWord r (nameAt stack n)
@@ -187,15 +187,15 @@ module _ (r : Set) (stack : Stack) (pointer mask : ℕ) (system : Bool) where
       one-more = chosen-one n h ∙ rw b
 
       -- the bytes of the register are among those that are counted
-      room : count + sizeOf (nameAt stack n) ≤ bytesPushed mask
+      room : count + registerSize (nameAt stack n) ≤ bytesPushed mask
       room =
           omega (arith, f .many, size-append (first n) (nameAt stack n ∷ []), ap size one-more, chosen-within mask (suc n) (order stack), named-size mask stack)
 
   -- the writes after one register more
-  pushes-on : (n : ℕ) → n < 8 → (list : List Write) (count at : ℕ) → Filled n list count at → bitAt (7 - n) mask ≡ true → count + sizeOf (nameAt stack n) ≤ pointer
-      → pushes r system pointer (first (suc n)) ≡ pushes r system pointer (first n) ++ valueWrites (at - sizeOf (nameAt stack n)) (read r (nameAt stack n)) system
+  pushes-on : (n : ℕ) → n < 8 → (list : List Write) (count at : ℕ) → Filled n list count at → bitAt (7 - n) mask ≡ true → count + registerSize (nameAt stack n) ≤ pointer
+      → pushes r system pointer (first (suc n)) ≡ pushes r system pointer (first n) ++ valueWrites (at - registerSize (nameAt stack n)) (read r (nameAt stack n)) system
   pushes-on n h list count at f b fits =
-      let z = sizeOf (nameAt stack n) in
+      let z = registerSize (nameAt stack n) in
       let e : pointer - size (first n) - z ≡ at - z = omega (arith, f .many, f .low) in
       ap (pushes r system pointer) (one-more n h list count at f b) ∙ (pushes-more r system pointer (first n) (nameAt stack n) ∙ rw e)
 
@@ -207,7 +207,7 @@ module _ (r : Set) (stack : Stack) (pointer mask : ℕ) (system : Bool) where
         let k = word-of r stack n h in
         let h8 : n < 8 = omega arith in
         let ws = pushes r system pointer (first n) in
-        let room : count + sizeOf (nameAt stack n) ≤ pointer = rw (k .size) fits in
+        let room : count + registerSize (nameAt stack n) ≤ pointer = rw (k .size) fits in
         let e : pushes r system pointer (first (suc n)) ≡ ws ++ wordWrites (at - 2) w system = pushes-on n h8 list count at f b room ∙ rw (k .size, ew) (ap (λ (m : List Write). ws ++ m) (k .written (at - 2) system)) in
         let low : (at - 2 + 1) % 65536 ≡ at - 2 + 1 = omega (arith, f .low) in
         let l : count ≡ length ws = f .many ∙ sym (pushes-length r system pointer (first n)) in
@@ -224,7 +224,7 @@ module _ (r : Set) (stack : Stack) (pointer mask : ℕ) (system : Bool) where
         let m : 4 + (n - 4) ≡ n = omega arith in
         let k : IsByte r (nameAt stack n) = rw m at (byte-of r stack (n - 4) (omega arith)) in
         let ws = pushes r system pointer (first n) in
-        let room : count + sizeOf (nameAt stack n) ≤ pointer = rw (k .size) fits in
+        let room : count + registerSize (nameAt stack n) ≤ pointer = rw (k .size) fits in
         let e : pushes r system pointer (first (suc n)) ≡ ws ++ (record { at = at - 1; byte = v; system = system } ∷ []) = pushes-on n h list count at f b room ∙ rw (k .size, ev) (ap (λ (m : List Write). ws ++ m) (k .written (at - 1) system)) in
         let l : count ≡ length ws = f .many ∙ sym (pushes-length r system pointer (first n)) in
         record {
@@ -249,7 +249,7 @@ module _ (r : Set) (stack : Stack) (pointer mask : ℕ) (system : Bool) where
     turn-off b = rw next at (off (8 - k) (omega arith) list count at f (rw place b))
 
     module _ (b : bitAt (k - 1) mask ≡ true) (fits : bytesPushed mask ≤ pointer) where
-      in-room : count + sizeOf (nameAt stack (8 - k)) ≤ pointer
+      in-room : count + registerSize (nameAt stack (8 - k)) ≤ pointer
       in-room = omega (arith, room (8 - k) (omega arith) list count at f (rw place b))
 
       pub word-room : 4 < k → count + 2 ≤ pointer
@@ -258,7 +258,7 @@ module _ (r : Set) (stack : Stack) (pointer mask : ℕ) (system : Bool) where
       pub byte-room : k ≤ 4 → count + 1 ≤ pointer
       byte-room h =
           let m : 4 + (8 - k - 4) ≡ 8 - k = omega arith in
-          let z : sizeOf (nameAt stack (8 - k)) ≡ 1 = rw m at (byte-of r stack (8 - k - 4) (omega arith) .size) in
+          let z : registerSize (nameAt stack (8 - k)) ≡ 1 = rw m at (byte-of r stack (8 - k - 4) (omega arith) .size) in
           omega (arith, in-room)
 
       pub turn-word : 4 < k → pointer < 65536 → count + 2 ≤ 12 → (w : ℕ) → w ≡ valueOf (read r (nameAt stack (7 - (k - 1))))

@@ -7,7 +7,7 @@ use mathlib.Core.Path.{_≡_, refl, sym, _∙_}
 use lib.Dec.{eqb}
 use Rattle.u8oru16.specs.declared.u8u16.{u8u16}
 use Rattle.registers.specs.ConditionCodes.{bitAt}
-use Rattle.registers.specs.Names.{sizeOf, stackWord}
+use Rattle.registers.specs.Names.{registerSize, stackWord}
 use Rattle.registers.specs.RegisterSet.{wordOf, written}
 use Rattle.registers.specs.declared.CCBits.{CCBits}
 use Rattle.registers.specs.declared.Name.{Name}
@@ -20,7 +20,7 @@ use Rattle.memory.specs.Writes.{writesOf}
 use Rattle.memory.specs.declared.ValueRead.{ValueRead}
 use Rattle.memory.specs.declared.ValueRead.the-variants.{Value, Refused as NotRead}
 use Rattle.stack.specs.Pushing.{order, chosen}
-use Rattle.stack.specs.Pulling.{loaded, pulledInto, pulls, ofPulled, pulled}
+use Rattle.stack.specs.Pulling.{pulledValue, pulledInto, pulls, ofPulled, pulled}
 use Rattle.stack.specs.Laws.{PullKeepsCodes, PullWritesNothing}
 use Rattle.stack.specs.declared.pulling.Pulled.{Pulled}
 use Rattle.stack.specs.declared.pulling.Pulled.the-variants.{To, Refused}
@@ -77,9 +77,9 @@ Holds cc (Refused x) = Unit {0}
 
 module _ (mem : List ℕ) (cc : CCBits) where
   into-holds : (n : Name) → isOther n ≡ true → (p : Pulled) → Holds cc p → Holds cc (pulledInto mem n p)
-  into-holds n e (To r pointer) h = go (valueAt mem pointer (eqb (sizeOf n) 2))
+  into-holds n e (To r pointer) h = go (valueAt mem pointer (eqb (registerSize n) 2))
     where
-      go : (v : ValueRead) → Holds cc (loaded n r pointer v)
+      go : (v : ValueRead) → Holds cc (pulledValue n r pointer v)
       go (Value v) = other-written r n v e ∙ h
       go (NotRead x) = tt
   into-holds n e (Refused x) h = tt

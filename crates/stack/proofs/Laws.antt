@@ -12,7 +12,7 @@ use Rattle.answers.specs.declared.Answer.{Answer}
 use Rattle.answers.specs.declared.Answer.the-variants.{Done, Refused as NotDone}
 use Rattle.answers.specs.declared.Refusal.the-variants.{StackTooSmall, WordAtTop}
 use Rattle.registers.specs.ConditionCodes.{put}
-use Rattle.registers.specs.Names.{sizeOf, stackWord}
+use Rattle.registers.specs.Names.{registerSize, stackWord}
 use Rattle.registers.specs.RegisterSet.{wordOf, written}
 use Rattle.registers.specs.declared.CCBit.the-variants.{E}
 use Rattle.registers.specs.declared.Name.{Name}
@@ -78,13 +78,13 @@ pulls-number : (mem : List ℕ) (before : Set) (stack : Stack) (l : List Name) (
     → numberOfAnswer (ofPulled before stack (pulls mem l (To r pointer)) .answer) ≡ cond (topMet pointer l) 6 0
 unfolding pulls topMet valueAt wordAt
 pulls-number mem before stack [] r pointer = refl
-pulls-number mem before stack (n ∷ l) r pointer = go (λ q to. pulls-number mem before stack l q to) (eqb (sizeOf n) 2) refl (wordFits pointer) refl
+pulls-number mem before stack (n ∷ l) r pointer = go (λ q to. pulls-number mem before stack l q to) (eqb (registerSize n) 2) refl (wordFits pointer) refl
   where
     go : ((q : Set) (to : ℕ) → numberOfAnswer (ofPulled before stack (pulls mem l (To q to)) .answer) ≡ cond (topMet to l) 6 0)
-        → (wide : Bool) → eqb (sizeOf n) 2 ≡ wide → (fits : Bool) → wordFits pointer ≡ fits
+        → (wide : Bool) → eqb (registerSize n) 2 ≡ wide → (fits : Bool) → wordFits pointer ≡ fits
         → numberOfAnswer (ofPulled before stack (pulls mem (n ∷ l) (To r pointer)) .answer) ≡ cond (topMet pointer (n ∷ l)) 6 0
-    go rest false e fits f = rw e (rest (written r n _) ((pointer + sizeOf n) % 65536))
-    go rest true e true f = rw (e, f) (rest (written r n _) ((pointer + sizeOf n) % 65536))
+    go rest false e fits f = rw e (rest (written r n _) ((pointer + registerSize n) % 65536))
+    go rest true e true f = rw (e, f) (rest (written r n _) ((pointer + registerSize n) % 65536))
     go rest true e false f = rw (e, f, ended mem l WordAtTop)
 
 pub stack-refuses-exactly : StackRefusesExactly

@@ -15,7 +15,7 @@ use Rattle.answers.specs.declared.Answer.the-variants.{Done, Refused as NotDone
 use Rattle.answers.specs.declared.Refusal.the-variants.{StackTooSmall}
 use Rattle.registers.specs.ConditionCodes.{coded, flag, put}
 use Rattle.registers.specs.Fits.{Fits, InWidth}
-use Rattle.registers.specs.Names.{sizeOf, stackWord}
+use Rattle.registers.specs.Names.{registerSize, stackWord}
 use Rattle.registers.specs.RegisterSet.{read, wordOf, withWord}
 use Rattle.registers.specs.declared.CCBit.the-variants.{E}
 use Rattle.registers.specs.declared.Name.{Name}
@@ -44,7 +44,7 @@ use Rattle.operations.proofs.Sound.{done-sound, changed-sound, stored-sound, re
 use Rattle.operations.proofs.Widths.{word-in, word-written, jumped-fits, codes-fits}
 use Rattle.stack.specs.Pushing.{order, chosen, registersNamed, bytesPushed, pushes, pushed, oncePushed, jumpedToSubroutine}
 use Rattle.stack.specs.Frames.{stackedBy, framed}
-use Rattle.stack.specs.Pulling.{loaded, pulledInto, pulls, ofPulled, pulled, returnedFromInterrupt}
+use Rattle.stack.specs.Pulling.{pulledValue, pulledInto, pulls, ofPulled, pulled, returnedFromInterrupt}
 use Rattle.stack.specs.Laws.{StackSound}
 use Rattle.stack.specs.declared.pulling.Pulled.{Pulled}
 use Rattle.stack.specs.declared.pulling.Pulled.the-variants.{To, Refused}
@@ -83,9 +83,9 @@ module _ (r : Set) (f : Fits r) (system : Bool) where
   unfolding pushes
   pushes-fit pointer [] h = tt
   pushes-fit pointer (n ∷ l) h =
-      let at : pointer - sizeOf n < 65536 = omega arith in
-      append-fits (valueWrites (pointer - sizeOf n) (read r n) system) (pushes r system (pointer - sizeOf n) l)
-      (value-fits (pointer - sizeOf n) (read r n) system at (read-fits r f n)) (pushes-fit (pointer - sizeOf n) l at)
+      let at : pointer - registerSize n < 65536 = omega arith in
+      append-fits (valueWrites (pointer - registerSize n) (read r n) system) (pushes r system (pointer - registerSize n) l)
+      (value-fits (pointer - registerSize n) (read r n) system at (read-fits r f n)) (pushes-fit (pointer - registerSize n) l at)
 
 -- ---- what follows a push
 
@@ -124,9 +124,9 @@ module _ (mem : List ℕ) (bytes : Bytes mem) where
       go (NoWord x) e i = rw e tt
 
   into-fits : (n : Name) (p : Pulled) → PulledFits p → PulledFits (pulledInto mem n p)
-  into-fits n (To r pointer) f = go (valueAt mem pointer (eqb (sizeOf n) 2)) (value-in pointer (eqb (sizeOf n) 2))
+  into-fits n (To r pointer) f = go (valueAt mem pointer (eqb (registerSize n) 2)) (value-in pointer (eqb (registerSize n) 2))
     where
-      go : (v : ValueRead) → ValueIn v → PulledFits (loaded n r pointer v)
+      go : (v : ValueRead) → ValueIn v → PulledFits (pulledValue n r pointer v)
       go (Value v) i = (written-fits r (f .0) n v i, mod-lt _ (lit< tt))
       go (NotRead x) i = tt
   into-fits n (Refused x) f = tt

@@ -9,7 +9,7 @@ use lib.Dec.{eqb, ltb}
 use lib.ListN.{length}
 use Rattle.answers.specs.Numbers.{numberOfAnswer}
 use Rattle.registers.specs.ConditionCodes.{bitAt, coded, flag}
-use Rattle.registers.specs.Names.{sizeOf, stackWord}
+use Rattle.registers.specs.Names.{registerSize, stackWord}
 use Rattle.registers.specs.RegisterSet.{wordOf}
 use Rattle.registers.specs.declared.CCBit.the-variants.{E}
 use Rattle.registers.specs.declared.Name.{Name}
@@ -36,7 +36,7 @@ pub record NoneDropped : Type 0 where
 -- one of the registers is a word that would be pulled at FFFF
 unfoldable pub topMet : ℕ → List Name → Bool
 topMet pointer [] = false
-topMet pointer (name ∷ rest) = (eqb (sizeOf name) 2 && not (wordFits pointer)) || topMet ((pointer + sizeOf name) % 65536) rest
+topMet pointer (name ∷ rest) = (eqb (registerSize name) 2 && not (wordFits pointer)) || topMet ((pointer + registerSize name) % 65536) rest
 
 abbrev topMetBy : Set → Stack → ℕ → Bool
 topMetBy r stack mask = topMet (wordOf r (stackWord stack)) (chosen mask (reverse (order stack)))

@@ -4,7 +4,7 @@ use Prim.Native.Nat.{ℕ, _+_, _%_}
 use mathlib.Core.List.{List, [], _∷_, reverse}
 use lib.Dec.{eqb}
 use Rattle.registers.specs.ConditionCodes.{coded, flag}
-use Rattle.registers.specs.Names.{sizeOf, stackWord}
+use Rattle.registers.specs.Names.{registerSize, stackWord}
 use Rattle.registers.specs.RegisterSet.{wordOf, written, withWord}
 use Rattle.registers.specs.declared.CCBit.the-variants.{E}
 use Rattle.registers.specs.declared.Name.{Name}
@@ -22,12 +22,12 @@ use Rattle.stack.specs.declared.pulling.Pulled.{Pulled}
 use Rattle.stack.specs.declared.pulling.Pulled.the-variants.{To, Refused}
 
 -- a register is pulled: its byte or word is read at the pointer, a word at FFFF is refused (6); then the pointer is raised, and wraps
-abbrev pub loaded : Name → Set → ℕ → ValueRead → Pulled
-loaded name r pointer (Value v) = To (written r name v) ((pointer + sizeOf name) % 65536)
-loaded name r pointer (NotRead x) = Refused x
+abbrev pub pulledValue : Name → Set → ℕ → ValueRead → Pulled
+pulledValue name r pointer (Value v) = To (written r name v) ((pointer + registerSize name) % 65536)
+pulledValue name r pointer (NotRead x) = Refused x
 
 abbrev pub pulledInto : List ℕ → Name → Pulled → Pulled
-pulledInto mem name (To r pointer) = loaded name r pointer (valueAt mem pointer (eqb (sizeOf name) 2))
+pulledInto mem name (To r pointer) = pulledValue name r pointer (valueAt mem pointer (eqb (registerSize name) 2))
 pulledInto mem name (Refused x) = Refused x
 
 -- one register after the other, up to the first refusal

@@ -8,7 +8,7 @@ use Rattle.answers.specs.declared.Answer.{Answer}
 use Rattle.answers.specs.declared.Answer.the-variants.{Done, Refused}
 use Rattle.answers.specs.declared.Refusal.the-variants.{StackTooSmall}
 use Rattle.registers.specs.ConditionCodes.{bitAt}
-use Rattle.registers.specs.Names.{sizeOf, wordName, stackWord, otherStack}
+use Rattle.registers.specs.Names.{registerSize, wordName, stackWord, otherStack}
 use Rattle.registers.specs.RegisterSet.{read, wordOf, withWord}
 use Rattle.registers.specs.declared.Name.{Name}
 use Rattle.registers.specs.declared.Name.the-variants.{A, B, X, Y, PC, DP, CC}
@@ -43,7 +43,7 @@ bytesPushed mask =
 unfoldable pub pushes : Set → Bool → ℕ → List Name → List Write
 pushes r system pointer [] = []
 pushes r system pointer (name ∷ rest) =
-    let at = pointer - sizeOf name in
+    let at = pointer - registerSize name in
     valueWrites at (read r name) system ++ pushes r system at rest
 
 -- PSHS, PSHU: 8 where the pointer is smaller than the bytes, so that it does not wrap

@@ -7,32 +7,32 @@ use native.Mathlib.Omega.{arith}
 use native.Mathlib.Decide.{decLt}
 use borrow.Author.Tests.{le-leb, lt-leb, lt-ltb, le-ltb, leb-true}
 use lib.Dec.{leb}
-use Rattle.text.specs.Hex.{glyph, isFigure, isCapital, isDigit, valueOf, byteOf, GlyphIsDigit, ValueOfGlyph, GlyphOfValue, ByteOfHex2, Hex2OfByte}
+use Rattle.text.specs.Hex.{glyph, isFigure, isCapital, isDigit, digitValue, byteOf, GlyphIsDigit, ValueOfGlyph, GlyphOfValue, ByteOfHex2, Hex2OfByte}
 
-pub value-figure : (c : ℕ) → 48 ≤ c → c < 58 → c - 48 ≡ valueOf c
-unfolding valueOf
+pub value-figure : (c : ℕ) → 48 ≤ c → c < 58 → c - 48 ≡ digitValue c
+unfolding digitValue
 value-figure c lo hi = simp (le-leb 48 c lo, le-leb c 57 (omega arith))
 
-pub value-capital : (c : ℕ) → 65 ≤ c → c < 71 → c - 55 ≡ valueOf c
-unfolding valueOf
+pub value-capital : (c : ℕ) → 65 ≤ c → c < 71 → c - 55 ≡ digitValue c
+unfolding digitValue
 value-capital c lo hi = simp (le-leb 48 c (omega arith), lt-leb c 57 (omega arith), le-leb 65 c lo, le-leb c 70 (omega arith))
 
-pub value-below : (c : ℕ) → c < 48 → 0 ≡ valueOf c
-unfolding valueOf
+pub value-below : (c : ℕ) → c < 48 → 0 ≡ digitValue c
+unfolding digitValue
 value-below c h = simp (lt-leb 48 c h, lt-leb 65 c (omega arith))
 
-pub value-between : (c : ℕ) → 58 ≤ c → c < 65 → 0 ≡ valueOf c
-unfolding valueOf
+pub value-between : (c : ℕ) → 58 ≤ c → c < 65 → 0 ≡ digitValue c
+unfolding digitValue
 value-between c lo hi = simp (le-leb 48 c (omega arith), lt-leb c 57 (omega arith), lt-leb 65 c hi)
 
-pub value-above : (c : ℕ) → 71 ≤ c → 0 ≡ valueOf c
-unfolding valueOf
+pub value-above : (c : ℕ) → 71 ≤ c → 0 ≡ digitValue c
+unfolding digitValue
 value-above c h = simp (le-leb 48 c (omega arith), lt-leb c 57 (omega arith), le-leb 65 c (omega arith), lt-leb c 70 (omega arith))
 
-pub value-small : (c : ℕ) → valueOf c < 16
+pub value-small : (c : ℕ) → digitValue c < 16
 value-small c = go (decLt c 48) (decLt c 58) (decLt c 65) (decLt c 71)
   where
-    go : Dec (c < 48) → Dec (c < 58) → Dec (c < 65) → Dec (c < 71) → valueOf c < 16
+    go : Dec (c < 48) → Dec (c < 58) → Dec (c < 65) → Dec (c < 71) → digitValue c < 16
     go (yes h) _ _ _ = omega (arith, value-below c h)
     go (no n) (yes h) _ _ = omega (arith, value-figure c (omega arith) h)
     go (no n) (no m) (yes h) _ = omega (arith, value-between c (omega arith) h)
@@ -45,7 +45,7 @@ byte-small a b = omega (arith, value-small a, value-small b)
 pub value-of-glyph : ValueOfGlyph
 value-of-glyph d h = go (decLt d 10)
   where
-    go : Dec (d < 10) → valueOf (glyph d) ≡ d
+    go : Dec (d < 10) → digitValue (glyph d) ≡ d
     go (yes l) = rw (lt-ltb d 10 l) (sym (value-figure (48 + d) (omega arith) (omega arith)) ∙ omega arith)
     go (no l) = rw (le-ltb d 10 (omega arith)) (sym (value-capital (55 + d) (omega arith) (omega arith)) ∙ omega arith)
 
@@ -63,19 +63,19 @@ both false q e = (e, cc)
 pub glyph-of-value : GlyphOfValue
 glyph-of-value c e = go (isFigure c) refl (isCapital c) refl
   where
-    go : (u : Bool) → isFigure c ≡ u → (v : Bool) → isCapital c ≡ v → glyph (valueOf c) ≡ c
+    go : (u : Bool) → isFigure c ≡ u → (v : Bool) → isCapital c ≡ v → glyph (digitValue c) ≡ c
     go true p v q =
         let r = both (leb 48 c) (leb c 57) p in
         let lo = leb-true 48 c (r .0) in
         let hi = leb-true c 57 (r .1) in
         let n = value-figure c lo (omega arith) in
-        rw (lt-ltb (valueOf c) 10 (omega arith)) (omega arith)
+        rw (lt-ltb (digitValue c) 10 (omega arith)) (omega arith)
     go false p true q =
         let r = both (leb 65 c) (leb c 70) q in
         let lo = leb-true 65 c (r .0) in
         let hi = leb-true c 70 (r .1) in
         let n = value-capital c lo (omega arith) in
-        rw (le-ltb (valueOf c) 10 (omega arith)) (omega arith)
+        rw (le-ltb (digitValue c) 10 (omega arith)) (omega arith)
     go false p false q = let z : false ≡ true = sym (rw (p, q)) ∙ e in cc
 
 pub byte-of-hex2 : ByteOfHex2
@@ -84,6 +84,6 @@ byte-of-hex2 b h = rw (value-of-glyph (b / 16) (omega arith), value-of-glyph (b 
 pub hex2-of-byte : Hex2OfByte
 hex2-of-byte a b d e =
     let n = value-small b in
-    let high : byteOf a b / 16 ≡ valueOf a = omega arith in
-    let low : byteOf a b % 16 ≡ valueOf b = omega arith in
+    let high : byteOf a b / 16 ≡ digitValue a = omega arith in
+    let low : byteOf a b % 16 ≡ digitValue b = omega arith in
     rw (high, low, glyph-of-value a d, glyph-of-value b e)

@@ -28,21 +28,21 @@ abbrev pub isDigit : ℕ → Bool
 isDigit c = isFigure c || isCapital c
 
 -- what a digit stands for, 0 for any other character
-unfoldable pub valueOf : ℕ → ℕ
-valueOf c = cond (isFigure c) (c - 48) (cond (isCapital c) (c - 55) 0)
+unfoldable pub digitValue : ℕ → ℕ
+digitValue c = cond (isFigure c) (c - 48) (cond (isCapital c) (c - 55) 0)
 
 abbrev pub byteOf : ℕ → ℕ → ℕ
-byteOf high low = 16 * valueOf high + valueOf low
+byteOf high low = 16 * digitValue high + digitValue low
 
 -- the laws: a number below 16 has a digit, which stands for it, and no other digit does
 abbrev pub GlyphIsDigit : Type 0
 GlyphIsDigit = (d : ℕ) → d < 16 → isDigit (glyph d) ≡ true
 
 abbrev pub ValueOfGlyph : Type 0
-ValueOfGlyph = (d : ℕ) → d < 16 → valueOf (glyph d) ≡ d
+ValueOfGlyph = (d : ℕ) → d < 16 → digitValue (glyph d) ≡ d
 
 abbrev pub GlyphOfValue : Type 0
-GlyphOfValue = (c : ℕ) → isDigit c ≡ true → glyph (valueOf c) ≡ c
+GlyphOfValue = (c : ℕ) → isDigit c ≡ true → glyph (digitValue c) ≡ c
 
 -- a byte's two digits stand for it, and two digits are those of the byte for which they stand
 abbrev pub ByteOfHex2 : Type 0

@@ -1,7 +1,7 @@
 // Hexadecimal digits, in capitals.
 ghost use mathlib.Core.Path.{_≡_};
 ghost use Prim.Native.Nat.{_<_};
-ghost use Rattle.text.specs.Hex.{glyph, hex2 as Hex·hex2, hex4 as Hex·hex4, isDigit, valueOf, byteOf};
+ghost use Rattle.text.specs.Hex.{glyph, hex2 as Hex·hex2, hex4 as Hex·hex4, isDigit, digitValue, byteOf};
 
 fn digit(d: u8) -> u8
     requires { ⌜ d < 16 ⌝ }
@@ -37,7 +37,7 @@ pub fn is_digit(c: u8) -> bool
 
 // What a digit stands for, 0 for any other character.
 pub fn value(c: u8) -> u8
-    ensures { λ r. ⌜ (r ≡ valueOf c) × (r < 16) ⌝ }
+    ensures { λ r. ⌜ (r ≡ digitValue c) × (r < 16) ⌝ }
 {
     match c {
         48..=57 => c - 48,

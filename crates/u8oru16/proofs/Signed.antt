@@ -12,7 +12,7 @@ use mir.Val.{SFits, toZ, ofZ, sel}
 use mir.Facts.{toZ-pos, toZ-ofZ}
 use Rattle.u8oru16.specs.Signed.{signed}
 use Rattle.u8oru16.specs.Value.{valueOf, signedOf}
-use Rattle.u8oru16.specs.Negated.{extended}
+use Rattle.u8oru16.specs.Negated.{signExtended}
 use Rattle.u8oru16.specs.declared.u8u16.{u8u16}
 use Rattle.u8oru16.specs.declared.u8u16.the-variants.{u8, u16}
 
@@ -60,6 +60,6 @@ extended-byte b = go (ltb b 0x80) (ltb b 256) refl refl
     go false false e f =
         rw (le-ltb (0xFF00 + b) 0x8000 (omega arith), le-ltb (0xFF00 + b) 65536 (omega (arith, ltb-false b 256 f)), f) (ap pos (omega arith))
 
-pub extended-signed : (v : u8u16) → signed 0x8000 (valueOf (extended v)) ≡ signedOf v
+pub extended-signed : (v : u8u16) → signed 0x8000 (valueOf (signExtended v)) ≡ signedOf v
 extended-signed (u8 b) = extended-byte b
 extended-signed (u16 w) = refl

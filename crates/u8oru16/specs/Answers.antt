@@ -8,7 +8,7 @@ use lib.ListN.{length, drop}
 use Rattle.answers.specs.Numbers.{numberOf}
 use Rattle.answers.specs.declared.Refusal.the-variants.{DivisionByZero, LeftByte, NoRoom}
 use Rattle.u8oru16.specs.Value.{sizeOf, valueOf, bytesOf}
-use Rattle.u8oru16.specs.Negated.{extended}
+use Rattle.u8oru16.specs.Negated.{signExtended}
 use Rattle.u8oru16.specs.declared.u8u16.{u8u16}
 use Rattle.u8oru16.specs.declared.u8u16.the-variants.{u8, u16}
 use Rattle.u8oru16.specs.declared.Valued.{Valued}
@@ -28,7 +28,7 @@ numberOfWritten (NotWritten x) = numberOf x
 -- a word and a signed offset, which wraps at 65,536
 abbrev pub offsetBy : u8u16 → u8u16 → Valued
 offsetBy (u8 b) rhs = Refused LeftByte
-offsetBy (u16 w) rhs = Value (u16 ((w + valueOf (extended rhs)) % 65536))
+offsetBy (u16 w) rhs = Value (u16 ((w + valueOf (signExtended rhs)) % 65536))
 
 -- a quotient of two bytes is a byte, of any other two a word
 abbrev pub sized : u8u16 → u8u16 → ℕ → u8u16

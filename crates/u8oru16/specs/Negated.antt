@@ -25,6 +25,6 @@ abbrev pub forced : u8u16 → Bool → Negated
 forced v negative = record { value = cond negative (negatedWide v .value) v; overflow = negatedWide v .overflow }
 
 -- a word with the sign of the byte in its high byte
-abbrev pub extended : u8u16 → u8u16
-extended (u8 b) = u16 (cond (ltb b 0x80) b (0xFF00 + b))
-extended (u16 w) = u16 w
+abbrev pub signExtended : u8u16 → u8u16
+signExtended (u8 b) = u16 (cond (ltb b 0x80) b (0xFF00 + b))
+signExtended (u16 w) = u16 w

@@ -1,7 +1,7 @@
 // A value of one or two bytes (u8oru16.rs). A refusal is an answer where the Rust panics.
 ghost use mathlib.Core.Path.{_≡_};
 ghost use Rattle.u8oru16.specs.Value.{sizeOf, valueOf, isByte, lowByte, highByte, joined, shrunk, signedOf};
-ghost use Rattle.u8oru16.specs.Negated.{negated, negatedWide, forced, extended};
+ghost use Rattle.u8oru16.specs.Negated.{negated, negatedWide, forced, signExtended};
 ghost use Rattle.u8oru16.specs.Answers.{numberOfValued, numberOfWritten, offsetBy, divided, remainder, writtenOf, bytesWritten};
 use answers::Refusal;
 
@@ -209,7 +209,7 @@ impl u8u16 {
     }
 
     pub fn sign_extended(self) -> Self
-        ensures { λ r. ⌜ r ≡ extended self ⌝ }
+        ensures { λ r. ⌜ r ≡ signExtended self ⌝ }
     {
         match self {
             u8u16::u16(_) => self,

@@ -24,7 +24,7 @@ use Rattle.stack.specs.Frames.{framed}
 use Rattle.stack.specs.Pushing.{oncePushed}
 use Rattle.stack.proofs.Laws.{once-number, stack-refuses-exactly}
 use Rattle.vectors.specs.Laws.{NoVectorAtTop, zeroNumber, VectorsRefuseExactly}
-use Rattle.vectors.specs.Service.{wordIn, vectored, served}
+use Rattle.vectors.specs.Service.{vectorWord, vectored, served}
 use Rattle.vectors.specs.Table.{addressOf, masksOf, isEntire}
 use Rattle.vectors.specs.Waits.{waiting}
 use Rattle.vectors.specs.declared.table.Vector.{Vector}
@@ -58,7 +58,7 @@ unfolding vectored
 running mem s r v =
     let frame = framed r (isEntire v) in
     let after = stored (s .«ram_top») (listed (frame .writes)) mem in
-    let pc = wordIn after (addressOf v) in
+    let pc = vectorWord after (addressOf v) in
     once r (frame .answer) _ (ltb (r .s) (cond (isEntire v) 12 3)) _ (stack-refuses-exactly .frame r (isEntire v))
     (zero r (jumped (orCodes (frame .regs) (masksOf v)) pc) (frame .writes) (eqb (byteAt after pc) 0))
 
@@ -66,7 +66,7 @@ pub vectors-refuse-exactly : VectorsRefuseExactly
 unfolding vectored waiting stored
 vectors-refuse-exactly = record {
   running = running;
-  inCwai = λ mem s r v. let pc = wordIn mem (addressOf v) in zero r (jumped (orCodes r (masksOf v)) pc) (writesOf []) (eqb (byteAt mem pc) 0);
+  inCwai = λ mem s r v. let pc = vectorWord mem (addressOf v) in zero r (jumped (orCodes r (masksOf v)) pc) (writesOf []) (eqb (byteAt mem pc) 0);
   cwai = λ r m. once-number r (framed (andCodes r m) true .answer) _ refl ∙ stack-refuses-exactly .frame (andCodes r m) true;
   sync = λ r. refl;
 }

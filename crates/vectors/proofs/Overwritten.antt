@@ -17,7 +17,7 @@ use Rattle.memory.proofs.Folds.{afterAll, read-stored}
 use Rattle.stack.specs.Frames.{framed}
 use Rattle.stack.specs.Pushing.{chosen, pushes, pushed}
 use Rattle.vectors.specs.Laws.{atVector, FrameOverVector}
-use Rattle.vectors.specs.Service.{wordIn, vectored}
+use Rattle.vectors.specs.Service.{vectorWord, vectored}
 
 unfoldable frame : Set → List Write
 frame r = listed (framed (atVector r) true .writes)
@@ -37,7 +37,7 @@ module _ (top : ℕ) (r : Set) (b : ℕ) where
   low = simp clear
 
 -- the vector as it is after stacking
-vector : (top : ℕ) (r : Set) (mem : List ℕ) → length mem ≡ 65536 → wordIn (stored top (frame r) mem) 0xFFF8 ≡ r .pc
+vector : (top : ℕ) (r : Set) (mem : List ℕ) → length mem ≡ 65536 → vectorWord (stored top (frame r) mem) 0xFFF8 ≡ r .pc
 unfolding placeOf
 vector top r mem l =
     let e : 256 * (r .pc / 256) + r .pc % 256 ≡ r .pc = omega arith in

@@ -27,7 +27,7 @@ use Rattle.operations.proofs.Widths.{jumped-fits, and-fits, or-fits}
 use Rattle.stack.specs.Frames.{framed}
 use Rattle.stack.proofs.Sound.{stack-sound, once-sound}
 use Rattle.vectors.specs.Laws.{VectorsSound}
-use Rattle.vectors.specs.Service.{wordIn, vectored}
+use Rattle.vectors.specs.Service.{vectorWord, vectored}
 use Rattle.vectors.specs.Table.{addressOf, masksOf, isEntire}
 use Rattle.vectors.specs.Waits.{waiting, synchronized}
 use Rattle.vectors.specs.declared.table.Vector.{Vector}
@@ -42,7 +42,7 @@ masks-fit Swi = lit< tt
 masks-fit Nmi = lit< tt
 masks-fit Reset = lit< tt
 
-word-in : (mem : List ℕ) → Bytes mem → (at : ℕ) → wordIn mem at < 65536
+word-in : (mem : List ℕ) → Bytes mem → (at : ℕ) → vectorWord mem at < 65536
 word-in mem h at = omega (arith, byte-fits mem h at, byte-fits mem h (at + 1))
 
 module _ (mem : List ℕ) (s : Settings) (r : Set) (ea : ℕ) where
@@ -50,7 +50,7 @@ module _ (mem : List ℕ) (s : Settings) (r : Set) (ea : ℕ) where
   unfolding vectored
   vectored-sound frame v f =
       let after = stored (s .«ram_top») (listed (frame .writes)) mem in
-      let pc = wordIn after (addressOf v) in
+      let pc = vectorWord after (addressOf v) in
       let q = orCodes (frame .regs) (masksOf v) in
       once-sound r (λ g. g .registers) (frame .answer) _
       (either-sound r (eqb (byteAt after pc) 0) (refuses r ZeroAtVector) (stores (jumped q pc) (frame .writes)) (refused-sound r (λ g. g .registers) ZeroAtVector)

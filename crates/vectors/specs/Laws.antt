@@ -21,18 +21,18 @@ use Rattle.machine.specs.declared.Wait.the-variants.{Running, Cwai, Sync}
 use Rattle.operations.specs.Sound.{Sound, Given}
 use Rattle.stack.specs.Frames.{framed}
 use Rattle.vectors.specs.Table.{addressOf, isEntire}
-use Rattle.vectors.specs.Service.{wordIn, vectored, served}
+use Rattle.vectors.specs.Service.{vectorWord, vectored, served}
 use Rattle.vectors.specs.Waits.{waiting, synchronized}
 use Rattle.vectors.specs.declared.table.Vector.{Vector}
 use Rattle.vectors.specs.declared.table.Vector.the-variants.{Irq}
 
 -- no vector is a word at FFFF: the read of it is never refused (6)
 abbrev pub NoVectorAtTop : Type 0
-NoVectorAtTop = (mem : List ℕ) (v : Vector) → wordAt mem (addressOf v) ≡ Word (wordIn mem (addressOf v))
+NoVectorAtTop = (mem : List ℕ) (v : Vector) → wordAt mem (addressOf v) ≡ Word (vectorWord mem (addressOf v))
 
 -- 9 if the byte that a vector leads to is zero
 abbrev pub zeroNumber : List ℕ → Vector → ℕ
-zeroNumber mem v = cond (eqb (byteAt mem (wordIn mem (addressOf v))) 0) 9 0
+zeroNumber mem v = cond (eqb (byteAt mem (vectorWord mem (addressOf v))) 0) 9 0
 
 -- 8 exactly where S is smaller than the frame, of 12 bytes or of 3; then 9 exactly where the vector, after stacking, leads to a zero byte.
 -- In CWAI nothing is stacked, and S is not tested

@@ -20,15 +20,15 @@ use Rattle.vectors.specs.Table.{addressOf, masksOf, isEntire, softwareVe
 use Rattle.vectors.specs.declared.table.Vector.{Vector}
 
 -- a word that does not stand at FFFF, as no vector does: 6 cannot happen here
-abbrev pub wordIn : List ℕ → ℕ → ℕ
-wordIn mem at = 256 * byteAt mem at + byteAt mem (at + 1)
+abbrev pub vectorWord : List ℕ → ℕ → ℕ
+vectorWord mem at = 256 * byteAt mem at + byteAt mem (at + 1)
 
 -- after a frame: the masks are ORed into CC, and PC is the word at the vector. The vector and the byte that it leads to are read from
 -- memory as it is after stacking, and a zero byte refuses (9). A refusal leaves the registers r from before the frame
 unfoldable pub vectored : List ℕ → Settings → Set → Effect → Vector → Effect
 vectored mem s r frame v =
     let after = stored (s .«ram_top») (listed (frame .writes)) mem in
-    let pc = wordIn after (addressOf v) in
+    let pc = vectorWord after (addressOf v) in
     oncePushed r (frame .answer)
     (cond (eqb (byteAt after pc) 0) (refuses r ZeroAtVector)
     (stores (jumped (orCodes (frame .regs) (masksOf v)) pc) (frame .writes)))

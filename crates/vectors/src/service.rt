@@ -2,7 +2,7 @@
 ghost use mathlib.Core.Path.{_≡_};
 ghost use Rattle.memory.specs.Writes.{listed, stored};
 ghost use Rattle.vectors.specs.Table.{addressOf};
-ghost use Rattle.vectors.specs.Service.{wordIn, vectored, served};
+ghost use Rattle.vectors.specs.Service.{vectorWord, vectored, served};
 use super::table::Vector;
 use answers::Answer;
 use answers::Refusal;
@@ -13,7 +13,7 @@ use registers::Set;
 
 // The word at the vector, as it is once the writes are made.
 fn word_at(mem: &[u8], ram_top: u16, writes: Writes, vector: Vector) -> u16
-    ensures { λ r. ⌜ r ≡ wordIn (stored «ram_top» (listed writes) (now (mem .entry))) (addressOf vector) ⌝ }
+    ensures { λ r. ⌜ r ≡ vectorWord (stored «ram_top» (listed writes) (now (mem .entry))) (addressOf vector) ⌝ }
 {
     let at = vector.address();
     let high = memory::read_u8_after(mem, ram_top, writes, at);

@@ -44,7 +44,7 @@ use denote.Signature.{plain}
 use Rattle.journal.specs.Recorded.{inHand, Typed, stepped}
 use Rattle.journal.specs.declared.Twin.{Twin}
 use Rattle.machine.specs.declared.Settings.{Settings}
-use Rattle.lent.specs.Lending.{Leaves}
+use Rattle.lent.specs.Lending.{LeavesTwin}
 use Rattle.lent.specs.declared.Reported.{Reported}
 use Rattle.journal.proofs.Twin as T
 use Rattle.journal.proofs.Twin.Laws as T′
@@ -74,7 +74,7 @@ Lent 𝓤 H A at-mem run = tripleOf 𝓤 H A lent.signature (lent.spec 𝓤 H A 
 
 -- what it ensures of its result r, of the last twin k and of the last lists us and vs
 abbrev Ensures : Twin → List ℕ → List ℕ → Settings → Reported → Twin → List ℕ → List ℕ → Type 0
-Ensures h ys zs settings r k us vs = Leaves r k us vs (stepped settings (inHand ys zs h)) × Typed (inHand ys zs h)
+Ensures h ys zs settings r k us vs = LeavesTwin r k us vs (stepped settings (inHand ys zs h)) × Typed (inHand ys zs h)
 
 abbrev at-settings : Settings → Val
 at-settings t = LL.val G.the-type G′.the-laws t

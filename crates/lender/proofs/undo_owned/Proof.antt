@@ -44,7 +44,7 @@ use denote.Signature.{plain, shrSliceOf}
 use Rattle.journal.specs.Recorded.{inHand, Typed}
 use Rattle.journal.specs.Undos.{undone}
 use Rattle.journal.specs.declared.Twin.{Twin}
-use Rattle.lent.specs.Lending.{Leaves}
+use Rattle.lent.specs.Lending.{LeavesTwin}
 use Rattle.lent.specs.declared.Reported.{Reported}
 use Rattle.journal.proofs.Twin as T
 use Rattle.journal.proofs.Twin.Laws as T′
@@ -72,7 +72,7 @@ Lent 𝓤 H A at-mem run = tripleOf 𝓤 H A lent.signature (lent.spec 𝓤 H A 
 
 -- what it ensures of its result r, of the last twin k and of the last list us
 abbrev Ensures : Twin → List ℕ → List ℕ → Reported → Twin → List ℕ → Type 0
-Ensures h ys zs r k us = Leaves r k us zs (undone (inHand ys zs h)) × Typed (inHand ys zs h)
+Ensures h ys zs r k us = LeavesTwin r k us zs (undone (inHand ys zs h)) × Typed (inHand ys zs h)
 
 module _ {M : Type 1} (𝓤 : URA M) (H : Heap 𝓤) (A : Atoms 𝓤) (W : Given 𝓤 H A) (at-mem : Memory → SProp 𝓤) (run : Routine → Fun 𝓤) (κ₁ κ₂ : Lft) (q₁ q₂ : Share) (h : Twin)
     (b₁ o₁ : ℕ) (γ₁ : GName) (ys : List ℕ) (b₂ o₂ : ℕ) (γ₂ : GName) (zs : List ℕ) (g : Is T.the-row h (at-twin h ∷ [])) where

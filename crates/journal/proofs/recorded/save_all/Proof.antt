@@ -8,7 +8,7 @@ use native.Mathlib.Omega.{arith}
 use lib.ListN.{length, take, length-map}
 use Rattle.memory.proofs.Folds.{all-taken}
 use lib.Seq.{sets}
-use Rattle.journal.specs.Record.{entries, most, entriesAt}
+use Rattle.journal.specs.Record.{entries, mostStored, entriesAt}
 use Rattle.journal.specs.Recorded.{savedFor}
 use Rattle.journal.proofs.Laying.{saved-twelve, turn-count, turn-laid}
 use Rattle.journal.proofs.recorded.save_all.Statement.{statement}
@@ -16,14 +16,14 @@ use Rattle.journal.proofs.recorded.save_all.Tie as tie
 
 abbrev Inv-loop : tie.InvT-loop
 Inv-loop rest₀ mem ram-top count list n₀ i₀ rest n i =
-    ((i ≤ most) × (i ≤ count))
-    × ((length list ≡ most)
+    ((i ≤ mostStored) × (i ≤ count))
+    × ((length list ≡ mostStored)
     × ((length rest ≡ length rest₀)
     × ((n ≡ length (savedFor ram-top (take i list) mem))
     × (rest ≡ sets rest₀ entriesAt (entries (savedFor ram-top (take i list) mem))))))
 
 abbrev μ-loop : tie.MeasureT-loop
-μ-loop rest₀ mem ram-top count list n₀ i₀ rest n i = most - i
+μ-loop rest₀ mem ram-top count list n₀ i₀ rest n i = mostStored - i
 
 loop-holds : tie.Need-loop-holds Inv-loop μ-loop
 unfolding savedFor entries
@@ -57,7 +57,7 @@ loop-again : tie.Need-loop-again Inv-loop μ-loop
 loop-again c =
     let l = c .before .before .before .before .before .before .before .loop in
     let a = c .before .before .before .before .before .before .before .before .before .before .before .args in
-    let t : l .i < most = omega arith in
+    let t : l .i < mostStored = omega arith in
     let s = c .before .before .save .ensures in (
       omega (arith, ltb-true, c .before .before .before .before .before),
       (

@@ -32,12 +32,13 @@ loop-holds c = (
 loop-again : tie.Need-loop-again Inv-loop μ-loop
 loop-again c =
     let l = c .before .before .before .before .loop in
+    let a = c .before .before .before .before .before .before .before .before .before .args in
     let t : l .i < 12 = omega arith in
     let p = c .before .before .before .before .before .before .place .ensures in (
       omega (arith, ltb-true),
       (
         l .inv .1 .0,
-        c .over .ensures ∙ rw p (turn-read _ (c .before .before .before .before .before .before .before .before .before .args .writes .list) (l .i) _ (l .inv .1 .0) t (c .before .before .before .before .before .before .before .before .before .args .mem .now) (c .before .before .before .before .before .before .before .before .before .args .at) (l .b) (l .inv .1 .1)),
+        turn-read _ (a .writes .list) (l .i) _ (l .inv .1 .0) t (a .mem .now) (a .at) (l .b) _ (l .inv .1 .1) (rw p at (c .over .ensures)),
       ),
     )
 

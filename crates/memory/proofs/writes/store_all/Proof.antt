@@ -40,8 +40,8 @@ loop-again c =
         (
           s .1 ∙ turn-mem _ _ (l .i) _ (l .inv .1 .0) t _ _ (l .inv .1 .1 .0),
           ⊎-elim
-              (λ w. w .2 ∙ w .1 .ensures ∙ turn-device _ _ (l .i) _ (l .inv .1 .0) t _ (l .inv .1 .1 .1) (sym (w .0 .taken) ∙ s .0))
-              (λ w. w .1 ∙ turn-other _ _ (l .i) _ (l .inv .1 .0) t _ (l .inv .1 .1 .1) (sym (w .0 .left) ∙ s .0))
+              (λ w. w .2 ∙ w .1 .ensures ∙ turn-device _ _ (l .i) _ (l .inv .1 .0) t _ (l .inv .1 .1 .1) (rw (w .0 .taken) at (s .0)))
+              (λ w. w .1 ∙ turn-other _ _ (l .i) _ (l .inv .1 .0) t _ (l .inv .1 .1 .1) (rw (w .0 .left) at (s .0)))
               (c .if2 .came),
         ),
       ),

@@ -2,12 +2,12 @@
 -- Assumes nothing.
 use borrow.Author.Needs.{needs}
 use mathlib.Core.Path.{_∙_}
-use Rattle.srecord.specs.Layout.{textOf, pairs, total}
+use Rattle.srecord.specs.Layout.{lineText, pairs, total}
 use Rattle.srecord.proofs.written.put_end.Statement.{statement}
 use Rattle.srecord.proofs.written.put_end.Tie as tie
 
 returns : tie.Need-returns
-unfolding textOf pairs total
+unfolding lineText pairs total
 returns c = c .before .before .put .ensures ∙ rw (c .before .before .before .before .before .if1 .taken)
 
 pub put-end-spec : {M : Type 1} → statement M

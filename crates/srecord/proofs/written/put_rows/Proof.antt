@@ -11,7 +11,7 @@ use native.Mathlib.Omega.{arith}
 use lib.ListN.{length}
 use denote.Ref.{now}
 use Rattle.srecord.proofs.Rows.{row-part, row-width, row-length, rows-none, rows-grow, turn-more, turn-skip}
-use Rattle.srecord.specs.Written.{rowOf, isZero, rowsText}
+use Rattle.srecord.specs.Written.{bytesOfRow, isZero, rowsText}
 use lib.Seq.{sets}
 use Rattle.srecord.proofs.written.put_rows.Statement.{statement}
 use Rattle.srecord.proofs.written.put_rows.Tie as tie
@@ -25,7 +25,7 @@ abbrev μ-loop : tie.MeasureT-loop
 loop-holds : tie.Need-loop-holds Inv-loop μ-loop
 loop-holds c = (omega arith, (ap length (sym (rows-none _)), (refl, sym (ap (λ (l : List ℕ). sets (now (c .before .before .args .out)) 0 l) (rows-none _)))))
 
-row-is : (c : tie.After-all-zero Inv-loop μ-loop) {w : Bool} → c .all-zero .result ≡ w → isZero (rowOf (now (c .before .before .before .before .before .before .args .mem)) (c .before .before .before .loop .k)) ≡ w
+row-is : (c : tie.After-all-zero Inv-loop μ-loop) {w : Bool} → c .all-zero .result ≡ w → isZero (bytesOfRow (now (c .before .before .before .before .before .before .args .mem)) (c .before .before .before .loop .k)) ≡ w
 row-is c e = sym (c .all-zero .ensures ∙ ap isZero (row-part (now (c .before .before .before .before .before .before .args .mem)) (c .before .before .before .loop .k))) ∙ e
 
 -- the text of all rows has room for the row at hand
