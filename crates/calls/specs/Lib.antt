@@ -1,4 +1,5 @@
 pub mod Plans
+pub mod Cycles
 pub mod Steps
 pub mod Interrupts
 pub mod Resets

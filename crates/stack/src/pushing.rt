@@ -84,7 +84,7 @@ fn push_all(regs: Set, stack: Stack, pointer: u16, mask: u8, system: bool) -> Wr
 }
 
 // How many bytes a post-byte names.
-fn bytes_of(mask: u8) -> u16
+pub fn bytes_of(mask: u8) -> u16
     ensures { λ r. ⌜ r ≡ bytesPushed mask ⌝ }
 {
     let m = mask as u16;
