@@ -5,6 +5,7 @@ pub mod Interrupts
 pub mod Resets
 pub mod Calls
 pub mod Accepted
+pub mod Bills
 pub mod Moves
 pub mod Room
 pub mod Parting
