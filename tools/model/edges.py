@@ -109,7 +109,7 @@ def gen_edge(rng):
             elif f == 1:
                 ins += bytes([0x9F]) + w2(ea)
             elif f == 2:
-                ins += bytes([0x8F | rr << 5]) + w2(ea)
+                ins += bytes([0x89 | rr << 5]) + w2((ea - R['XYUS'[rr]]) & 0xFFFF)
             elif f == 3:
                 ins += bytes([0x1F | rr << 5])
                 R['XYUS'[rr]] = (ea + 1) & 0xFFFF
@@ -129,7 +129,8 @@ def gen_edge(rng):
         elif mode == EXT:
             ins += w2(ea)
         else:
-            ins += bytes([0x8F | rng.randrange(4) << 5]) + w2(ea)
+            rr = rng.randrange(4)
+            ins += bytes([0x89 | rr << 5]) + w2((ea - R['XYUS'[rr]]) & 0xFFFF)
     # setup code at 0000
     sc = b'\x86' + bytes([R['DP']]) + b'\x1F\x8B'
     parts = [b'\x10\xCE' + w2(R['S']), b'\xCE' + w2(R['U']), b'\x10\x8E' + w2(R['Y']), b'\x8E' + w2(R['X']), b'\xCC' + bytes([R['A'], R['B']])]

@@ -105,7 +105,7 @@ def instr(rng, at, code, opc=None, wild=0.03):
     # indexed
     pb = rng.randrange(256)
     if rng.random() < 0.3:
-        while pb & 0x80 and (pb & 15 in (7, 10, 14) or (pb & 16 and pb & 15 in (0, 2))):
+        while pb & 0x80 and (pb & 15 in (7, 10, 14) or (pb & 16 and pb & 15 in (0, 2)) or (pb & 15 == 15 and pb != 0x9F)):
             pb = rng.randrange(256)
     b += bytes([pb])
     if pb & 0x80:
@@ -131,7 +131,7 @@ def settings(rng):
     rt = rng.choice(RAMTOPS) if rng.random() < 0.8 else rng.randrange(65536)
     x = rng.random()
     if x < 0.15:
-        return w2(2) + w2(rt), rt, False
+        return w2(2) + w2(rt), rt, True
     man = x < 0.6
     return w2(3) + w2(rt) + bytes([1 if man else 0]), rt, man
 
@@ -747,7 +747,7 @@ def main():
     miss = ['%s%02X' % (('', '10 ', '11 ')[p], o) for p, o in DOC if not st.exec[(p, o)]]
     low = sorted((st.exec[k], '%d/%02X' % k) for k in DOC)[:8]
     print('opcodes executed: %d of %d; missing %s; rarest %s' % (sum(1 for k in DOC if st.exec[k]), len(DOC), miss, low))
-    print('post-bytes executed: %d of 224' % len(st.pb))
+    print('post-bytes executed: %d of 217' % len(st.pb))
     for c, v in classes.items():
         print('class', c, 'x', v[0])
     sys.exit(1 if diffs else 0)

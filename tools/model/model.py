@@ -523,6 +523,9 @@ class Machine:
                 ind = pb & 0x10
                 if low in (7, 10, 14) or (ind and low in (0, 2)):
                     raise Refuse(5)
+                # document 02 [2]: of low form 8F only 9F is in the manual; in 5's place, before any offset byte
+                if low == 15 and pb != 0x9F:
+                    raise Refuse(24)
                 v = r[ir]
                 if low == 0:
                     ea = v
@@ -769,7 +772,7 @@ def parse(data):
     if c not in (2, 3) or n < 2 + c:
         return None
     ram_top = w(2)
-    manual = 0
+    manual = 1  # document 02 [6]: a file that names no flags means the manual
     if c == 3:
         manual = data[4]
         if manual > 1:

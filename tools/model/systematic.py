@@ -122,12 +122,16 @@ def tops():
 PRE = (b'', b'\x10', b'\x11')
 
 
+INDEXED = [PRE[p] + bytes([o]) for p, o in DOC if TABLE[p][o][1] == IDX]
+
+
 def posts():
-    # all post-bytes at places near the end, with pointer targets FFFF
+    # all post-bytes on all indexed opcodes; on five of them also at places near the end, and with pointer targets FFFF
     for pb in range(256):
-        for op in (b'\x30', b'\xAE', b'\x10\xAF', b'\xA6', b'\xAD'):
-            for t in (0x2100, 0xFFF8, 0xFFFA, 0xFFFB, 0xFFFC, 0xFFFD, 0xFFFE):
-                for off in (0, 0xFFFF):
+        for op in INDEXED:
+            far = op in (b'\x30', b'\xAE', b'\x10\xAF', b'\xA6', b'\xAD')
+            for t in (0x2100, 0xFFF8, 0xFFFA, 0xFFFB, 0xFFFC, 0xFFFD, 0xFFFE, 0xFFFF) if far else (0x2100,):
+                for off in (0, 0xFFFF) if far else (0,):
                     b = op + bytes([pb])
                     nl = (2 if pb & 15 in (9, 13, 15) else 1 if pb & 15 in (8, 12) else 0) if pb & 0x80 else 0
                     nxt = t + len(b) + nl

@@ -8,7 +8,7 @@ use native.Mathlib.Omega.{arith}
 use lib.ListN.{getD}
 use Rattle.answers.specs.Numbers.{numberOf, RefusedByANumber, NumbersApart}
 use Rattle.answers.specs.declared.Refusal.{Refusal}
-use Rattle.answers.specs.declared.Refusal.the-variants.{MemoryLength, Waiting, Opcode, PastEnd, PostByte, WordAtTop, TransferCode, StackTooSmall, ZeroAtVector, JournalFull, NoRecord, JournalLength, DivisionByZero, LeftByte, NoRoom, Malformed, OutputShort, LineShape, Checksum, PastTop, NoEnd}
+use Rattle.answers.specs.declared.Refusal.the-variants.{MemoryLength, Waiting, Opcode, PastEnd, PostByte, WordAtTop, TransferCode, StackTooSmall, ZeroAtVector, JournalFull, NoRecord, JournalLength, DivisionByZero, LeftByte, NoRoom, Malformed, OutputShort, LineShape, Checksum, PastTop, NoEnd, PostByte8F}
 
 pub refused-by-a-number : RefusedByANumber
 refused-by-a-number MemoryLength = omega arith
@@ -32,13 +32,14 @@ refused-by-a-number LineShape = omega arith
 refused-by-a-number Checksum = omega arith
 refused-by-a-number PastTop = omega arith
 refused-by-a-number NoEnd = omega arith
+refused-by-a-number PostByte8F = omega arith
 
 -- the refusal of a number, by the table's places; 18 and 19 are not used
 abbrev refusalOf : ℕ → Refusal
 refusalOf n =
     getD
-    (NoEnd ∷ MemoryLength ∷ Waiting ∷ Opcode ∷ PastEnd ∷ PostByte ∷ WordAtTop ∷ TransferCode ∷ StackTooSmall ∷ ZeroAtVector ∷ JournalFull ∷ NoRecord ∷ JournalLength ∷ DivisionByZero ∷ LeftByte ∷ NoRoom ∷ Malformed ∷ OutputShort ∷ NoEnd ∷ NoEnd ∷ LineShape ∷ Checksum ∷ PastTop ∷ [])
-    n NoEnd
+    (PostByte8F ∷ MemoryLength ∷ Waiting ∷ Opcode ∷ PastEnd ∷ PostByte ∷ WordAtTop ∷ TransferCode ∷ StackTooSmall ∷ ZeroAtVector ∷ JournalFull ∷ NoRecord ∷ JournalLength ∷ DivisionByZero ∷ LeftByte ∷ NoRoom ∷ Malformed ∷ OutputShort ∷ PostByte8F ∷ PostByte8F ∷ LineShape ∷ Checksum ∷ PastTop ∷ NoEnd ∷ [])
+    n PostByte8F
 
 back : (x : Refusal) → refusalOf (numberOf x) ≡ x
 back MemoryLength = refl
@@ -62,6 +63,7 @@ back LineShape = refl
 back Checksum = refl
 back PastTop = refl
 back NoEnd = refl
+back PostByte8F = refl
 
 pub numbers-apart : NumbersApart
 numbers-apart x y e = sym (back x) ∙ (ap refusalOf e ∙ back y)

@@ -5,7 +5,7 @@ use mathlib.Core.Path.{_≡_}
 use Rattle.answers.specs.declared.Answer.{Answer}
 use Rattle.answers.specs.declared.Answer.the-variants.{Done, Refused}
 use Rattle.answers.specs.declared.Refusal.{Refusal}
-use Rattle.answers.specs.declared.Refusal.the-variants.{MemoryLength, Waiting, Opcode, PastEnd, PostByte, WordAtTop, TransferCode, StackTooSmall, ZeroAtVector, JournalFull, NoRecord, JournalLength, DivisionByZero, LeftByte, NoRoom, Malformed, OutputShort, LineShape, Checksum, PastTop, NoEnd}
+use Rattle.answers.specs.declared.Refusal.the-variants.{MemoryLength, Waiting, Opcode, PastEnd, PostByte, WordAtTop, TransferCode, StackTooSmall, ZeroAtVector, JournalFull, NoRecord, JournalLength, DivisionByZero, LeftByte, NoRoom, Malformed, OutputShort, LineShape, Checksum, PastTop, NoEnd, PostByte8F}
 
 abbrev pub numberOf : Refusal → ℕ
 -- memory is not 65,536 bytes
@@ -50,6 +50,8 @@ numberOf Checksum = 21
 numberOf PastTop = 22
 -- [1]: no S9
 numberOf NoEnd = 23
+-- [2]: a post-byte of low form 8F that is not 9F
+numberOf PostByte8F = 24
 
 -- 0 is done
 abbrev pub numberOfAnswer : Answer → ℕ

@@ -25,6 +25,7 @@ pub enum Refusal {
     Checksum,
     PastTop,
     NoEnd,
+    PostByte8F,
 }
 
 pub enum Answer {
@@ -58,6 +59,7 @@ impl Refusal {
             Refusal::Checksum => 21,
             Refusal::PastTop => 22,
             Refusal::NoEnd => 23,
+            Refusal::PostByte8F => 24,
         }
     }
 }

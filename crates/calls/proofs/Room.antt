@@ -1,13 +1,13 @@
 -- A call is refused by 8 exactly where a stack pointer is too small.
 -- Assumes nothing.
 use Prim.Native.Nat.{ℕ, _<_}
-use mathlib.Core.Bool.{Bool, true, false, cond, _&&_, _||_}
+use mathlib.Core.Bool.{Bool, true, false, cond, _||_}
 use mathlib.Core.List.{List}
-use mathlib.Core.Logic.{_≢_}
+use mathlib.Core.Logic.{_≢_, ⊎-elim}
 use mathlib.Core.Path.{_≡_, refl, ap, _∙_}
 use native.Mathlib.Omega.{arith}
 use borrow.Author.Tests.{eq-eqb, ne-eqb, eqb-true, lt-ltb}
-use lib.Dec.{T, eqb, leb, ltb, leb→le}
+use lib.Dec.{T, eqb, ltb}
 use lib.ListN.{length}
 use Rattle.answers.specs.Numbers.{numberOf, numberOfAnswer}
 use Rattle.answers.specs.declared.Answer.{Answer}
@@ -26,7 +26,7 @@ use Rattle.decode.specs.Laws.{OfDecoding, RefusedSo}
 use Rattle.decode.specs.declared.instruction.Decoded.{Decoded}
 use Rattle.decode.specs.declared.instruction.Decoded.the-variants.{Instruction as Taken, Refused as NotDecoded}
 use Rattle.decode.specs.declared.instruction.Instruction.{Instruction}
-use Rattle.decode.proofs.Laws.{decode-refuses}
+use Rattle.decode.proofs.Laws.{decoding-number, decode-refuses}
 use Rattle.addressing.specs.Address.{resolvedOf}
 use Rattle.addressing.specs.Laws.{OfResolving, RefusedBy}
 use Rattle.addressing.specs.declared.Resolved.{Resolved}
@@ -55,15 +55,8 @@ isEight a = eqb (numberOfAnswer a) 8
 abbrev Other : Refusal → Type 0
 Other x = eqb (numberOf x) 8 ≡ false
 
-both : (a b : Bool) → T (a && b) → T a × T b
-both true true t = (tt, tt)
-both true false t = absurd t
-both false b t = absurd t
-
 of-decoding : (x : Refusal) → OfDecoding x → Other x
-of-decoding x t =
-    let p = both (leb 3 (numberOf x)) (leb (numberOf x) 5) t in
-    ne-eqb (numberOf x) 8 (λ e. omega (arith, leb→le (numberOf x) 5 (p .1)))
+of-decoding x t = ne-eqb (numberOf x) 8 (λ e. ⊎-elim (λ p. omega (arith, p .1)) (λ p. omega arith) (decoding-number x t))
 
 of-resolving : (x : Refusal) → OfResolving x → Other x
 of-resolving x t = ne-eqb (numberOf x) 8 (λ e. go (eqb (numberOf x) 4) refl (eqb (numberOf x) 6) refl e t)

@@ -58,7 +58,7 @@ module _ (mem : List ℕ) (at : ℕ) (l : at ≤ 0x10000) where
   formed (Taken f) s post k =
       let b = counted (offsetBytes f) mem (at + 1) (λ v. indexedBy f post (offsetOf f post v)) k in
       (λ e. omega (arith, b .0 e), λ h. b .1 (omega arith))
-  formed (NoForm x) s post k = (λ e. let z : _≡_ {A = ℕ} 0 1 = cc in absurd (omega arith), λ h. absurd (omega arith))
+  formed (NoForm x) s post k = (λ e. let d : x ≡ PastEnd = cc in absurd (rw d at s), λ h. absurd (omega arith))
 
   indexed : Past (operandAt Indexed mem at) ↔ (0x10000 < at + bytesAfter Indexed (byteAt mem at))
   unfolding operandAt

@@ -2,11 +2,11 @@
 -- Assumes nothing.
 use Prim.Native.Nat.{ℕ, _+_, _≤_, _<_}
 use mathlib.Core.Path.{_≡_, refl}
-use mathlib.Core.Bool.{Bool, true, false, cond, _&&_}
+use mathlib.Core.Bool.{Bool, true, false, cond, _&&_, _||_}
 use mathlib.Core.List.{List, [], _∷_}
-use mathlib.Core.Logic.{_↔_}
+use mathlib.Core.Logic.{_↔_, _⊎_, inl, inr}
 use native.Mathlib.Omega.{arith}
-use borrow.Author.Tests.{leb-true, le-leb, ltb-true}
+use borrow.Author.Tests.{leb-true, le-leb, ltb-true, eqb-true}
 use lib.Dec.{T, eqb, leb, ltb}
 use Rattle.answers.specs.Numbers.{numberOf}
 use Rattle.answers.specs.declared.Refusal.{Refusal}
@@ -31,7 +31,7 @@ use Rattle.decode.specs.declared.instruction.Located.{Located}
 use Rattle.decode.specs.declared.instruction.Located.the-variants.{At, Refused as NotLocated}
 use Rattle.decode.specs.declared.instruction.Decoded.the-variants.{Refused}
 use Rattle.decode.proofs.Sizes.{entry-sizes}
-use Rattle.decode.proofs.Sound.{OfOperand, SoundRead, operand-sound}
+use Rattle.decode.proofs.Sound.{OfOperand, SoundRead, or-right, operand-sound}
 
 -- ---- the opcode's bytes
 
@@ -68,9 +68,21 @@ module _ (mem : List ℕ) (pc : ℕ) where
 wider : (x : Refusal) → OfOperand x → OfDecoding x
 wider x h = go (leb 4 (numberOf x)) refl h
   where
-    go : (t : Bool) → leb 4 (numberOf x) ≡ t → T (t && leb (numberOf x) 5) → T (leb 3 (numberOf x) && leb (numberOf x) 5)
+    go : (t : Bool) → leb 4 (numberOf x) ≡ t → T ((t && leb (numberOf x) 5) || eqb (numberOf x) 24) → OfDecoding x
     go true e t = let l = leb-true 4 (numberOf x) e in rw (le-leb 3 (numberOf x) (omega arith)) t
-    go false e t = absurd t
+    go false e t = or-right (leb 3 (numberOf x) && leb (numberOf x) 5) (eqb (numberOf x) 24) t
+
+-- the same of the number: for those who tell it from others
+pub decoding-number : (x : Refusal) → OfDecoding x → ((3 ≤ numberOf x) × (numberOf x ≤ 5)) ⊎ (numberOf x ≡ 24)
+decoding-number x k = go (leb 3 (numberOf x)) refl (leb (numberOf x) 5) refl (eqb (numberOf x) 24) refl k
+  where
+    go : (a : Bool) → leb 3 (numberOf x) ≡ a → (b : Bool) → leb (numberOf x) 5 ≡ b → (c : Bool) → eqb (numberOf x) 24 ≡ c → T ((a && b) || c)
+        → ((3 ≤ numberOf x) × (numberOf x ≤ 5)) ⊎ (numberOf x ≡ 24)
+    go true d true e c f k = inl (leb-true 3 (numberOf x) d, leb-true (numberOf x) 5 e)
+    go true d false e true f k = inr (eqb-true (numberOf x) 24 f)
+    go true d false e false f k = absurd k
+    go false d b e true f k = inr (eqb-true (numberOf x) 24 f)
+    go false d b e false f k = absurd k
 
 module _ (mem : List ℕ) where
   operand-so : (e : Entry) (at : ℕ) (r : OperandRead) → SoundRead mem at (operandBytes (e .mode)) r → RefusedSo (withOperand e r)

@@ -1,25 +1,25 @@
--- What is so of an operand that is read: it fits its width, the next address is as far on as its bytes are many, and it is refused by 4
--- or 5 alone.
+-- What is so of an operand that is read: it fits its width, the next address is as far on as its bytes are many, and it is refused by 4,
+-- 5 or 24 alone.
 -- Assumes nothing.
 use Prim.Native.Nat.{ℕ, _+_, _*_, _%_, _≤_, _<_}
 use mathlib.Core.Path.{_≡_, refl}
-use mathlib.Core.Bool.{Bool, true, false, cond, _&&_}
+use mathlib.Core.Bool.{Bool, true, false, cond, _&&_, _||_}
 use mathlib.Core.List.{List, [], _∷_}
 use native.Mathlib.Omega.{arith}
-use borrow.Author.Tests.{leb-true}
+use borrow.Author.Tests.{leb-true, eqb-true}
 use lib.Bits.{bitAnd}
 use lib.Dec.{T, eqb, leb, ltb, lit<}
 use Rattle.answers.specs.Numbers.{numberOf}
 use Rattle.answers.specs.declared.Refusal.{Refusal}
-use Rattle.answers.specs.declared.Refusal.the-variants.{PastEnd, PostByte as BadPostByte}
+use Rattle.answers.specs.declared.Refusal.the-variants.{PastEnd, PostByte as BadPostByte, PostByte8F}
 use Rattle.memory.specs.Fits.{Bytes}
 use Rattle.memory.specs.Map.{byteAt}
 use Rattle.memory.proofs.Fits.{byte-fits}
 use Rattle.opcodes.specs.declared.Mode.{Mode}
 use Rattle.opcodes.specs.declared.Mode.the-variants.{Inherent, Immediate8, Immediate16, Direct, Indexed, Extended, Relative8, Relative16}
-use Rattle.decode.specs.PostByte.{isIndirect, unlessIndirect, formOf, fiveBits, offsetBytes}
+use Rattle.decode.specs.PostByte.{isIndirect, unlessIndirect, onlyAs9F, formOf, fiveBits, offsetBytes}
 use Rattle.decode.specs.Operand.{signedByte, indexedBy, withForm, afterPostByte, operandBytes, operandAt}
-use Rattle.decode.specs.Laws.{offsetBytesOf, OperandFits}
+use Rattle.decode.specs.Laws.{OfPostByte, offsetBytesOf, OperandFits}
 use Rattle.decode.specs.declared.postbyte.Form.{Form}
 use Rattle.decode.specs.declared.postbyte.Form.the-variants.{Offset5, Increment1, Increment2, Decrement1, Decrement2, NoOffset, OffsetB, OffsetA, Offset8, Offset16, OffsetD, Program8, Program16, Address}
 use Rattle.decode.specs.declared.postbyte.PostByte.{PostByte}
@@ -28,9 +28,9 @@ use Rattle.decode.specs.declared.operand.Operand.{Operand}
 use Rattle.decode.specs.declared.operand.OperandRead.{OperandRead}
 use Rattle.decode.specs.declared.operand.OperandRead.the-variants.{Operand as Read, Refused}
 
--- 4 or 5
+-- 4, 5 or 24
 abbrev pub OfOperand : Refusal → Type 0
-OfOperand x = T (leb 4 (numberOf x) && leb (numberOf x) 5)
+OfOperand x = T ((leb 4 (numberOf x) && leb (numberOf x) 5) || eqb (numberOf x) 24)
 
 -- an operand o of n bytes from `at` on, and the address after it and its offset bytes
 pub record Sound (mem : List ℕ) (at n : ℕ) (o : Operand) (next : ℕ) : Type 0 where
@@ -44,10 +44,10 @@ SoundRead mem at n (Refused x) = OfOperand x
 
 -- ---- post-bytes
 
--- a refused one is refused by 5
+-- a refused one is refused by 5 or 24
 abbrev pub FormSo : PostByte → Type 0
 FormSo (Taken f) = Unit {0}
-FormSo (NoForm x) = x ≡ BadPostByte
+FormSo (NoForm x) = OfPostByte x
 
 -- the first whose test holds
 chosen : List (Bool × PostByte) → PostByte
@@ -60,7 +60,7 @@ AllSo (c ∷ l) = FormSo (c .1) × AllSo l
 
 chosen-so : (l : List (Bool × PostByte)) → AllSo l → FormSo (chosen l)
 unfolding chosen AllSo
-chosen-so [] h = refl
+chosen-so [] h = tt
 chosen-so ((true, p) ∷ l) h = h .0
 chosen-so ((false, p) ∷ l) h = chosen-so l (h .1)
 
@@ -68,7 +68,14 @@ unless-so : (post : ℕ) (f : Form) → FormSo (unlessIndirect post f)
 unless-so post f = go (isIndirect post)
   where
     go : (t : Bool) → FormSo (cond t (NoForm BadPostByte) (Taken f))
-    go true = refl
+    go true = tt
+    go false = tt
+
+only-so : (post : ℕ) → FormSo (onlyAs9F post)
+only-so post = go (eqb post 0x9F)
+  where
+    go : (t : Bool) → FormSo (cond t (Taken Address) (NoForm PostByte8F))
+    go true = tt
     go false = tt
 
 pub form-so : (post : ℕ) → FormSo (formOf post)
@@ -89,9 +96,9 @@ form-so post =
     ∷ (is 0x8B, Taken OffsetD)
     ∷ (is 0x8C, Taken Program8)
     ∷ (is 0x8D, Taken Program16)
-    ∷ (is 0x8F, Taken Address)
+    ∷ (is 0x8F, onlyAs9F post)
     ∷ [])
-    (tt, (unless-so post Increment1, (tt, (unless-so post Decrement1, (tt, (tt, (tt, (tt, (tt, (tt, (tt, (tt, (tt, (tt, tt))))))))))))))
+    (tt, (unless-so post Increment1, (tt, (unless-so post Decrement1, (tt, (tt, (tt, (tt, (tt, (tt, (tt, (tt, (tt, (only-so post, tt))))))))))))))
 
 five-fits : (post : ℕ) → fiveBits post < 65536
 unfolding fiveBits
@@ -107,6 +114,17 @@ signed-fits b h = go (ltb b 0x80)
     go : (t : Bool) → cond t b (0xFF00 + b) < 65536
     go true = omega arith
     go false = omega arith
+
+pub or-right : (s t : Bool) → T t → T (s || t)
+or-right true t k = tt
+or-right false t k = k
+
+of-post-byte : (x : Refusal) → OfPostByte x → OfOperand x
+of-post-byte x s = go (eqb (numberOf x) 5) refl s
+  where
+    go : (t : Bool) → eqb (numberOf x) 5 ≡ t → T (t || eqb (numberOf x) 24) → OfOperand x
+    go true e k = rw (eqb-true (numberOf x) 5 e) tt
+    go false e k = or-right (leb 4 (numberOf x) && leb (numberOf x) 5) (eqb (numberOf x) 24) k
 
 -- ---- reading
 
@@ -153,7 +171,7 @@ module _ (mem : List ℕ) where
 
     after-post : (p : PostByte) → FormSo p → SoundRead mem at 0 (afterPostByte p mem post at)
     after-post (Taken f) s = formed f
-    after-post (NoForm x) s = rw s tt
+    after-post (NoForm x) s = of-post-byte x s
 
   -- a read after one byte is one from that byte on
   from : (at : ℕ) (r : OperandRead) → at + 1 ≤ 0x10000 → SoundRead mem (at + 1) 0 r → SoundRead mem at 1 r

@@ -1,4 +1,4 @@
--- The bytes at PC to an instruction or a refusal: prefix (4), opcode (3), operand or post-byte (4), its form (5), offset (4), in this order.
+-- The bytes at PC to an instruction or a refusal: prefix (4), opcode (3), operand or post-byte (4), its form (5, 24), offset (4), in this order.
 -- Assumes nothing.
 use Prim.Native.Nat.{ℕ, _+_}
 use mathlib.Core.Bool.{cond}

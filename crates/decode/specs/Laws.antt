@@ -1,16 +1,16 @@
--- The laws of decoding: by which numbers it refuses, each of 3, 4 and 5 exactly, how long an instruction is, and what fits its width.
+-- The laws of decoding: by which numbers it refuses, each of 3, 4, 5 and 24 exactly, how long an instruction is, and what fits its width.
 -- Assumes nothing.
 use Prim.Native.Nat.{ℕ, _+_, _≤_, _<_}
 use mathlib.Core.Path.{_≡_}
-use mathlib.Core.Bool.{true, _&&_}
+use mathlib.Core.Bool.{_&&_, _||_}
 use mathlib.Core.List.{List, []}
 use mathlib.Core.Logic.{_↔_, _⊎_}
-use lib.Dec.{T, leb}
+use lib.Dec.{T, eqb, leb}
 use Rattle.memory.specs.Fits.{Bytes}
 use Rattle.memory.specs.Map.{byteAt}
 use Rattle.answers.specs.Numbers.{numberOf}
 use Rattle.answers.specs.declared.Refusal.{Refusal}
-use Rattle.answers.specs.declared.Refusal.the-variants.{Opcode, PastEnd, PostByte as BadPostByte}
+use Rattle.answers.specs.declared.Refusal.the-variants.{Opcode, PastEnd}
 use Rattle.opcodes.specs.Manual.{rows, prefix, entryOf}
 use Rattle.opcodes.specs.Places.{named}
 use Rattle.opcodes.specs.declared.Mode.{Mode}
@@ -19,7 +19,7 @@ use Rattle.opcodes.specs.declared.Page.{Page}
 use Rattle.opcodes.specs.declared.Page.the-variants.{Plain, Ten, Eleven}
 use Rattle.opcodes.specs.declared.Place.{Place}
 use Rattle.opcodes.specs.declared.Place.the-variants.{Instruction as InManual, None}
-use Rattle.decode.specs.PostByte.{formOf, offsetBytes, isRefused}
+use Rattle.decode.specs.PostByte.{formOf, offsetBytes}
 use Rattle.decode.specs.Operand.{operandBytes}
 use Rattle.decode.specs.Decode.{located, decodedAt}
 use Rattle.decode.specs.declared.postbyte.PostByte.{PostByte}
@@ -32,9 +32,9 @@ use Rattle.decode.specs.declared.instruction.Located.the-variants.{At, R
 use Rattle.decode.specs.declared.instruction.Decoded.{Decoded}
 use Rattle.decode.specs.declared.instruction.Decoded.the-variants.{Instruction as Taken, Refused}
 
--- 3, 4 or 5, and no other
+-- 3, 4, 5 or 24, and no other
 abbrev pub OfDecoding : Refusal → Type 0
-OfDecoding x = T (leb 3 (numberOf x) && leb (numberOf x) 5)
+OfDecoding x = T ((leb 3 (numberOf x) && leb (numberOf x) 5) || eqb (numberOf x) 24)
 
 abbrev pub RefusedSo : Decoded → Type 0
 RefusedSo (Taken i) = Unit {0}
@@ -51,17 +51,20 @@ Unnamed (NotLocated x) = ⊥
 abbrev pub OpcodeRefused : Type 0
 OpcodeRefused = (mem : List ℕ) (pc : ℕ) → Bytes mem → (decodedAt mem pc ≡ Refused Opcode) ↔ Unnamed (located mem pc)
 
--- 5 exactly where the instruction is indexed and its post-byte is there and has no form
-abbrev pub NoFormAt : Place → List ℕ → ℕ → Type 0
-NoFormAt (InManual e) mem at = (e .mode ≡ Indexed) × (at < 0x10000) × (isRefused (formOf (byteAt mem at)) ≡ true)
-NoFormAt None mem at = ⊥
+-- 5 and 24, each exactly where the instruction is indexed and its post-byte is there and is refused by it
+abbrev pub NoFormAt : Refusal → Place → List ℕ → ℕ → Type 0
+NoFormAt x (InManual e) mem at = (e .mode ≡ Indexed) × (at < 0x10000) × (formOf (byteAt mem at) ≡ NoForm x)
+NoFormAt x None mem at = ⊥
 
-abbrev pub Formless : Located → List ℕ → Type 0
-Formless (At page code at) mem = NoFormAt (entryOf page code) mem at
-Formless (NotLocated x) mem = ⊥
+abbrev pub Formless : Refusal → Located → List ℕ → Type 0
+Formless x (At page code at) mem = NoFormAt x (entryOf page code) mem at
+Formless x (NotLocated y) mem = ⊥
+
+abbrev pub OfPostByte : Refusal → Type 0
+OfPostByte x = T (eqb (numberOf x) 5 || eqb (numberOf x) 24)
 
 abbrev pub PostByteRefused : Type 0
-PostByteRefused = (mem : List ℕ) (pc : ℕ) → (decodedAt mem pc ≡ Refused BadPostByte) ↔ Formless (located mem pc) mem
+PostByteRefused = (x : Refusal) → OfPostByte x → (mem : List ℕ) (pc : ℕ) → (decodedAt mem pc ≡ Refused x) ↔ Formless x (located mem pc) mem
 
 -- 4 exactly where a prefix stands at FFFF, or the last of the bytes that follow the opcode lies past FFFF
 abbrev pub PrefixAtTop : List ℕ → ℕ → Type 0

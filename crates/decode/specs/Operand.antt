@@ -1,4 +1,4 @@
--- What an instruction's operand bytes say, or 4 or 5. `at` is the address after what was read already; no register and no pointer is read.
+-- What an instruction's operand bytes say, or 4, 5 or 24. `at` is the address after what was read already; no register and no pointer is read.
 -- Assumes nothing.
 use Prim.Native.Nat.{ℕ, zero, suc, _+_, _*_}
 use mathlib.Core.Bool.{cond}

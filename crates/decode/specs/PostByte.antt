@@ -1,15 +1,16 @@
 -- The post-byte of indexed addressing (manual, table "Indexed Addressing Mode"; document 01, section Addressing).
 -- Assumes nothing.
-use Prim.Native.Nat.{ℕ, _+_, _/_, _%_}
+use Prim.Native.Nat.{ℕ, _+_, _/_, _%_, _<_}
 use mathlib.Core.Path.{_≡_}
-use mathlib.Core.Bool.{Bool, true, false, cond, _&&_}
+use mathlib.Core.Bool.{Bool, true, false, cond, not, _&&_}
 use lib.Bits.{bitAnd}
 use lib.Dec.{eqb, ltb}
 use Rattle.registers.specs.ConditionCodes.{bitAt}
 use Rattle.registers.specs.declared.Index.{Index}
 use Rattle.registers.specs.declared.Index.the-variants.{X, Y, U, S}
 use Rattle.answers.specs.Counting.{counted}
-use Rattle.answers.specs.declared.Refusal.the-variants.{PostByte as BadPostByte}
+use Rattle.answers.specs.Numbers.{numberOf}
+use Rattle.answers.specs.declared.Refusal.the-variants.{PostByte as BadPostByte, PostByte8F}
 use Rattle.decode.specs.declared.postbyte.Form.{Form}
 use Rattle.decode.specs.declared.postbyte.Form.the-variants.{Offset5, Increment1, Increment2, Decrement1, Decrement2, NoOffset, OffsetB, OffsetA, Offset8, Offset16, OffsetD, Program8, Program16, Address}
 use Rattle.decode.specs.declared.postbyte.PostByte.{PostByte}
@@ -22,8 +23,12 @@ isIndirect post = bitAt 7 post && bitAt 4 post
 abbrev pub unlessIndirect : ℕ → Form → PostByte
 unlessIndirect post form = cond (isIndirect post) (Refused BadPostByte) (Taken form)
 
+-- an address: the manual has it with indirection and register bits 00 alone, 9F (document 02, request [2])
+abbrev pub onlyAs9F : ℕ → PostByte
+onlyAs9F post = cond (eqb post 0x9F) (Taken Address) (Refused PostByte8F)
+
 -- bit 7 clear: a five-bit offset. Otherwise the low form, the post-byte masked with 8F, decides; 87, 8A, 8E and
--- indirect ,R+ and ,-R are refused
+-- indirect ,R+ and ,-R are refused by 5, 8F but for 9F by 24
 abbrev formOfLow : ℕ → ℕ → PostByte
 formOfLow post low =
     cond (ltb low 0x80) (Taken Offset5)
@@ -39,7 +44,7 @@ formOfLow post low =
     (cond (eqb low 0x8B) (Taken OffsetD)
     (cond (eqb low 0x8C) (Taken Program8)
     (cond (eqb low 0x8D) (Taken Program16)
-    (cond (eqb low 0x8F) (Taken Address)
+    (cond (eqb low 0x8F) (onlyAs9F post)
     (Refused BadPostByte))))))))))))))
 
 unfoldable pub formOf : ℕ → PostByte
@@ -77,6 +82,16 @@ abbrev pub isRefused : PostByte → Bool
 isRefused (Taken form) = false
 isRefused (Refused x) = true
 
--- the law: exactly 32 of the 256 post-bytes are refused
-abbrev pub RefusedPostBytes : Type 0
-RefusedPostBytes = counted 256 (λ post. isRefused (formOf post)) ≡ 32
+abbrev pub isRefusedBy : ℕ → PostByte → Bool
+isRefusedBy n (Taken form) = false
+isRefusedBy n (Refused x) = eqb (numberOf x) n
+
+-- the laws: exactly 39 of the 256 post-bytes are refused, 32 of them by 5 and 7 by 24
+pub record RefusedPostBytes : Type 0 where
+  pub all : counted 256 (λ post. isRefused (formOf post)) ≡ 39
+  pub five : counted 256 (λ post. isRefusedBy 5 (formOf post)) ≡ 32
+  pub twentyFour : counted 256 (λ post. isRefusedBy 24 (formOf post)) ≡ 7
+
+-- which seven: by 24 exactly those that masked with 8F are 8F, but for 9F
+abbrev pub WhichSeven : Type 0
+WhichSeven = (post : ℕ) → post < 256 → isRefusedBy 24 (formOf post) ≡ (eqb (bitAnd post 0x8F) 0x8F && not (eqb post 0x9F))

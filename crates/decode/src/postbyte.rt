@@ -1,6 +1,6 @@
 // The post-byte of indexed addressing: its form, its index register, whether it is indirect, and its five-bit offset.
 ghost use mathlib.Core.Path.{_≡_};
-ghost use Rattle.decode.specs.PostByte.{unlessIndirect, formOf, isIndirect, indexOf, fiveBits};
+ghost use Rattle.decode.specs.PostByte.{unlessIndirect, onlyAs9F, formOf, isIndirect, indexOf, fiveBits};
 use answers::Refusal;
 use registers::Index;
 
@@ -46,6 +46,17 @@ fn unless_indirect(post: u8, form: Form) -> PostByte
     }
 }
 
+// Of low form 8F the manual has 9F alone.
+fn only_as_9f(post: u8) -> PostByte
+    ensures { λ r. ⌜ r ≡ onlyAs9F post ⌝ }
+{
+    if post == 0x9F {
+        PostByte::Form(Form::Address)
+    } else {
+        PostByte::Refused(Refusal::PostByte8F)
+    }
+}
+
 // The low form decides: the post-byte masked with 8F.
 pub fn form_of(post: u8) -> PostByte
     ensures { λ r. ⌜ r ≡ formOf post ⌝ }
@@ -65,7 +76,7 @@ pub fn form_of(post: u8) -> PostByte
         0x8B => PostByte::Form(Form::OffsetD),
         0x8C => PostByte::Form(Form::Program8),
         0x8D => PostByte::Form(Form::Program16),
-        0x8F => PostByte::Form(Form::Address),
+        0x8F => only_as_9f(post),
         _ => PostByte::Refused(Refusal::PostByte),
     }
 }

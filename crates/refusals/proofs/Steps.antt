@@ -1,19 +1,19 @@
 -- A step is refused by each number exactly where its law says: from the laws of decoding, of the address and of the operation.
 -- Assumes nothing.
 use Prim.Native.Nat.{ℕ, _≤_, _<_}
-use mathlib.Core.Bool.{Bool, true, false, cond, _&&_, _||_}
+use mathlib.Core.Bool.{Bool, true, false, cond, not, _||_}
 use mathlib.Core.List.{List}
 use mathlib.Core.Logic.{_↔_, _≢_, _⊎_, inl, inr, ⊎-elim}
 use mathlib.Core.Path.{_≡_, refl, sym, ap, _∙_}
 use native.Mathlib.Omega.{arith}
-use borrow.Author.Tests.{eq-eqb, eqb-true, eqb-false, leb-true}
+use borrow.Author.Tests.{eq-eqb, eqb-true, eqb-false}
 use lib.Dec.{T, eqb, leb, leb→le}
 use lib.ListN.{length}
 use Rattle.answers.specs.Numbers.{numberOf, numberOfAnswer}
 use Rattle.answers.specs.declared.Answer.{Answer}
 use Rattle.answers.specs.declared.Answer.the-variants.{Done, Refused}
 use Rattle.answers.specs.declared.Refusal.{Refusal}
-use Rattle.answers.specs.declared.Refusal.the-variants.{MemoryLength, Opcode, PastEnd, PostByte, WordAtTop}
+use Rattle.answers.specs.declared.Refusal.the-variants.{MemoryLength, Opcode, PastEnd, PostByte, WordAtTop, PostByte8F}
 use Rattle.answers.proofs.Numbers.{refused-by-a-number, numbers-apart}
 use Rattle.registers.specs.declared.Set.{Set}
 use Rattle.memory.specs.Map.{byteAt}
@@ -24,14 +24,14 @@ use Rattle.machine.specs.declared.Wait.{Wait}
 use Rattle.machine.specs.declared.Wait.the-variants.{Running, Cwai, Sync}
 use Rattle.opcodes.specs.declared.Op.{Op}
 use Rattle.decode.specs.Decode.{decodedAt}
-use Rattle.decode.specs.Laws.{OfDecoding, RefusedSo}
+use Rattle.decode.specs.Laws.{RefusedSo}
 use Rattle.decode.specs.declared.instruction.Decoded.{Decoded}
 use Rattle.decode.specs.declared.instruction.Decoded.the-variants.{Instruction as Taken, Refused as NotDecoded}
 use Rattle.decode.specs.declared.instruction.Instruction.{Instruction}
 use Rattle.decode.specs.declared.operand.Operand.{Operand}
 use Rattle.decode.proofs.CutShort.{bytes-refused}
 use Rattle.decode.proofs.Formless.{post-byte-refused}
-use Rattle.decode.proofs.Laws.{decode-refuses, opcode-refused}
+use Rattle.decode.proofs.Laws.{decoding-number, decode-refuses, opcode-refused}
 use Rattle.addressing.specs.Address.{resolvedOf}
 use Rattle.addressing.specs.Laws.{OfResolving, RefusedBy}
 use Rattle.addressing.specs.declared.Resolved.{Resolved}
@@ -76,7 +76,7 @@ step-number mem m s = go (reached mem m)
 
 -- ---- decoding and the address
 
--- the address is refused by 4 or 6, decoding by 3, 4 or 5
+-- the address is refused by 4 or 6, decoding by 3, 4, 5 or 24
 abbrev OfAddress : ℕ → Type 0
 OfAddress n = (n ≡ 0) ⊎ ((n ≡ 4) ⊎ (n ≡ 6))
 
@@ -88,13 +88,6 @@ of-resolved i (NoAddress x) k = go (eqb (numberOf x) 4) refl (eqb (numberOf x) 6
     go true p b q t = inr (inl (eqb-true (numberOf x) 4 p))
     go false p true q t = inr (inr (eqb-true (numberOf x) 6 q))
     go false p false q t = absurd t
-
-between : (x : Refusal) → OfDecoding x → (3 ≤ numberOf x) × (numberOf x ≤ 5)
-between x t = go (leb 3 (numberOf x)) refl t
-  where
-    go : (a : Bool) → leb 3 (numberOf x) ≡ a → T (a && leb (numberOf x) 5) → (3 ≤ numberOf x) × (numberOf x ≤ 5)
-    go true p t = (leb-true 3 (numberOf x) p, leb→le (numberOf x) 5 t)
-    go false p t = absurd t
 
 -- a refusal and its number
 resolved-by : (i : Instruction) (x : Resolved) (y : Refusal) → (before (addressed i x) ≡ numberOf y) ↔ (x ≡ NoAddress y)
@@ -109,7 +102,7 @@ module _ (mem : List ℕ) (r : Set) where
   address-number : (i : Instruction) (o : Operand) (next : ℕ) → OfAddress (before (addressed i (resolvedOf mem r o next)))
   address-number i o next = of-resolved i (resolvedOf mem r o next) (resolve-refuses mem r o next)
 
-  -- 3 and 5: by decoding alone
+  -- 3, 5 and 24: by decoding alone
   by-decoding : (y : Refusal) → (OfAddress (numberOf y) → ⊥) → {P : Type 0} (d : Decoded) → (d ≡ NotDecoded y) ↔ P → (number d ≡ numberOf y) ↔ P
   by-decoding y n (Taken i) f = (
     λ q. absurd (n (rw q at (address-number i (i .operand) (i .next)))),
@@ -137,24 +130,26 @@ module _ (mem : List ℕ) (r : Set) where
       let b = resolved-by i (resolvedOf mem r (i .operand) (i .next)) WordAtTop in
       let g = pointer-refused mem r (i .operand) (i .next) in
       (λ q. g .0 (b .0 q), λ h. b .1 (g .1 h))
-  by-six (NotDecoded x) k = (λ q. let l = between x k .1 in absurd (omega arith), λ h. absurd h)
+  by-six (NotDecoded x) k = (λ q. absurd (⊎-elim (λ p. omega (arith, p .1)) (λ p. omega arith) (decoding-number x k)), λ h. absurd h)
 
-  -- neither 1 nor 2, and at most 6
+  -- neither 1 nor 2, and at most 6 or 24
   record Middle (n : ℕ) : Type 0 where
     one : n ≡ 1 → ⊥
     two : n ≡ 2 → ⊥
-    most : n ≤ 6
+    most : (n ≤ 6) ⊎ (n ≡ 24)
 
   of-address : (n : ℕ) → OfAddress n → Middle n
-  of-address n (inl e) = record { one = λ q. omega arith; two = λ q. omega arith; most = omega arith }
-  of-address n (inr (inl e)) = record { one = λ q. omega arith; two = λ q. omega arith; most = omega arith }
-  of-address n (inr (inr e)) = record { one = λ q. omega arith; two = λ q. omega arith; most = omega arith }
+  of-address n (inl e) = record { one = λ q. omega arith; two = λ q. omega arith; most = inl (omega arith) }
+  of-address n (inr (inl e)) = record { one = λ q. omega arith; two = λ q. omega arith; most = inl (omega arith) }
+  of-address n (inr (inr e)) = record { one = λ q. omega arith; two = λ q. omega arith; most = inl (omega arith) }
+
+  of-number : (n : ℕ) → ((3 ≤ n) × (n ≤ 5)) ⊎ (n ≡ 24) → Middle n
+  of-number n (inl (l, h)) = record { one = λ q. omega arith; two = λ q. omega arith; most = inl (omega arith) }
+  of-number n (inr e) = record { one = λ q. omega arith; two = λ q. omega arith; most = inr e }
 
   middle : (d : Decoded) → RefusedSo d → Middle (number d)
   middle (Taken i) k = of-address _ (address-number i (i .operand) (i .next))
-  middle (NotDecoded x) k =
-      let (l, h) = between x k in
-      record { one = λ q. omega arith; two = λ q. omega arith; most = omega arith }
+  middle (NotDecoded x) k = of-number (numberOf x) (decoding-number x k)
 
 -- ---- 1 and 2 come first
 
@@ -199,10 +194,10 @@ module _ (mem : List ℕ) (m : Machine) where
     is-more k l f (waits e g w) = (λ q. absurd (omega arith), λ p. absurd (w (p .0 .running)))
     is-more k l f (runs e r) = (λ q. (r, f .0 (sym e ∙ q)), λ p. e ∙ f .1 (p .1))
 
-    is-most : Case mem m n → n ≤ 6
-    is-most (short e h) = omega arith
-    is-most (waits e l w) = omega arith
-    is-most (runs e r) = omega (arith, in-middle .most)
+    is-most : Case mem m n → (n ≤ 6) ⊎ (n ≡ 24)
+    is-most (short e h) = inl (omega arith)
+    is-most (waits e l w) = inl (omega arith)
+    is-most (runs e r) = rw e (in-middle .most)
 
 -- ---- the operation
 
@@ -217,9 +212,23 @@ not-early n k t l h e = go (eqb n 0) refl t
     go false p t = omega (arith, leb→le 6 n t)
 
 module _ (mem : List ℕ) (s : Settings) where
-  early : (k : ℕ) → 0 < k → k < 6 → (a : Reached) → (whole mem s a ≡ k) ↔ (before a ≡ k)
-  early k l h (At i r ea) = (λ q. absurd (not-early _ k (operation-number s mem r ea (i .entry .op) .other) l h q), λ q. absurd (omega arith))
-  early k l h (NotReached x) = (λ q. q, λ q. q)
+  -- a number that no operation gives
+  record Early (k : ℕ) : Type 0 where
+    some : 0 < k
+    none : (op : Op) (r : Set) (ea : ℕ) → numberOfAnswer (evaluateOf op s mem r ea .answer) ≡ k → ⊥
+
+  most-number : (op : Op) (r : Set) (ea : ℕ) → numberOfAnswer (evaluateOf op s mem r ea .answer) ≤ 9
+  most-number op r ea = leb→le (numberOfAnswer (evaluateOf op s mem r ea .answer)) 9 (operation-number s mem r ea op .most)
+
+  below : (k : ℕ) → 0 < k → k < 6 → Early k
+  below k l h = record { some = l; none = λ op r ea q. not-early _ k (operation-number s mem r ea op .other) l h q }
+
+  above : (k : ℕ) → 9 < k → Early k
+  above k l = record { some = omega arith; none = λ op r ea q. omega (arith, most-number op r ea) }
+
+  early : (k : ℕ) → Early k → (a : Reached) → (whole mem s a ≡ k) ↔ (before a ≡ k)
+  early k h (At i r ea) = (λ q. absurd (h .none (i .entry .op) r ea q), λ q. absurd (omega (arith, h .some)))
+  early k h (NotReached x) = (λ q. q, λ q. q)
 
   at-six : (a : Reached) → (whole mem s a ≡ 6) ↔ ((before a ≡ 6) ⊎ Met a (λ op r ea. wordAtTop op mem r ea))
   at-six (At i r ea) =
@@ -227,15 +236,15 @@ module _ (mem : List ℕ) (s : Settings) where
       (λ q. inr (b .0 q), λ h. ⊎-elim (λ q. absurd (omega arith)) (b .1) h)
   at-six (NotReached x) = (λ q. inl q, λ h. ⊎-elim (λ q. q) (λ k. absurd k) h)
 
-  late : (k : ℕ) → 6 < k → (test : Op → Set → ℕ → Bool)
+  late : (k : ℕ) → 6 < k → k < 24 → (test : Op → Set → ℕ → Bool)
       → ((op : Op) (r : Set) (ea : ℕ) → eqb (numberOfAnswer (evaluateOf op s mem r ea .answer)) k ≡ test op r ea)
-      → (a : Reached) → before a ≤ 6 → (whole mem s a ≡ k) ↔ Met a test
-  late k l test f (At i r ea) h = exact _ k (test (i .entry .op) r ea) (f (i .entry .op) r ea)
-  late k l test f (NotReached x) h = (λ q. absurd (omega arith), λ q. absurd q)
+      → (a : Reached) → (before a ≤ 6) ⊎ (before a ≡ 24) → (whole mem s a ≡ k) ↔ Met a test
+  late k l g test f (At i r ea) h = exact _ k (test (i .entry .op) r ea) (f (i .entry .op) r ea)
+  late k l g test f (NotReached x) h = (λ q. absurd (⊎-elim (λ p. omega arith) (λ p. omega arith) h), λ q. absurd q)
 
-  only-nine : (a : Reached) → before a ≤ 6 → whole mem s a ≤ 9
-  only-nine (At i r ea) h = leb→le (numberOfAnswer (evaluateOf (i .entry .op) s mem r ea .answer)) 9 (operation-number s mem r ea (i .entry .op) .most)
-  only-nine (NotReached x) h = omega arith
+  no-other : (a : Reached) → (before a ≤ 6) ⊎ (before a ≡ 24) → (whole mem s a ≤ 9) ⊎ (whole mem s a ≡ 24)
+  no-other (At i r ea) h = inl (most-number (i .entry .op) r ea)
+  no-other (NotReached x) h = ⊎-elim (λ p. inl (omega arith)) (λ p. inr p) h
 
 -- ---- the laws
 
@@ -249,28 +258,24 @@ joined f g = (λ a. g .0 (f .0 a), λ c. f .1 (g .1 c))
 either : {A B C : Type 0} → A ↔ B → (A ⊎ C) ↔ (B ⊎ C)
 either f = (λ h. ⊎-elim (λ a. inl (f .0 a)) (λ c. inr c) h, λ h. ⊎-elim (λ b. inl (f .1 b)) (λ c. inr c) h)
 
-not-three : OfAddress 3 → ⊥
-not-three (inl e) = omega arith
-not-three (inr (inl e)) = omega arith
-not-three (inr (inr e)) = omega arith
-
-not-five : OfAddress 5 → ⊥
-not-five (inl e) = omega arith
-not-five (inr (inl e)) = omega arith
-not-five (inr (inr e)) = omega arith
+not-address : (k : ℕ) → T (not (eqb k 0 || (eqb k 4 || eqb k 6))) → OfAddress k → ⊥
+not-address k t (inl e) = rw e at t
+not-address k t (inr (inl e)) = rw e at t
+not-address k t (inr (inr e)) = rw e at t
 
 pub steps-refused : StepsRefused
 steps-refused mem m s b l = record {
-  one = at 1 (omega arith) (omega arith) (is-one mem m _ c);
-  two = at 2 (omega arith) (omega arith) (is-two mem m _ c);
-  three = at 3 (omega arith) (omega arith) (is-more mem m _ 3 (omega arith) (by-decoding mem r Opcode not-three d (opcode-refused mem pc b)) c);
-  four = at 4 (omega arith) (omega arith) (is-more mem m _ 4 (omega arith) (by-four mem r d (bytes-refused mem pc l)) c);
-  five = at 5 (omega arith) (omega arith) (is-more mem m _ 5 (omega arith) (by-decoding mem r PostByte not-five d (post-byte-refused mem pc)) c);
+  one = at 1 (below mem s 1 (omega arith) (omega arith)) (is-one mem m _ c);
+  two = at 2 (below mem s 2 (omega arith) (omega arith)) (is-two mem m _ c);
+  three = at 3 (below mem s 3 (omega arith) (omega arith)) (is-more mem m _ 3 (omega arith) (by-decoding mem r Opcode (not-address 3 tt) d (opcode-refused mem pc b)) c);
+  four = at 4 (below mem s 4 (omega arith) (omega arith)) (is-more mem m _ 4 (omega arith) (by-four mem r d (bytes-refused mem pc l)) c);
+  five = at 5 (below mem s 5 (omega arith) (omega arith)) (is-more mem m _ 5 (omega arith) (by-decoding mem r PostByte (not-address 5 tt) d (post-byte-refused PostByte tt mem pc)) c);
+  twentyFour = at 24 (above mem s 24 (omega arith)) (is-more mem m _ 24 (omega arith) (by-decoding mem r PostByte8F (not-address 24 tt) d (post-byte-refused PostByte8F tt mem pc)) c);
   six = through e (joined (at-six mem s a) (either (is-more mem m _ 6 (omega arith) (by-six mem r d (decode-refuses mem pc)) c)));
-  seven = through e (late mem s 7 (omega arith) (λ op q ea. codeRefused op mem ea) (λ op q ea. operation-number s mem q ea op .is7) a most);
-  eight = through e (late mem s 8 (omega arith) (λ op q ea. isSmall op q (byteAt mem ea)) (λ op q ea. operation-number s mem q ea op .is8) a most);
-  nine = through e (late mem s 9 (omega arith) (λ op q ea. leadsToZero op s mem q) (λ op q ea. operation-number s mem q ea op .is9) a most);
-  only = rw e (only-nine mem s a most);
+  seven = through e (late mem s 7 (omega arith) (omega arith) (λ op q ea. codeRefused op mem ea) (λ op q ea. operation-number s mem q ea op .is7) a most);
+  eight = through e (late mem s 8 (omega arith) (omega arith) (λ op q ea. isSmall op q (byteAt mem ea)) (λ op q ea. operation-number s mem q ea op .is8) a most);
+  nine = through e (late mem s 9 (omega arith) (omega arith) (λ op q ea. leadsToZero op s mem q) (λ op q ea. operation-number s mem q ea op .is9) a most);
+  only = rw e (no-other mem s a most);
 }
   where
     a : Reached
@@ -288,11 +293,11 @@ steps-refused mem m s b l = record {
     c : Case mem m (before (reached mem m))
     c = case mem m
 
-    most : before (reached mem m) ≤ 6
+    most : (before (reached mem m) ≤ 6) ⊎ (before (reached mem m) ≡ 24)
     most = is-most mem m _ c
 
     e : numberOfAnswer (stepPlan mem m s .answer) ≡ whole mem s (reached mem m)
     e = step-number mem m s
 
-    at : {A : Type 0} (k : ℕ) → 0 < k → k < 6 → (before (reached mem m) ≡ k) ↔ A → (numberOfAnswer (stepPlan mem m s .answer) ≡ k) ↔ A
-    at k l h f = through e (joined (early mem s k l h (reached mem m)) f)
+    at : {A : Type 0} (k : ℕ) → Early mem s k → (before (reached mem m) ≡ k) ↔ A → (numberOfAnswer (stepPlan mem m s .answer) ≡ k) ↔ A
+    at k h f = through e (joined (early mem s k h (reached mem m)) f)

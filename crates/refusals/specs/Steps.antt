@@ -1,5 +1,5 @@
 -- When a step is refused: for each number that it can return the exact case, in the words and the order of document 01,
--- "Numbers returned". The numbers 10 and 12 belong to the recorded step (crate journal).
+-- "Numbers returned", and of document 02. The numbers 10 and 12 belong to the recorded step (crate journal).
 -- Assumes nothing.
 use Prim.Native.Nat.{ℕ, _≤_, _<_}
 use mathlib.Core.Bool.{Bool, true}
@@ -8,6 +8,7 @@ use mathlib.Core.Logic.{_↔_, _≢_, _⊎_}
 use mathlib.Core.Path.{_≡_}
 use lib.ListN.{length}
 use Rattle.answers.specs.Numbers.{numberOfAnswer}
+use Rattle.answers.specs.declared.Refusal.the-variants.{PostByte, PostByte8F}
 use Rattle.registers.specs.declared.Set.{Set}
 use Rattle.memory.specs.Fits.{Bytes}
 use Rattle.memory.specs.Map.{byteAt}
@@ -68,7 +69,9 @@ pub record StepRefused (mem : List ℕ) (m : Machine) (s : Settings) : Type 0 wh
   -- 4: a byte of the instruction, or the next address, lies past FFFF
   pub four : Answers mem m s 4 ↔ (Runs mem m × (BytePast mem (m .regs .pc) ⊎ NextPast (decodedAt mem (m .regs .pc)) (m .regs)))
   -- 5: post-byte refused (Formless, in decode/specs/Laws.antt)
-  pub five : Answers mem m s 5 ↔ (Runs mem m × Formless (located mem (m .regs .pc)) mem)
+  pub five : Answers mem m s 5 ↔ (Runs mem m × Formless PostByte (located mem (m .regs .pc)) mem)
+  -- 24, in 5's place: a post-byte of low form 8F that is not 9F
+  pub twentyFour : Answers mem m s 24 ↔ (Runs mem m × Formless PostByte8F (located mem (m .regs .pc)) mem)
   -- 6: word access at FFFF, program bytes apart. First the pointer, then the operand
   pub six : Answers mem m s 6
       ↔ ((Runs mem m × PointerAtTop (decodedAt mem (m .regs .pc)) (m .regs)) ⊎ Met (reached mem m) (λ op r ea. wordAtTop op mem r ea))
@@ -79,7 +82,7 @@ pub record StepRefused (mem : List ℕ) (m : Machine) (s : Settings) : Type 0 wh
   -- 9: the vector to be taken leads to a zero byte
   pub nine : Answers mem m s 9 ↔ Met (reached mem m) (λ op r ea. leadsToZero op s mem r)
   -- and no other number
-  pub only : numberOfAnswer (stepOf mem m s .answer) ≤ 9
+  pub only : (numberOfAnswer (stepOf mem m s .answer) ≤ 9) ⊎ Answers mem m s 24
 
 -- of every memory of bytes and every machine whose PC is a word
 abbrev pub StepsRefused : Type 0

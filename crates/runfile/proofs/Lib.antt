@@ -1,4 +1,5 @@
 pub mod Reading
 pub mod Sections
 pub mod Operations
+pub mod Defaults
 pub mod Unique

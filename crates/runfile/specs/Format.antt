@@ -49,9 +49,9 @@ flagNumbered b next = cond (eqb b 0) (got Bought next) (cond (eqb b 1) (got Manu
 unfoldable pub flagAt : List ℕ → ℕ → Read Flags
 flagAt file at = cond (room file at 1) (flagNumbered (getD file at 0) (at + 1)) missing
 
--- the setting of a file that gives none
+-- the setting of a file that gives none (document 02, request [6])
 abbrev pub defaultFlags : Flags
-defaultFlags = Bought
+defaultFlags = Manual
 
 abbrev pub flaggedAt : List ℕ → ℕ → ℕ → Read Settings
 flaggedAt file top at = andThen (flagAt file at) λ f next. got (settingsOf top f) next
@@ -180,6 +180,13 @@ NotLonger = (file : List ℕ) (f : RunFile) → parsed file ≡ says f → lengt
 -- and none follows them
 abbrev pub ThenNone : Type 0
 ThenNone = (file : List ℕ) → nextOf (operationAt file (length file)) ≡ None
+
+-- a file that names no flags says what it says with flags by the manual named: count 2, and count 3 with flag 1, before the same sections. The
+-- second file is longer by a byte; both have to be short enough to be taken.
+abbrev pub DefaultNamed : Type 0
+DefaultNamed =
+    (high low : ℕ) (sections : List ℕ) → length sections + 5 ≤ 32768
+    → parsed (0 ∷ 2 ∷ high ∷ low ∷ sections) ≡ parsed (0 ∷ 3 ∷ high ∷ low ∷ 1 ∷ sections)
 
 -- ---- of the private functions
 

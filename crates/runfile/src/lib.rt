@@ -196,7 +196,7 @@ pub fn load(mem: &mut [u8], file: &[u8]) -> Loaded
     }
     let ram_top = word(file, 2);
     match word(file, 0) {
-        2 => load_after(mem, file, Settings::new(ram_top, Flags::Bought), 4),
+        2 => load_after(mem, file, Settings::new(ram_top, Flags::Manual), 4),
         3 => load_flagged(mem, file, ram_top),
         _ => Loaded::Refused(Refusal::Malformed),
     }

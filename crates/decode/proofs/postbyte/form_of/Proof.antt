@@ -13,7 +13,7 @@ pub form-of-spec : {M : Type 1} → statement M
 unfolding formOf
 form-of-spec =
     tie.close
-    (tie.spec (search needs) (search needs)
+    (tie.spec (search needs) (search needs) (search needs)
     (λ c. rw (c .unless-indirect .ensures, c .before .match .keys1))
     (λ c. rw (c .match .keys2))
     (λ c. rw (c .unless-indirect2 .ensures, c .before .match .keys3))
@@ -26,6 +26,6 @@ form-of-spec =
     (λ c. rw (c .match .keys10))
     (λ c. rw (c .match .keys11))
     (λ c. rw (c .match .keys12))
-    (λ c. rw (c .match .keys13))
+    (λ c. rw (c .only-as-9f .ensures, c .before .match .keys13))
     (λ c. rw (lt-ltb (bitAnd (c .before .before .args .post) 0x8F) 0x80 (omega (arith, c .if1 .taken))))
     (λ c. let x = c .before .before .args .post in no-form x (low-form x (search needs) (omega arith)) (c .before .match .rest)))
