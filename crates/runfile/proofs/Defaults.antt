@@ -11,7 +11,7 @@ use lib.ListN.{length, getD}
 use Rattle.machine.specs.Machine.{settingsOf}
 use Rattle.machine.specs.declared.Settings.{Settings}
 use Rattle.registers.specs.declared.Flags.the-variants.{Manual}
-use Rattle.runfile.specs.Format.{Read, got, missing, then, room, wordIn, wordAt, flagAt, spanAt, pieceAt, piecesAt, operationAt, operationNumbered, operationsAt, RunFile, afterSettings, wholly, parsed, DefaultNamed}
+use Rattle.runfile.specs.Format.{Read, got, missing, andThen, room, wordIn, twoBytesAt, flagAt, spanAt, pieceAt, piecesAt, operationAt, operationNumbered, operationsAt, RunFile, afterSettings, wholly, parsed, DefaultNamed}
 use Rattle.runfile.proofs.Reading.{headed}
 
 -- the same, read one place later
@@ -19,7 +19,7 @@ abbrev later : {A : Type 0} → Read A → Read A
 later (got a at) = got a (suc at)
 later missing = missing
 
-then-later : {A B : Type 0} (r : Read A) (f g : A → ℕ → Read B) → ((a : A) (at : ℕ) → g a (suc at) ≡ later (f a at)) → then (later r) g ≡ later (then r f)
+then-later : {A B : Type 0} (r : Read A) (f g : A → ℕ → Read B) → ((a : A) (at : ℕ) → g a (suc at) ≡ later (f a at)) → andThen (later r) g ≡ later (andThen r f)
 then-later (got a at) f g h = h a at
 then-later missing f g h = refl
 
@@ -31,8 +31,8 @@ module _ (x : ℕ) (file : List ℕ) where
   room-later : (at n : ℕ) → room (x ∷ file) (suc at) n ≡ room file at n
   room-later at n = let e : suc at + n ≡ suc (at + n) = omega arith in rw e (leb·suc-suc (at + n) (length file))
 
-  word-later : (at : ℕ) → wordAt (x ∷ file) (suc at) ≡ later (wordAt file at)
-  unfolding wordAt
+  word-later : (at : ℕ) → twoBytesAt (x ∷ file) (suc at) ≡ later (twoBytesAt file at)
+  unfolding twoBytesAt
   word-later at =
       let e : suc at + 1 ≡ suc (at + 1) = omega arith in
       let d : suc at + 2 ≡ suc (at + 2) = omega arith in
@@ -42,9 +42,9 @@ module _ (x : ℕ) (file : List ℕ) where
   unfolding spanAt
   span-later at =
       rw (word-later at)
-      (then-later (wordAt file at) _ _ λ address next.
+      (then-later (twoBytesAt file at) _ _ λ address next.
       rw (word-later next)
-      (then-later (wordAt file next) _ _ λ size from.
+      (then-later (twoBytesAt file next) _ _ λ size from.
       rw (room-later from size) (tested (room file from size && leb (address + size) 0x10000) (address, size) from)))
 
   piece-later : (at : ℕ) → pieceAt (x ∷ file) (suc at) ≡ later (pieceAt file at)
@@ -76,11 +76,11 @@ module _ (x : ℕ) (file : List ℕ) where
   sections-later : (s : Settings) (at : ℕ) → afterSettings (x ∷ file) s (suc at) ≡ later (afterSettings file s at)
   sections-later s at =
       rw (word-later at)
-      (then-later (wordAt file at) _ _ λ n from.
+      (then-later (twoBytesAt file at) _ _ λ n from.
       rw (pieces-later n from)
       (then-later (piecesAt file n from) _ _ λ ps next.
       rw (word-later next)
-      (then-later (wordAt file next) _ _ λ m start.
+      (then-later (twoBytesAt file next) _ _ λ m start.
       rw (operations-later m start) (then-later (operationsAt file m start) _ _ λ os end. refl))))
 
   wholly-later : (n : ℕ) (r : Read RunFile) → wholly (suc n) (later r) ≡ wholly n r
