@@ -565,11 +565,11 @@ fn panicked(function: u16, message: &str, inst: &Instance) -> Option<u16> {
         0x10 if message == "attempt to calculate the remainder with a divisor of zero" => Some(13),
         0x0E if message == "assertion failed: !self.is_u8()" => Some(14),
         0x08 if message.starts_with("index out of bounds") => Some(15),
-        0x41 | 0x42 if message == "attempt to add with overflow" => Some(6),
         0x46 if message.ends_with("vector points to zero instruction") => Some(9),
-        // The Rust follows a pointer only once it has the pointer's address: before that it was at the instruction's own bytes.
+        // The Rust follows a pointer only once it has the pointer's address: before that it was at the instruction's own bytes. A
+        // pointer at FFFF is outside the comparison.
         0x43 if message == "attempt to add with overflow" => {
-            Some(if inst.flavor.mode == AddressingMode::Indexed && inst.ea == 0xFFFF { 6 } else { 4 })
+            (inst.flavor.mode != AddressingMode::Indexed || inst.ea != 0xFFFF).then_some(4)
         }
         _ => None,
     }

@@ -1,5 +1,6 @@
 #!/usr/bin/env python3
-"""A second model of the machine of document 01 and of its run program: reads a run file, prints what the run program has to print."""
+"""A second model of the machine of document 01, as document 02 changes it, and of its run program: reads a run file, prints what the run
+program has to print."""
 import sys
 
 JOURNAL_RECORDS = 960
@@ -306,10 +307,8 @@ class Machine:
         return self.mem[a - 0x4000 if a >= 0xFFE0 else a]
 
     def rdw(self, a):
-        """data word (not a program word)"""
-        if a == 0xFFFF:
-            raise Refuse(6)
-        return self.rd(a) << 8 | self.rd(a + 1)
+        """data word (not a program word): at FFFF its low byte is at 0000 (document 02, [8])"""
+        return self.rd(a) << 8 | self.rd((a + 1) & 0xFFFF)
 
     def place(self, a, system):
         """-> place to store at, or None (ignored) or 'dev'"""
@@ -612,11 +611,9 @@ class Machine:
                 if o != 'CMP':
                     self.setw(r, reg, res)
         elif kind == 'st16':
-            if ea == 0xFFFF:
-                raise Refuse(6)
             v = self.getw(r, arg)
             w.append((ea, v >> 8))
-            w.append((ea + 1, v & 0xFF))
+            w.append(((ea + 1) & 0xFFFF, v & 0xFF))
             r[CC] = nz16(cc, v) & ~fV
         elif kind == 'jmp':
             r[PC] = ea

@@ -117,6 +117,18 @@ def tops():
                     t = 0xFFFF - k
                     code = b'\x10\xCE\x40\x00\x7E' + w2(t)
                     cmp('tops', pack(sett(0, 0xFFFF), [(0, code), (t - 0x4000, ins[:0x10000 - t])], [0, 0, 0, 0, 5, 3, 0]))
+    # words at the top of memory: read, written, pulled, as pointers; then the bytes there, and all of it taken back
+    words = [(p, o) for p in range(3) for o in range(256) if TABLE[p][o] and TABLE[p][o][3] in ('ar16', 'ld16', 'st16') and TABLE[p][o][1] in (EXT, IDX)]
+    for rt in (0, 0x7FFF, 0xBFFE, 0xBFFF, 0xFFFE, 0xFFFF):
+        for at in (0xFEFF, 0xFFDF, 0xFFFD, 0xFFFE, 0xFFFF, 0x0000):
+            bodies = [PRE[p] + bytes([o]) + (w2(at) if TABLE[p][o][1] == EXT else b'\x9F' + w2(at)) for p, o in words]
+            bodies += [b'\x10\xCE' + w2(at) + b'\xCE' + w2(at) + x for x in (b'\x39', b'\x3B', b'\x35\x10', b'\x35\x12', b'\x35\xFF', b'\x37\x40', b'\x37\xF0', b'\x37\x81')]
+            bodies += [b'\x6E\x9F' + w2(at), b'\xAD\x9F' + w2(at), b'\xA6\x9F' + w2(at), b'\x30\x9F' + w2(at)]
+            for man, body in enumerate(bodies):
+                start = b'\x10\xCE\x40\x00\x8E\x8A\x5B\x10\x8E\x4C\x3D\xCE\x2E\x1F\xCC\x90\x71' + body
+                dump = tfrdump() + b'\xCE\xBF\xFD' + b'\x37\x01' * 4 + b'\xCE\x00\x00' + b'\x37\x01' * 3
+                cmp('words', pack(sett(man & 1, rt), [(0x100, start + dump), (0, b'\x20\x7E\x12'), (0x80, b'\x16\x00\x7D'), (0xBFFC, b'\x50\x00\x6D\xA9'), (0x5000, dump)],
+                                  [0] * (9 + 14) + [3] + [0] * 24 + [5] * 50 + [0] * 9))
 
 
 PRE = (b'', b'\x10', b'\x11')

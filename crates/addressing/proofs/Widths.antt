@@ -18,10 +18,7 @@ use Rattle.registers.specs.declared.Word.the-variants.{D, X, Y, U, S}
 use Rattle.registers.specs.declared.Set.{Set}
 use Rattle.registers.proofs.Fits.{read-fits, written-fits}
 use Rattle.memory.specs.Fits.{Bytes}
-use Rattle.memory.specs.Map.{wordAt}
-use Rattle.memory.specs.declared.WordRead.{WordRead}
-use Rattle.memory.specs.declared.WordRead.the-variants.{Word as Pointer, Refused as NoPointer}
-use Rattle.memory.proofs.Fits.{WordIn, word-fits}
+use Rattle.memory.proofs.Fits.{word-fits}
 use Rattle.decode.specs.PostByte.{isIndirect, indexOf}
 use Rattle.decode.specs.declared.postbyte.Form.{Form}
 use Rattle.decode.specs.declared.postbyte.Form.the-variants.{Offset5, Increment1, Increment2, Decrement1, Decrement2, NoOffset, OffsetB, OffsetA, Offset8, Offset16, OffsetD, Program8, Program16, Address}
@@ -30,8 +27,6 @@ use Rattle.decode.specs.declared.operand.Operand.the-variants.{Inherent as Noth
 use Rattle.addressing.specs.Address.{formAddress, throughPointer, indexedAddress, effectiveOf, advanced, resolvedOf}
 use Rattle.addressing.specs.Laws.{AddressedFits, ResolvedFits, EffectiveFits, ResolveFits}
 use Rattle.addressing.specs.declared.Addressed.{Addressed}
-use Rattle.addressing.specs.declared.Resolved.{Resolved}
-use Rattle.addressing.specs.declared.Resolved.the-variants.{At, Refused}
 
 module _ (r : Set) (f : Fits r) where
   pub register-fits : (w : Word) → wordOf r w < 65536
@@ -65,15 +60,11 @@ module _ (r : Set) (f : Fits r) where
   form-fits Address w n next h = record { registers = f; address = h }
 
 module _ (mem : List ℕ) (h : Bytes mem) where
-  pointer-fits : (a : Addressed) → AddressedFits a → ResolvedFits (throughPointer mem a)
+  pointer-fits : (a : Addressed) → AddressedFits a → AddressedFits (throughPointer mem a)
   unfolding throughPointer
-  pointer-fits a k = go (wordAt mem (a .ea)) refl (word-fits mem h (a .ea))
-    where
-      go : (w : WordRead) → wordAt mem (a .ea) ≡ w → WordIn w → ResolvedFits (throughPointer mem a)
-      go (Pointer w) e l = rw e (record { registers = k .registers; address = l })
-      go (NoPointer x) e l = rw e tt
+  pointer-fits a k = record { registers = k .registers; address = word-fits mem h (a .ea) }
 
-  through-fits : (r : Set) → Fits r → (ix : Indexed) (next : ℕ) → ix .offset < 65536 → ResolvedFits (indexedAddress mem r ix next)
+  through-fits : (r : Set) → Fits r → (ix : Indexed) (next : ℕ) → ix .offset < 65536 → AddressedFits (indexedAddress mem r ix next)
   unfolding indexedAddress
   through-fits r f ix next l = go (isIndirect (ix .post))
     where
@@ -83,7 +74,7 @@ module _ (mem : List ℕ) (h : Bytes mem) where
       fits : AddressedFits found
       fits = form-fits r f (ix .form) (indexWord (indexOf (ix .post))) (ix .offset) next l
 
-      go : (i : Bool) → ResolvedFits (cond i (throughPointer mem found) (At found))
+      go : (i : Bool) → AddressedFits (cond i (throughPointer mem found) found)
       go true = pointer-fits found fits
       go false = fits
 
@@ -97,12 +88,8 @@ effective-fits mem h r f (Branch offset) next l = summed r f (next % 65536 + off
 
 pub resolve-fits : ResolveFits
 unfolding resolvedOf
-resolve-fits mem h r f o next l = go (effectiveOf o mem r next) refl (effective-fits mem h r f o next l)
+resolve-fits mem h r f o next l = go (effectiveOf o mem r next) (effective-fits mem h r f o next l) (leb next 0xFFFF) refl
   where
-    go : (x : Resolved) → effectiveOf o mem r next ≡ x → ResolvedFits x → ResolvedFits (resolvedOf mem r o next)
-    go (At a) e k = rw e (next-fits (leb next 0xFFFF) refl)
-      where
-        next-fits : (t : Bool) → leb next 0xFFFF ≡ t → ResolvedFits (advanced a next)
-        next-fits true d = rw d (record { registers = written-fits (a .regs) (k .registers) PC (u16 next) (omega (arith, leb-true next 0xFFFF d)); address = k .address })
-        next-fits false d = rw d tt
-    go (Refused x) e k = rw e tt
+    go : (a : Addressed) → AddressedFits a → (t : Bool) → leb next 0xFFFF ≡ t → ResolvedFits (advanced a next)
+    go a k true d = rw d (record { registers = written-fits (a .regs) (k .registers) PC (u16 next) (omega (arith, leb-true next 0xFFFF d)); address = k .address })
+    go a k false d = rw d tt

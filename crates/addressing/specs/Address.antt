@@ -10,8 +10,6 @@ use Rattle.registers.specs.declared.Word.{Word}
 use Rattle.registers.specs.declared.Word.the-variants.{D}
 use Rattle.registers.specs.declared.Set.{Set}
 use Rattle.memory.specs.Map.{wordAt}
-use Rattle.memory.specs.declared.WordRead.{WordRead}
-use Rattle.memory.specs.declared.WordRead.the-variants.{Word as Pointer, Refused as NoPointer}
 use Rattle.answers.specs.declared.Refusal.the-variants.{PastEnd}
 use Rattle.decode.specs.PostByte.{isIndirect, indexOf}
 use Rattle.decode.specs.Operand.{signedByte}
@@ -67,42 +65,34 @@ formAddress Program16 r i n next = programRelative r next n
 -- an address
 formAddress Address r i n next = atAddress r n
 
--- indirection: the word at the address is the effective one, 6 at FFFF
-abbrev pointed : Set → WordRead → Resolved
-pointed r (Pointer w) = At (atAddress r w)
-pointed r (NoPointer x) = Refused x
+-- indirection: the word at the address is the effective one
+unfoldable pub throughPointer : List ℕ → Addressed → Addressed
+throughPointer mem a = atAddress (a .regs) (wordAt mem (a .ea))
 
-unfoldable pub throughPointer : List ℕ → Addressed → Resolved
-throughPointer mem a = pointed (a .regs) (wordAt mem (a .ea))
-
-abbrev indirected : Bool → List ℕ → Addressed → Resolved
-indirected i mem a = cond i (throughPointer mem a) (At a)
+abbrev indirected : Bool → List ℕ → Addressed → Addressed
+indirected i mem a = cond i (throughPointer mem a) a
 
 -- before indirection
 abbrev pub indexedBefore : Set → Indexed → ℕ → Addressed
 indexedBefore r ix next = formAddress (ix .form) r (indexWord (indexOf (ix .post))) (ix .offset) next
 
-unfoldable pub indexedAddress : List ℕ → Set → Indexed → ℕ → Resolved
+unfoldable pub indexedAddress : List ℕ → Set → Indexed → ℕ → Addressed
 indexedAddress mem r ix next = indirected (isIndirect (ix .post)) mem (indexedBefore r ix next)
 
-abbrev pub effectiveOf : Operand → List ℕ → Set → ℕ → Resolved
-effectiveOf Nothing mem r next = At (atAddress r 0)
-effectiveOf (ByValue at) mem r next = At (atAddress r at)
-effectiveOf (InPage low) mem r next = At (atAddress r (256 * r .dp + low))
+abbrev pub effectiveOf : Operand → List ℕ → Set → ℕ → Addressed
+effectiveOf Nothing mem r next = atAddress r 0
+effectiveOf (ByValue at) mem r next = atAddress r at
+effectiveOf (InPage low) mem r next = atAddress r (256 * r .dp + low)
 effectiveOf (ByIndex ix) mem r next = indexedAddress mem r ix next
-effectiveOf (AtAddress at) mem r next = At (atAddress r at)
-effectiveOf (Branch offset) mem r next = At (programRelative r next offset)
+effectiveOf (AtAddress at) mem r next = atAddress r at
+effectiveOf (Branch offset) mem r next = programRelative r next offset
 
--- PC becomes the next address, which is judged after the pointer: 4 past FFFF
+-- PC becomes the next address: 4 past FFFF
 abbrev atNext : Addressed → ℕ → Addressed
 atNext a next = record { regs = withPc (a .regs) next; ea = a .ea }
 
 abbrev pub advanced : Addressed → ℕ → Resolved
 advanced a next = cond (leb next 0xFFFF) (At (atNext a next)) (Refused PastEnd)
 
-abbrev then : ℕ → Resolved → Resolved
-then next (At a) = advanced a next
-then next (Refused x) = Refused x
-
 unfoldable pub resolvedOf : List ℕ → Set → Operand → ℕ → Resolved
-resolvedOf mem r operand next = then next (effectiveOf operand mem r next)
+resolvedOf mem r operand next = advanced (effectiveOf operand mem r next) next

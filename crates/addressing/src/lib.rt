@@ -5,7 +5,6 @@ use answers::Refusal;
 use decode::Form;
 use decode::Indexed;
 use decode::Operand;
-use memory::WordRead;
 use registers::Set;
 use registers::Word;
 
@@ -94,42 +93,38 @@ fn form_address(regs: Set, ix: Indexed, next: u32) -> Addressed
 }
 
 // Follows the pointer: the word at the address becomes the effective address.
-fn through_pointer(mem: &[u8], found: Addressed) -> Resolved
+fn through_pointer(mem: &[u8], found: Addressed) -> Addressed
     ensures { λ r. ⌜ r ≡ throughPointer (now (mem .entry)) found ⌝ }
 {
-    let regs = found.regs;
-    match memory::read_u16(mem, found.ea) {
-        WordRead::Word(ea) => Resolved::At(at_address(regs, ea)),
-        WordRead::Refused(refusal) => Resolved::Refused(refusal),
-    }
+    at_address(found.regs, memory::read_u16(mem, found.ea))
 }
 
-fn indexed_address(mem: &[u8], regs: Set, ix: Indexed, next: u32) -> Resolved
+fn indexed_address(mem: &[u8], regs: Set, ix: Indexed, next: u32) -> Addressed
     ensures { λ r. ⌜ r ≡ indexedAddress (now (mem .entry)) regs ix next ⌝ }
 {
     let found = form_address(regs, ix, next);
     if decode::is_indirect(ix.post) {
         through_pointer(mem, found)
     } else {
-        Resolved::At(found)
+        found
     }
 }
 
 // The effective address, whatever the next address is.
-pub fn effective(mem: &[u8], regs: Set, operand: Operand, next: u32) -> Resolved
+pub fn effective(mem: &[u8], regs: Set, operand: Operand, next: u32) -> Addressed
     ensures { λ r. ⌜ r ≡ effectiveOf operand (now (mem .entry)) regs next ⌝ }
 {
     match operand {
-        Operand::Inherent => Resolved::At(at_address(regs, 0)),
-        Operand::Immediate(at) => Resolved::At(at_address(regs, at)),
-        Operand::Direct(low) => Resolved::At(at_address(regs, 256 * regs.dp as u16 + low as u16)),
+        Operand::Inherent => at_address(regs, 0),
+        Operand::Immediate(at) => at_address(regs, at),
+        Operand::Direct(low) => at_address(regs, 256 * regs.dp as u16 + low as u16),
         Operand::Indexed(ix) => indexed_address(mem, regs, ix, next),
-        Operand::Extended(at) => Resolved::At(at_address(regs, at)),
-        Operand::Relative(offset) => Resolved::At(program_relative(regs, next, offset)),
+        Operand::Extended(at) => at_address(regs, at),
+        Operand::Relative(offset) => program_relative(regs, next, offset),
     }
 }
 
-// The next address, which is judged after the pointer, becomes PC.
+// The next address becomes PC.
 fn advance(found: Addressed, next: u32) -> Resolved
     ensures { λ r. ⌜ r ≡ advanced found next ⌝ }
 {
@@ -145,8 +140,5 @@ fn advance(found: Addressed, next: u32) -> Resolved
 pub fn resolve(mem: &[u8], regs: Set, operand: Operand, next: u32) -> Resolved
     ensures { λ r. ⌜ r ≡ resolvedOf (now (mem .entry)) regs operand next ⌝ }
 {
-    match effective(mem, regs, operand, next) {
-        Resolved::At(found) => advance(found, next),
-        Resolved::Refused(refusal) => Resolved::Refused(refusal),
-    }
+    advance(effective(mem, regs, operand, next), next)
 }

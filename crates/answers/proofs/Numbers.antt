@@ -1,4 +1,4 @@
--- No refusal is numbered 0, and no two refusals have one number.
+-- No refusal is numbered 0, none is numbered 6 any more, and no two refusals have one number.
 -- Assumes nothing.
 use Prim.Native.Nat.{ℕ}
 use mathlib.Core.Bool.{cond}
@@ -6,9 +6,9 @@ use mathlib.Core.List.{List, [], _∷_}
 use mathlib.Core.Path.{_≡_, refl, sym, ap, _∙_}
 use native.Mathlib.Omega.{arith}
 use lib.ListN.{getD}
-use Rattle.answers.specs.Numbers.{numberOf, RefusedByANumber, NumbersApart}
+use Rattle.answers.specs.Numbers.{numberOf, RefusedByANumber, SixWithdrawn, NumbersApart}
 use Rattle.answers.specs.declared.Refusal.{Refusal}
-use Rattle.answers.specs.declared.Refusal.the-variants.{MemoryLength, Waiting, Opcode, PastEnd, PostByte, WordAtTop, TransferCode, StackTooSmall, ZeroAtVector, JournalFull, NoRecord, JournalLength, DivisionByZero, LeftByte, NoRoom, Malformed, OutputShort, LineShape, Checksum, PastTop, NoEnd, PostByte8F}
+use Rattle.answers.specs.declared.Refusal.the-variants.{MemoryLength, Waiting, Opcode, PastEnd, PostByte, TransferCode, StackTooSmall, ZeroAtVector, JournalFull, NoRecord, JournalLength, DivisionByZero, LeftByte, NoRoom, Malformed, OutputShort, LineShape, Checksum, PastTop, NoEnd, PostByte8F}
 
 pub refused-by-a-number : RefusedByANumber
 refused-by-a-number MemoryLength = omega arith
@@ -16,7 +16,6 @@ refused-by-a-number Waiting = omega arith
 refused-by-a-number Opcode = omega arith
 refused-by-a-number PastEnd = omega arith
 refused-by-a-number PostByte = omega arith
-refused-by-a-number WordAtTop = omega arith
 refused-by-a-number TransferCode = omega arith
 refused-by-a-number StackTooSmall = omega arith
 refused-by-a-number ZeroAtVector = omega arith
@@ -34,11 +33,11 @@ refused-by-a-number PastTop = omega arith
 refused-by-a-number NoEnd = omega arith
 refused-by-a-number PostByte8F = omega arith
 
--- the refusal of a number, by the table's places; 18 and 19 are not used
+-- the refusal of a number, by the table's places; 6, 18 and 19 are not used
 abbrev refusalOf : ℕ → Refusal
 refusalOf n =
     getD
-    (PostByte8F ∷ MemoryLength ∷ Waiting ∷ Opcode ∷ PastEnd ∷ PostByte ∷ WordAtTop ∷ TransferCode ∷ StackTooSmall ∷ ZeroAtVector ∷ JournalFull ∷ NoRecord ∷ JournalLength ∷ DivisionByZero ∷ LeftByte ∷ NoRoom ∷ Malformed ∷ OutputShort ∷ PostByte8F ∷ PostByte8F ∷ LineShape ∷ Checksum ∷ PastTop ∷ NoEnd ∷ [])
+    (PostByte8F ∷ MemoryLength ∷ Waiting ∷ Opcode ∷ PastEnd ∷ PostByte ∷ PostByte8F ∷ TransferCode ∷ StackTooSmall ∷ ZeroAtVector ∷ JournalFull ∷ NoRecord ∷ JournalLength ∷ DivisionByZero ∷ LeftByte ∷ NoRoom ∷ Malformed ∷ OutputShort ∷ PostByte8F ∷ PostByte8F ∷ LineShape ∷ Checksum ∷ PastTop ∷ NoEnd ∷ [])
     n PostByte8F
 
 back : (x : Refusal) → refusalOf (numberOf x) ≡ x
@@ -47,7 +46,6 @@ back Waiting = refl
 back Opcode = refl
 back PastEnd = refl
 back PostByte = refl
-back WordAtTop = refl
 back TransferCode = refl
 back StackTooSmall = refl
 back ZeroAtVector = refl
@@ -67,3 +65,9 @@ back PostByte8F = refl
 
 pub numbers-apart : NumbersApart
 numbers-apart x y e = sym (back x) ∙ (ap refusalOf e ∙ back y)
+
+pub six-withdrawn : SixWithdrawn
+six-withdrawn x e =
+    let d : x ≡ PostByte8F = sym (back x) ∙ ap refusalOf e in
+    let f : _≡_ {A = ℕ} 6 24 = sym e ∙ ap numberOf d in
+    omega arith

@@ -1,11 +1,12 @@
 -- The numbers returned (document 01, "Numbers returned"; from 17 on document 02, by request). This is their only table.
 -- Assumes nothing.
 use Prim.Native.Nat.{ℕ, _<_}
+use mathlib.Core.Logic.{_≢_}
 use mathlib.Core.Path.{_≡_}
 use Rattle.answers.specs.declared.Answer.{Answer}
 use Rattle.answers.specs.declared.Answer.the-variants.{Done, Refused}
 use Rattle.answers.specs.declared.Refusal.{Refusal}
-use Rattle.answers.specs.declared.Refusal.the-variants.{MemoryLength, Waiting, Opcode, PastEnd, PostByte, WordAtTop, TransferCode, StackTooSmall, ZeroAtVector, JournalFull, NoRecord, JournalLength, DivisionByZero, LeftByte, NoRoom, Malformed, OutputShort, LineShape, Checksum, PastTop, NoEnd, PostByte8F}
+use Rattle.answers.specs.declared.Refusal.the-variants.{MemoryLength, Waiting, Opcode, PastEnd, PostByte, TransferCode, StackTooSmall, ZeroAtVector, JournalFull, NoRecord, JournalLength, DivisionByZero, LeftByte, NoRoom, Malformed, OutputShort, LineShape, Checksum, PastTop, NoEnd, PostByte8F}
 
 abbrev pub numberOf : Refusal → ℕ
 -- memory is not 65,536 bytes
@@ -18,8 +19,6 @@ numberOf Opcode = 3
 numberOf PastEnd = 4
 -- post-byte refused
 numberOf PostByte = 5
--- word access at FFFF, program bytes apart
-numberOf WordAtTop = 6
 -- TFR/EXG code refused
 numberOf TransferCode = 7
 -- stack pointer smaller than the bytes to push
@@ -61,6 +60,10 @@ numberOfAnswer (Refused x) = numberOf x
 -- the laws: no refusal is numbered 0, and no two refusals have one number
 abbrev pub RefusedByANumber : Type 0
 RefusedByANumber = (x : Refusal) → 0 < numberOf x
+
+-- [8]: 6 is withdrawn, and not used again
+abbrev pub SixWithdrawn : Type 0
+SixWithdrawn = (x : Refusal) → numberOf x ≢ 6
 
 abbrev pub NumbersApart : Type 0
 NumbersApart = (x y : Refusal) → numberOf x ≡ numberOf y → x ≡ y

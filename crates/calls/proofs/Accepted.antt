@@ -1,13 +1,14 @@
 -- A step while waiting, a masked interrupt and a reset, whole.
 -- Assumes nothing.
 use Prim.Native.Nat.{ℕ}
-use mathlib.Core.Bool.{cond}
+use mathlib.Core.Bool.{Bool, true, false, cond}
 use mathlib.Core.List.{List}
 use mathlib.Core.Logic.{_≢_}
 use mathlib.Core.Path.{_≡_, refl}
 use lib.Dec.{eqb}
 use lib.ListN.{length}
 use borrow.Author.Tests.{eq-eqb}
+use Rattle.answers.specs.Numbers.{numberOfAnswer}
 use Rattle.answers.specs.declared.Refusal.the-variants.{MemoryLength, Waiting}
 use Rattle.registers.specs.declared.Flags.{Flags}
 use Rattle.memory.specs.Map.{wordAt}
@@ -17,12 +18,12 @@ use Rattle.machine.specs.declared.Settings.{Settings}
 use Rattle.machine.specs.declared.Wait.{Wait}
 use Rattle.machine.specs.declared.Wait.the-variants.{Running, Cwai, Sync}
 use Rattle.vectors.specs.Service.{vectored}
-use Rattle.calls.specs.Accepted.{WaitsRefused, MaskedStays, ResetAccepted, AnyFlags}
+use Rattle.calls.specs.Accepted.{WaitsRefused, MaskedStays, ResetAccepted, ResetRefusesExactly, AnyFlags}
 use Rattle.calls.specs.Plans.{refusedWith, accepted, withRegisters}
 use Rattle.calls.specs.Steps.{unlessWaiting, reached, planned, stepPlan}
 use Rattle.calls.specs.Interrupts.{vectorOf, isMasked, taken, afterMasked, takenBy, interruptPlan}
 use Rattle.calls.specs.declared.InterruptType.{InterruptType}
-use Rattle.calls.specs.Resets.{resetPlan}
+use Rattle.calls.specs.Resets.{resetTo, resetPlan}
 
 pub waits-refused : WaitsRefused
 unfolding stepPlan reached
@@ -40,6 +41,14 @@ masked-stays mem m s i size k = rw (eq-eqb (length mem) 65536 size, k)
 pub reset-accepted : ResetAccepted
 unfolding resetPlan wordAt
 reset-accepted mem m size = rw (eq-eqb (length mem) 65536 size)
+
+pub reset-refuses-exactly : ResetRefusesExactly
+unfolding resetPlan
+reset-refuses-exactly mem m = go (eqb (length mem) 65536) _
+  where
+    go : (l : Bool) (pc : ℕ) → numberOfAnswer (cond l (resetTo m pc) (refusedWith m MemoryLength) .answer) ≡ cond l 0 1
+    go true pc = refl
+    go false pc = refl
 
 pub any-flags : AnyFlags
 unfolding interruptPlan vectored

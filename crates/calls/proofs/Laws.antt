@@ -19,9 +19,7 @@ use Rattle.registers.specs.declared.Set.{Set}
 use Rattle.memory.specs.Fits.{Bytes, AllFit}
 use Rattle.memory.specs.Map.{wordAt}
 use Rattle.memory.specs.Writes.{writesOf, listed, stored, reported}
-use Rattle.memory.specs.declared.WordRead.{WordRead}
-use Rattle.memory.specs.declared.WordRead.the-variants.{Word, Refused as NoWord}
-use Rattle.memory.proofs.Fits.{none-fit, listed-fit, WordIn, word-fits}
+use Rattle.memory.proofs.Fits.{none-fit, listed-fit, word-fits}
 use Rattle.memory.proofs.Folds.{listed-back}
 use Rattle.memory.proofs.Twelve.{Full, none-full, at-most-twelve}
 use Rattle.machine.specs.Machine.{MachineFits}
@@ -202,10 +200,9 @@ module _ (mem : List ℕ) (m : Machine) where
   unfolding resetPlan
   reset-whole = go (eqb (length mem) 65536) (wordAt mem (addressOf Reset)) (λ g. word-fits mem (g .bytes) (addressOf Reset))
     where
-      go : (l : Bool) (w : WordRead) → (Provided mem m → WordIn w) → Whole (Provided mem m) (Still m) m (cond l (resetTo m w) (refusedWith m MemoryLength))
-      go true (Word pc) h = accepted-whole (jumped afterReset pc) Running (λ g. jumped-fits afterReset cleared-fits pc (h g))
-      go true (NoWord x) h = refused-whole m (λ g. g .machine) x
-      go false w h = refused-whole m (λ g. g .machine) MemoryLength
+      go : (l : Bool) (pc : ℕ) → (Provided mem m → pc < 65536) → Whole (Provided mem m) (Still m) m (cond l (resetTo m pc) (refusedWith m MemoryLength))
+      go true pc h = accepted-whole (jumped afterReset pc) Running (λ g. jumped-fits afterReset cleared-fits pc (h g))
+      go false pc h = refused-whole m (λ g. g .machine) MemoryLength
 
 -- ---- what follows
 

@@ -1,20 +1,20 @@
 -- A call is refused by 8 exactly where a stack pointer is too small.
 -- Assumes nothing.
 use Prim.Native.Nat.{ℕ, _<_}
-use mathlib.Core.Bool.{Bool, true, false, cond, _||_}
+use mathlib.Core.Bool.{Bool, true, false, cond}
 use mathlib.Core.List.{List}
 use mathlib.Core.Logic.{_≢_, ⊎-elim}
 use mathlib.Core.Path.{_≡_, refl, ap, _∙_}
 use native.Mathlib.Omega.{arith}
 use borrow.Author.Tests.{eq-eqb, ne-eqb, eqb-true, lt-ltb}
-use lib.Dec.{T, eqb, ltb}
+use lib.Dec.{eqb, ltb}
 use lib.ListN.{length}
 use Rattle.answers.specs.Numbers.{numberOf, numberOfAnswer}
 use Rattle.answers.specs.declared.Answer.{Answer}
 use Rattle.answers.specs.declared.Answer.the-variants.{Done, Refused}
 use Rattle.answers.specs.declared.Refusal.{Refusal}
-use Rattle.answers.specs.declared.Refusal.the-variants.{MemoryLength}
-use Rattle.memory.specs.Map.{byteAt}
+use Rattle.answers.specs.declared.Refusal.the-variants.{MemoryLength, PastEnd}
+use Rattle.memory.specs.Map.{byteAt, wordAt}
 use Rattle.memory.specs.Writes.{listed, stored}
 use Rattle.machine.specs.declared.Effect.{Effect}
 use Rattle.machine.specs.declared.Machine.{Machine}
@@ -28,7 +28,6 @@ use Rattle.decode.specs.declared.instruction.Decoded.the-variants.{Instruction 
 use Rattle.decode.specs.declared.instruction.Instruction.{Instruction}
 use Rattle.decode.proofs.Laws.{decoding-number, decode-refuses}
 use Rattle.addressing.specs.Address.{resolvedOf}
-use Rattle.addressing.specs.Laws.{OfResolving, RefusedBy}
 use Rattle.addressing.specs.declared.Resolved.{Resolved}
 use Rattle.addressing.specs.declared.Resolved.the-variants.{At as Addressed, Refused as NoAddress}
 use Rattle.addressing.proofs.Refusals.{resolve-refuses}
@@ -36,7 +35,7 @@ use Rattle.evaluate.specs.Evaluate.{evaluateOf}
 use Rattle.evaluate.proofs.Room.{small-exactly}
 use Rattle.stack.specs.Frames.{stackedBy, framed as stacked}
 use Rattle.stack.specs.Pushing.{bytesPushed}
-use Rattle.vectors.specs.Service.{vectorWord, served}
+use Rattle.vectors.specs.Service.{served}
 use Rattle.vectors.specs.Table.{addressOf, isEntire}
 use Rattle.vectors.specs.declared.table.Vector.{Vector}
 use Rattle.vectors.proofs.Laws.{vectors-refuse-exactly}
@@ -58,14 +57,6 @@ Other x = eqb (numberOf x) 8 ≡ false
 of-decoding : (x : Refusal) → OfDecoding x → Other x
 of-decoding x t = ne-eqb (numberOf x) 8 (λ e. ⊎-elim (λ p. omega (arith, p .1)) (λ p. omega arith) (decoding-number x t))
 
-of-resolving : (x : Refusal) → OfResolving x → Other x
-of-resolving x t = ne-eqb (numberOf x) 8 (λ e. go (eqb (numberOf x) 4) refl (eqb (numberOf x) 6) refl e t)
-  where
-    go : (a : Bool) → eqb (numberOf x) 4 ≡ a → (b : Bool) → eqb (numberOf x) 6 ≡ b → numberOf x ≡ 8 → T (a || b) → ⊥
-    go true p b q e t = omega (arith, eqb-true (numberOf x) 4 p)
-    go false p true q e t = omega (arith, eqb-true (numberOf x) 6 q)
-    go false p false q e t = t
-
 abbrev OtherReached : Reached → Type 0
 OtherReached (At i r ea) = Unit {0}
 OtherReached (NotReached x) = Other x
@@ -74,9 +65,9 @@ reached-other : (mem : List ℕ) (m : Machine) → OtherReached (reached mem m)
 unfolding reached decodedTo
 reached-other mem m = go (eqb (length mem) 65536)
   where
-    of-address : (i : Instruction) (a : Resolved) → RefusedBy OfResolving a → OtherReached (addressed i a)
+    of-address : (i : Instruction) (a : Resolved) → ((x : Refusal) → a ≡ NoAddress x → x ≡ PastEnd) → OtherReached (addressed i a)
     of-address i (Addressed a) k = tt
-    of-address i (NoAddress x) k = of-resolving x k
+    of-address i (NoAddress x) k = rw (k x refl) refl
 
     of-decoded : (d : Decoded) → RefusedSo d → OtherReached (ofDecoded mem (m .regs) d)
     of-decoded (Taken i) k = of-address i (resolvedOf mem (m .regs) (i .operand) (i .next)) (resolve-refuses mem (m .regs) (i .operand) (i .next))
@@ -135,7 +126,7 @@ frame-eight false zero s = go (ltb s 3)
 module _ (mem : List ℕ) (m : Machine) (s : Settings) (v : Vector) where
   -- whether the vector leads to a zero byte
   leads : List ℕ → Bool
-  leads at = eqb (byteAt at (vectorWord at (addressOf v))) 0
+  leads at = eqb (byteAt at (wordAt at (addressOf v))) 0
 
   running : isEight (served mem s (m .regs) v .answer) ≡ ltb (m .regs .s) (bytesPushed (stackedBy (isEntire v)))
   unfolding leads

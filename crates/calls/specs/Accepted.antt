@@ -1,11 +1,13 @@
 -- Calls whose whole plan is one equation: a step while waiting, a masked interrupt, a reset. What an interrupt and a reset do not depend on.
 -- Assumes nothing.
 use Prim.Native.Nat.{ℕ, _+_, _*_}
-use mathlib.Core.Bool.{true}
+use mathlib.Core.Bool.{true, cond}
 use mathlib.Core.List.{List}
 use mathlib.Core.Logic.{_≢_}
 use mathlib.Core.Path.{_≡_}
+use lib.Dec.{eqb}
 use lib.ListN.{length}
+use Rattle.answers.specs.Numbers.{numberOfAnswer}
 use Rattle.answers.specs.declared.Refusal.the-variants.{Waiting}
 use Rattle.registers.specs.RegisterSet.{afterReset}
 use Rattle.memory.specs.Map.{byteAt}
@@ -36,6 +38,10 @@ abbrev pub ResetAccepted : Type 0
 ResetAccepted =
     (mem : List ℕ) (m : Machine) → length mem ≡ 65536
     → resetPlan mem m ≡ accepted (withRegisters m (jumped afterReset (256 * byteAt mem 0xFFFE + byteAt mem 0xFFFF)) Running)
+
+-- so 1 alone refuses it
+abbrev pub ResetRefusesExactly : Type 0
+ResetRefusesExactly = (mem : List ℕ) (m : Machine) → numberOfAnswer (resetPlan mem m .answer) ≡ cond (eqb (length mem) 65536) 0 1
 
 -- the flag setting plays no part in an interrupt or a reset: with the same ram_top, what is returned and memory afterwards are the same
 pub record AnyFlags : Type 0 where

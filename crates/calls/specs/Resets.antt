@@ -9,8 +9,6 @@ use lib.ListN.{length}
 use Rattle.answers.specs.declared.Refusal.the-variants.{MemoryLength}
 use Rattle.registers.specs.RegisterSet.{afterReset}
 use Rattle.memory.specs.Map.{wordAt}
-use Rattle.memory.specs.declared.WordRead.{WordRead}
-use Rattle.memory.specs.declared.WordRead.the-variants.{Word, Refused}
 use Rattle.machine.specs.declared.Machine.{Machine}
 use Rattle.machine.specs.declared.Settings.{Settings}
 use Rattle.machine.specs.declared.Wait.the-variants.{Running}
@@ -21,9 +19,8 @@ use Rattle.calls.specs.Plans.{refusedWith, accepted, withRegisters, carr
 use Rattle.calls.specs.declared.Plan.{Plan}
 use Rattle.calls.specs.declared.Report.{Report}
 
-abbrev pub resetTo : Machine → WordRead → Plan
-resetTo m (Word pc) = accepted (withRegisters m (jumped afterReset pc) Running)
-resetTo m (Refused x) = refusedWith m x
+abbrev pub resetTo : Machine → ℕ → Plan
+resetTo m pc = accepted (withRegisters m (jumped afterReset pc) Running)
 
 unfoldable pub resetPlan : List ℕ → Machine → Plan
 resetPlan mem m = cond (eqb (length mem) 65536) (resetTo m (wordAt mem (addressOf Reset))) (refusedWith m MemoryLength)

@@ -43,7 +43,7 @@ abbrev pub ofDecoded : List ℕ → Set → Decoded → Reached
 ofDecoded mem r (Taken i) = addressed i (resolvedOf mem r (i .operand) (i .next))
 ofDecoded mem r (NotDecoded x) = NotReached x
 
--- 4, 3, 4, 5, 4 by decoding, then 6, 4 by the address
+-- 4, 3, 4, 5, 4 by decoding, then 4 by the next address
 unfoldable pub decodedTo : List ℕ → Set → Reached
 decodedTo mem r = ofDecoded mem r (decodedAt mem (r .pc))
 

@@ -1,4 +1,4 @@
-// Reset. Neither a mask nor the byte that the vector leads to is looked at.
+// Reset. Neither a mask nor the byte that the vector leads to is looked at: 1 alone refuses it.
 ghost use mathlib.Core.Path.{_≡_};
 ghost use Rattle.calls.specs.Resets.{resetPlan, resetOf, memoryAfterReset};
 use super::Plan;
@@ -11,7 +11,6 @@ use answers::Refusal;
 use machine::Machine;
 use machine::Settings;
 use machine::Wait;
-use memory::WordRead;
 use registers::Set;
 use vectors::Vector;
 
@@ -21,13 +20,9 @@ pub fn plan_reset(mem: &[u8], machine: Machine) -> Plan
     if mem.len() != 65536 {
         return refused(machine, Refusal::MemoryLength);
     }
-    match memory::read_u16(mem, Vector::Reset.address()) {
-        WordRead::Word(pc) => {
-            let regs = operations::jump(Set::reset(), pc);
-            accept(with_registers(machine, regs, Wait::Running))
-        }
-        WordRead::Refused(refusal) => refused(machine, refusal),
-    }
+    let pc = memory::read_u16(mem, Vector::Reset.address());
+    let regs = operations::jump(Set::reset(), pc);
+    accept(with_registers(machine, regs, Wait::Running))
 }
 
 pub fn reset(mem: &mut [u8], machine: Machine, settings: Settings) -> Report

@@ -60,7 +60,7 @@ fn size(pc: u16, next: u32) -> u16 {
 fn resolved(mem: &Memory, regs: Set, operand: Operand, next: u32) -> Resolved {
     match operand {
         Operand::Relative(_) => addressing::resolve(mem, regs, operand, next),
-        _ => addressing::effective(mem, regs, operand, next),
+        _ => Resolved::At(addressing::effective(mem, regs, operand, next)),
     }
 }
 

@@ -10,7 +10,6 @@ use super::digest::memory_digest;
 use super::operands::access;
 use super::operands::value;
 use answers::Answer;
-use memory::WordRead;
 
 pub const BYTES: usize = 0x10000;
 
@@ -60,15 +59,8 @@ pub fn answer(case: Case, mem: &mut Memory) -> Reply {
     let at = case.w1;
     match function {
         0x40 => single(memory::read_u8(mem, at) as u16),
-        0x41 => word(memory::read_u16(mem, at)),
+        0x41 => single(memory::read_u16(mem, at)),
         _ => write(case, mem),
-    }
-}
-
-fn word(read: WordRead) -> Reply {
-    match read {
-        WordRead::Word(w) => single(w),
-        WordRead::Refused(refusal) => refused(refusal.number()),
     }
 }
 

@@ -68,12 +68,17 @@ fn fits_register_set(case: Case) -> bool {
     }
 }
 
+// A word at FFFF is no case: the Rust has none there.
 fn fits_memory(case: Case) -> bool {
     let function = case.function;
     let kind = case.w4;
     match function {
-        0x40 | 0x41 => case.w2 | case.w3 | case.w4 == 0,
-        0x42 => is_access(kind / 16) & is_value(kind % 16, case.w3),
+        0x40 => case.w2 | case.w3 | case.w4 == 0,
+        0x41 => (case.w1 < 0xFFFF) & (case.w2 | case.w3 | case.w4 == 0),
+        0x42 => {
+            let is_below = (kind % 16 == 1) | (case.w2 < 0xFFFF);
+            is_access(kind / 16) & is_value(kind % 16, case.w3) & is_below
+        }
         _ => is_instruction(case.w1),
     }
 }

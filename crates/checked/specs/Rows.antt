@@ -58,7 +58,7 @@ Gives s o cc a b r lines = let p = by s o cc a b in (p .value ≡ r) × Shown (c
 
 -- the effective address of an indexed operand whose post-byte stands at `at`
 abbrev pub effectiveOfRead : List ℕ → Set → OperandRead → Resolved
-effectiveOfRead mem r (Read operand next) = effectiveOf operand mem r next
+effectiveOfRead mem r (Read operand next) = At (effectiveOf operand mem r next)
 effectiveOfRead mem r (NotRead x) = Refused x
 
 abbrev pub numberOfResolved : Resolved → ℕ

@@ -9,7 +9,7 @@ use lib.Bits.{bitOr, or-shr, or-mod, or-zero-r}
 use lib.Dec.{eqb, ltb}
 use Rattle.answers.specs.declared.Answer.{Answer}
 use Rattle.answers.specs.declared.Answer.the-variants.{Done, Refused as NotDone}
-use Rattle.answers.specs.declared.Refusal.the-variants.{WordAtTop, TransferCode, StackTooSmall, ZeroAtVector}
+use Rattle.answers.specs.declared.Refusal.the-variants.{TransferCode, StackTooSmall, ZeroAtVector}
 use Rattle.u8oru16.specs.Negated.{signExtended}
 use Rattle.u8oru16.specs.Value.{valueOf}
 use Rattle.u8oru16.specs.declared.u8u16.the-variants.{u8}
@@ -34,10 +34,8 @@ use Rattle.registers.specs.declared.Word.the-variants.{D as wordD, X as wordX, 
 use Rattle.registers.proofs.Laws.{kept}
 use Rattle.registers.proofs.Lines.{stays}
 use Rattle.registers.proofs.Reading.{flag-far}
-use Rattle.memory.specs.Map.{byteAt, wordFits, wordAt}
+use Rattle.memory.specs.Map.{byteAt, wordAt}
 use Rattle.memory.specs.Writes.{listed, stored}
-use Rattle.memory.specs.declared.WordRead.{WordRead}
-use Rattle.memory.specs.declared.WordRead.the-variants.{Word as Read, Refused as NotRead}
 use Rattle.machine.specs.Effect.{stores, refuses}
 use Rattle.machine.specs.declared.Effect.{Effect}
 use Rattle.machine.specs.declared.Settings.{Settings}
@@ -58,13 +56,13 @@ use Rattle.operations.specs.Codes.{withCodes, orCodes}
 use Rattle.operations.specs.EightBit.{accumulator, withAccumulator, aluOf, unaryOf, onMemory}
 use Rattle.operations.specs.Inherent.{daaFlags, sexFlags}
 use Rattle.operations.specs.Transfers.{transferable, transferName, transfer, exchange}
-use Rattle.operations.specs.Words.{ofWord, tested16, load16, store16, compare16, addD, subtractD, loadAddress}
+use Rattle.operations.specs.Words.{tested16, load16, store16, compare16, addD, subtractD, loadAddress}
 use Rattle.operations.specs.declared.Changed.{Changed}
 use Rattle.operations.specs.declared.Changed.the-variants.{After, Refused}
 use Rattle.stack.specs.Frames.{stackedBy, framed}
 use Rattle.stack.specs.Pushing.{bytesPushed, pushed, oncePushed, jumpedToSubroutine}
 use Rattle.stack.proofs.Kept.{isOther, other-written, pull-keeps-codes}
-use Rattle.vectors.specs.Service.{vectorWord, vectored, served}
+use Rattle.vectors.specs.Service.{vectored, served}
 use Rattle.vectors.specs.Table.{addressOf, masksOf, isEntire, softwareVector}
 use Rattle.vectors.specs.declared.table.Vector.{Vector}
 use Rattle.evaluate.specs.Evaluate.{effectOf}
@@ -118,10 +116,6 @@ with-word r wordS n = refl
 abbrev Leaves : Set → Changed → Type 0
 Leaves r (After q) = Same (q .cc) (r .cc)
 Leaves r (Refused x) = Unit {0}
-
-of-word : (r : Set) (f : ℕ → Set) (w : WordRead) → ((n : ℕ) → Same (f n .cc) (r .cc)) → Leaves r (ofWord f w)
-of-word r f (Read n) h = h n
-of-word r f (NotRead x) h = tt
 
 -- ---- TFR and EXG
 
@@ -184,11 +178,12 @@ changed-leaves (Alu op acc) s mem r ea e = in-accumulator acc _ r (alu-same s (r
 changed-leaves (OnAcc op acc) s mem r ea e = in-accumulator acc _ r (unary-same s (r .cc) op (accumulator acc r))
 changed-leaves (TestAcc acc) s mem r ea e = stays H (r .cc) (logical 0x80 (accumulator acc r) .flags) refl
 changed-leaves TestMemory s mem r ea e = stays H (r .cc) (logical 0x80 (byteAt mem ea) .flags) refl
-changed-leaves Addd s mem r ea e = of-word r _ (wordAt mem ea) (λ w. kept Manual ADDD (r .cc) (wordOf r wordD) w H refl)
-changed-leaves Subd s mem r ea e = of-word r _ (wordAt mem ea) (λ w. kept Manual SUBD (r .cc) (wordOf r wordD) w H refl)
+changed-leaves Addd s mem r ea e = kept Manual ADDD (r .cc) (wordOf r wordD) (wordAt mem ea) H refl
+changed-leaves Subd s mem r ea e = kept Manual SUBD (r .cc) (wordOf r wordD) (wordAt mem ea) H refl
 changed-leaves (Load16 word) s mem r ea e =
-    of-word r _ (wordAt mem ea) (λ w. ap (flag H) (with-word (tested16 r w) word w) ∙ stays H (r .cc) (logical 0x8000 w .flags) refl)
-changed-leaves (Cmp16 word) s mem r ea e = of-word r _ (wordAt mem ea) (λ w. kept Manual SUBD (r .cc) (wordOf r word) w H refl)
+    let w = wordAt mem ea in
+    ap (flag H) (with-word (tested16 r w) word w) ∙ stays H (r .cc) (logical 0x8000 w .flags) refl
+changed-leaves (Cmp16 word) s mem r ea e = kept Manual SUBD (r .cc) (wordOf r word) (wordAt mem ea) H refl
 changed-leaves (Lea index) s mem r ea e = loaded-address index r ea
 changed-leaves (Branch c) s mem r ea e = go (condition c (r .cc))
   where
@@ -248,7 +243,7 @@ unfolding vectored
 served-same mem s r v e =
     let frame = framed r (isEntire v) in
     let after = stored (s .«ram_top») (listed (frame .writes)) mem in
-    let pc = vectorWord after (addressOf v) in
+    let pc = wordAt after (addressOf v) in
     once r (frame .answer) _
     (either r (eqb (byteAt after pc) 0) (refuses r ZeroAtVector) (stores (jumped (orCodes (frame .regs) (masksOf v)) pc) (frame .writes)) refl
     (or-leaves 5 (frame .regs .cc .reg) (masksOf v) e ∙ frame-same r (isEntire v)))
@@ -263,7 +258,7 @@ unfolding onMemory store16
 half-carry-alone (Registers op) s mem r ea e = of-change r (changedOf op (s .flags) mem r ea) (changed-leaves op (s .flags) mem r ea e)
 half-carry-alone (Memory (OnMemory op)) s mem r ea e = unary-same (s .flags) (r .cc) op (byteAt mem ea)
 half-carry-alone (Memory (Store8 acc)) s mem r ea e = stays H (r .cc) (logical 0x80 (accumulator acc r) .flags) refl
-half-carry-alone (Memory (Store16 word)) s mem r ea e = either r (wordFits ea) _ (refuses r WordAtTop) (stays H (r .cc) (logical 0x8000 (wordOf r word) .flags) refl) refl
+half-carry-alone (Memory (Store16 word)) s mem r ea e = stays H (r .cc) (logical 0x8000 (wordOf r word) .flags) refl
 half-carry-alone (Memory Bsr) s mem r ea e = jsr-same r ea
 half-carry-alone (Memory Jsr) s mem r ea e = jsr-same r ea
 half-carry-alone (Memory Rts) s mem r ea e = ap (flag H) (pull-keeps-codes mem r S 0x80 pc-alone)

@@ -2,39 +2,32 @@
 -- Assumes nothing.
 use Prim.Native.Nat.{ℕ}
 use mathlib.Core.Bool.{Bool, true, false, not, cond, _&&_}
-use mathlib.Core.List.{List, reverse}
+use mathlib.Core.List.{List}
 use mathlib.Core.Path.{_≡_, refl, ap, _∙_}
 use lib.Dec.{eqb, ltb}
 use Rattle.answers.specs.Numbers.{numberOfAnswer}
-use Rattle.answers.specs.declared.Refusal.the-variants.{WordAtTop}
 use Rattle.registers.specs.Names.{stackWord}
 use Rattle.registers.specs.RegisterSet.{wordOf}
 use Rattle.registers.specs.declared.Set.{Set}
-use Rattle.registers.specs.declared.Stack.{Stack}
-use Rattle.registers.specs.declared.Stack.the-variants.{S}
-use Rattle.memory.specs.Map.{byteAt, wordFits}
+use Rattle.memory.specs.Map.{byteAt, wordAt}
 use Rattle.memory.specs.Writes.{listed, stored}
-use Rattle.memory.specs.declared.writes.Writes.{Writes}
-use Rattle.machine.specs.Effect.{stores, refuses}
 use Rattle.machine.specs.declared.Settings.{Settings}
 use Rattle.opcodes.specs.declared.MemoryOp.the-variants.{OnMemory, Store8, Store16, Bsr, Jsr, Rts, Rti, Swi, Cwai, Sync, Push, Pull}
 use Rattle.opcodes.specs.declared.Op.the-variants.{Registers, Memory}
 use Rattle.opcodes.specs.declared.Software.the-variants.{Swi as SWI, Swi2 as SWI2, Swi3 as SWI3}
 use Rattle.operations.specs.EightBit.{onMemory}
 use Rattle.operations.specs.Change.{changedOf}
-use Rattle.operations.specs.Refusals.{numberOfChanged, readsWord, namesTwo}
+use Rattle.operations.specs.Refusals.{numberOfChanged, namesTwo}
 use Rattle.operations.specs.Transfers.{transferable}
 use Rattle.operations.specs.Words.{store16}
 use Rattle.operations.specs.declared.Changed.{Changed}
 use Rattle.operations.specs.declared.Changed.the-variants.{After, Refused}
 use Rattle.operations.proofs.Refusals.{change-refuses-exactly}
 use Rattle.stack.specs.Frames.{framed}
-use Rattle.stack.specs.Laws.{topMet}
-use Rattle.stack.specs.Pulling.{pulled, returnedFromInterrupt}
-use Rattle.stack.specs.Pushing.{order, chosen, bytesPushed, jumpedToSubroutine}
+use Rattle.stack.specs.Pushing.{bytesPushed, jumpedToSubroutine}
 use Rattle.stack.proofs.Laws.{stack-refuses-exactly}
 use Rattle.vectors.specs.Laws.{zeroNumber}
-use Rattle.vectors.specs.Service.{vectorWord, served}
+use Rattle.vectors.specs.Service.{served}
 use Rattle.vectors.specs.Table.{addressOf, isEntire, softwareVector}
 use Rattle.vectors.specs.declared.table.Vector.{Vector}
 use Rattle.vectors.proofs.Laws.{vectors-refuse-exactly}
@@ -53,13 +46,6 @@ other : (b : Bool) (m n : ℕ) → isEight m ≡ false → isEight n ≡ false �
 other true m n h k = h
 other false m n h k = k
 
--- a word would be pulled at FFFF
-abbrev isTop : Set → Stack → ℕ → Bool
-isTop r own mask = topMet (wordOf r (stackWord own)) (chosen mask (reverse (order own)))
-
-of-pull : (mem : List ℕ) (r : Set) (own : Stack) (mask : ℕ) → isEight (numberOfAnswer (pulled mem r own mask .answer)) ≡ false
-of-pull mem r own mask = ap isEight (stack-refuses-exactly .pull mem r own mask) ∙ other (isTop r own mask) 6 0 refl refl
-
 of-jsr : (r : Set) (ea : ℕ) → isEight (numberOfAnswer (jumpedToSubroutine r ea .answer)) ≡ ltb (r .s) 2
 of-jsr r ea = ap isEight (stack-refuses-exactly .jsr r ea) ∙ eight (ltb (r .s) 2) 0 refl
 
@@ -67,33 +53,29 @@ of-service : (mem : List ℕ) (s : Settings) (r : Set) (v : Vector) → isEight 
 of-service mem s r v =
     let after = stored (s .«ram_top») (listed (framed r (isEntire v) .writes)) mem in
     ap isEight (vectors-refuse-exactly .running mem s r v)
-    ∙ eight (ltb (r .s) (cond (isEntire v) 12 3)) (zeroNumber after v) (other (eqb (byteAt after (vectorWord after (addressOf v))) 0) 9 0 refl refl)
+    ∙ eight (ltb (r .s) (cond (isEntire v) 12 3)) (zeroNumber after v) (other (eqb (byteAt after (wordAt after (addressOf v))) 0) 9 0 refl refl)
 
 -- a change of registers has the number of its refusal
 numbered : (r : Set) (c : Changed) → numberOfAnswer (effectOf r c .answer) ≡ numberOfChanged c
 numbered r (After q) = refl
 numbered r (Refused x) = refl
 
-of-store : (b : Bool) (r q : Set) (ws : Writes) → isEight (numberOfAnswer (cond b (stores q ws) (refuses r WordAtTop) .answer)) ≡ false
-of-store true r q ws = refl
-of-store false r q ws = refl
-
 pub small-exactly : SmallExactly
-unfolding onMemory store16 returnedFromInterrupt
+unfolding onMemory store16
 small-exactly (Registers op) s mem r ea =
     ap isEight (numbered r (changedOf op (s .flags) mem r ea) ∙ change-refuses-exactly op (s .flags) mem r ea)
-    ∙ other (readsWord op && not (wordFits ea)) 6 _ refl (other (namesTwo op && not (transferable (byteAt mem ea))) 7 0 refl refl)
+    ∙ other (namesTwo op && not (transferable (byteAt mem ea))) 7 0 refl refl
 small-exactly (Memory (OnMemory op)) s mem r ea = refl
 small-exactly (Memory (Store8 acc)) s mem r ea = refl
-small-exactly (Memory (Store16 word)) s mem r ea = of-store (wordFits ea) r _ _
+small-exactly (Memory (Store16 word)) s mem r ea = refl
 small-exactly (Memory Bsr) s mem r ea = of-jsr r ea
 small-exactly (Memory Jsr) s mem r ea = of-jsr r ea
-small-exactly (Memory Rts) s mem r ea = of-pull mem r S 0x80
-small-exactly (Memory Rti) s mem r ea = of-pull mem r S _
+small-exactly (Memory Rts) s mem r ea = refl
+small-exactly (Memory Rti) s mem r ea = refl
 small-exactly (Memory (Swi SWI)) s mem r ea = of-service mem s r (softwareVector SWI)
 small-exactly (Memory (Swi SWI2)) s mem r ea = of-service mem s r (softwareVector SWI2)
 small-exactly (Memory (Swi SWI3)) s mem r ea = of-service mem s r (softwareVector SWI3)
 small-exactly (Memory Cwai) s mem r ea = ap isEight (vectors-refuse-exactly .cwai r (byteAt mem ea)) ∙ eight (ltb (r .s) 12) 0 refl
 small-exactly (Memory Sync) s mem r ea = refl
 small-exactly (Memory (Push own)) s mem r ea = ap isEight (stack-refuses-exactly .push r own (byteAt mem ea) false) ∙ eight (ltb (wordOf r (stackWord own)) (bytesPushed (byteAt mem ea))) 0 refl
-small-exactly (Memory (Pull own)) s mem r ea = of-pull mem r own (byteAt mem ea)
+small-exactly (Memory (Pull own)) s mem r ea = refl

@@ -10,7 +10,7 @@ use lib.ListN.{length}
 use Rattle.answers.specs.declared.Answer.{Answer}
 use Rattle.answers.specs.declared.Answer.the-variants.{Done, Refused}
 use Rattle.answers.specs.declared.Refusal.{Refusal}
-use Rattle.answers.specs.declared.Refusal.the-variants.{WordAtTop, StackTooSmall, ZeroAtVector}
+use Rattle.answers.specs.declared.Refusal.the-variants.{StackTooSmall, ZeroAtVector}
 use Rattle.registers.specs.ConditionCodes.{put}
 use Rattle.registers.specs.Names.{stackWord}
 use Rattle.registers.specs.RegisterSet.{wordOf}
@@ -19,7 +19,7 @@ use Rattle.registers.specs.declared.Set.{Set}
 use Rattle.registers.specs.declared.Stack.{Stack}
 use Rattle.registers.specs.declared.Stack.the-variants.{S}
 use Rattle.registers.specs.declared.Word.{Word}
-use Rattle.memory.specs.Map.{byteAt, wordFits}
+use Rattle.memory.specs.Map.{byteAt, wordAt}
 use Rattle.memory.specs.Writes.{listed, stored, wordWrites}
 use Rattle.memory.specs.declared.writes.Write.{Write}
 use Rattle.memory.proofs.Folds.{one-write, two-writes, listed-back}
@@ -40,11 +40,9 @@ use Rattle.operations.specs.Words.{store16}
 use Rattle.operations.specs.declared.Changed.{Changed}
 use Rattle.operations.specs.declared.Changed.the-variants.{After, Refused as NotChanged}
 use Rattle.stack.specs.Frames.{stackedBy, framed}
-use Rattle.stack.specs.Pulling.{pulled, returnedFromInterrupt}
 use Rattle.stack.specs.Pushing.{registersNamed, bytesPushed, pushes, pushed, oncePushed, jumpedToSubroutine}
-use Rattle.stack.proofs.Kept.{pull-writes-nothing}
 use Rattle.stack.proofs.Laws.{none-dropped}
-use Rattle.vectors.specs.Service.{vectorWord, vectored, served}
+use Rattle.vectors.specs.Service.{vectored, served}
 use Rattle.vectors.specs.Table.{addressOf, masksOf, isEntire, softwareVector}
 use Rattle.vectors.specs.Waits.{waiting}
 use Rattle.vectors.specs.declared.table.Vector.{Vector}
@@ -98,7 +96,7 @@ unfolding vectored
 of-served mem s r v =
     let frame = framed r (isEntire v) in
     let after = stored (s .«ram_top») (listed (frame .writes)) mem in
-    let pc = vectorWord after (addressOf v) in
+    let pc = wordAt after (addressOf v) in
     once r (frame .answer) _ (frameWrites r (isEntire v))
     (λ a. either (eqb (byteAt after pc) 0) (refuses r ZeroAtVector) (stores (jumped (orCodes (frame .regs) (masksOf v)) pc) (frame .writes)) (frameWrites r (isEntire v))
     (λ d. not-done d) (λ d. of-frame r (isEntire v) a))
@@ -113,31 +111,27 @@ of-wait r m =
 of-store : (r : Set) (w : Word) (ea : ℕ) → Lists (store16 r w ea) (wordWrites ea (wordOf r w) false)
 unfolding store16
 of-store r w ea =
-    either (wordFits ea) _ (refuses r WordAtTop) (wordWrites ea (wordOf r w) false) (λ d. rw (two-writes _ _) (listed-back (wordWrites ea (wordOf r w) false)))
-    (λ d. not-done d)
+    λ d. rw (two-writes _ _) (listed-back (wordWrites ea (wordOf r w) false))
 
 -- ---- every operation
 
 module _ (s : Settings) (mem : List ℕ) (r : Set) (ea : ℕ) where
-  of-pull : (own : Stack) (mask : ℕ) → listed (pulled mem r own mask .writes) ≡ []
-  of-pull own mask = ap listed (pull-writes-nothing mem r own mask) ∙ listed-back []
-
   of-memory : (op : MemoryOp) → Lists (evaluateOf (Memory op) s mem r ea) (memoryMakes op s mem r ea)
-  unfolding onMemory returnedFromInterrupt
+  unfolding onMemory
   of-memory (OnMemory op) d = ap listed (one-write _) ∙ listed-back _
   of-memory (Store8 acc) d = ap listed (one-write _) ∙ listed-back _
   of-memory (Store16 word) d = of-store r word ea d
   of-memory Bsr d = of-jsr r ea d
   of-memory Jsr d = of-jsr r ea d
-  of-memory Rts d = of-pull S 0x80
-  of-memory Rti d = of-pull S _
+  of-memory Rts d = listed-back []
+  of-memory Rti d = listed-back []
   of-memory (Swi SWI) d = of-served mem s r (softwareVector SWI) d
   of-memory (Swi SWI2) d = of-served mem s r (softwareVector SWI2) d
   of-memory (Swi SWI3) d = of-served mem s r (softwareVector SWI3) d
   of-memory Cwai d = of-wait r (byteAt mem ea) d
   of-memory Sync d = listed-back []
   of-memory (Push own) d = of-push r own (byteAt mem ea) false d
-  of-memory (Pull own) d = of-pull own (byteAt mem ea)
+  of-memory (Pull own) d = listed-back []
 
   all-listed : (op : Op) → Lists (evaluateOf op s mem r ea) (madeBy op s mem r ea)
   all-listed (Registers op) d = of-change r (changedOf op (s .flags) mem r ea)

@@ -30,13 +30,13 @@ memoryOf (Store8 acc) s mem r ea = store8 r acc ea
 memoryOf (Store16 word) s mem r ea = store16 r word ea
 memoryOf Bsr s mem r ea = jumpedToSubroutine r ea
 memoryOf Jsr s mem r ea = jumpedToSubroutine r ea
-memoryOf Rts s mem r ea = pulled mem r S 0x80
-memoryOf Rti s mem r ea = returnedFromInterrupt mem r
+memoryOf Rts s mem r ea = changes (pulled mem r S 0x80)
+memoryOf Rti s mem r ea = changes (returnedFromInterrupt mem r)
 memoryOf (Swi which) s mem r ea = software mem s r which
 memoryOf Cwai s mem r ea = waiting r (byteAt mem ea)
 memoryOf Sync s mem r ea = synchronized r
 memoryOf (Push own) s mem r ea = pushed r own (byteAt mem ea) false
-memoryOf (Pull own) s mem r ea = pulled mem r own (byteAt mem ea)
+memoryOf (Pull own) s mem r ea = changes (pulled mem r own (byteAt mem ea))
 
 -- a change of registers as an effect: a refusal hands back the registers that came
 abbrev pub effectOf : Set → Changed → Effect

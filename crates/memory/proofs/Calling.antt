@@ -16,7 +16,7 @@ use Rattle.memory.specs.declared.writes.Writes.{Writes}
 use Rattle.memory.specs.declared.Wrote.{Wrote}
 use Rattle.memory.proofs.Folds.{listed-back}
 
-module _ (top : ℕ) (access : AccessType) (at : ℕ) (v : u8u16) (mem : List ℕ) {a : Answer} (answer : a ≡ writeAnswer (length mem) at v) where
+module _ (top : ℕ) (access : AccessType) (at : ℕ) (v : u8u16) (mem : List ℕ) {a : Answer} (answer : a ≡ writeAnswer (length mem)) where
   pub done : {d ws : Writes} {m : List ℕ} → a ≡ Done → ws ≡ writesOf (valueWrites at v (isSystem access))
       → d ≡ writesOf (reported top (listed ws)) → m ≡ stored top (listed ws) mem
       → (_≡_ {A = Wrote} (record { devices = d; answer = a }) (wroteOf top access at v mem)) × (m ≡ memoryAfter top access at v mem)

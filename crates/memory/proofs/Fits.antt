@@ -11,13 +11,10 @@ use lib.Dec.{ltb, lit<}
 use lib.ListN.{length, getD, set, take}
 use lib.Seq.{getD-set-same, getD-set-other, set-out}
 use Rattle.memory.specs.Fits.{Bytes, WriteFits, AllFit}
-use Rattle.memory.specs.Map.{placeOf, byteAt, wordFits, lowAt, wordAt, landingOf}
+use Rattle.memory.specs.Map.{placeOf, byteAt, lowAt, wordAt, landingOf}
 use Rattle.memory.specs.Writes.{twelve, writesOf, listed, added, addedAll, wordWrites, putAt, stored}
 use Rattle.memory.specs.declared.Landing.{Landing}
 use Rattle.memory.specs.declared.Landing.the-variants.{Stored, Device, Ignored}
-use Rattle.answers.specs.declared.Refusal.the-variants.{WordAtTop}
-use Rattle.memory.specs.declared.WordRead.{WordRead}
-use Rattle.memory.specs.declared.WordRead.the-variants.{Word, Refused}
 use Rattle.memory.specs.declared.writes.Write.{Write}
 use Rattle.memory.specs.declared.writes.Writes.{Writes}
 
@@ -27,17 +24,9 @@ pub byte-fits : (mem : List ℕ) → Bytes mem → (at : ℕ) → byteAt mem at 
 unfolding byteAt
 byte-fits mem h at = h (placeOf at)
 
-abbrev pub WordIn : WordRead → Type 0
-WordIn (Word w) = w < 65536
-WordIn (Refused x) = Unit {0}
-
-pub word-fits : (mem : List ℕ) → Bytes mem → (at : ℕ) → WordIn (wordAt mem at)
+pub word-fits : (mem : List ℕ) → Bytes mem → (at : ℕ) → wordAt mem at < 65536
 unfolding wordAt
-word-fits mem h at = go (wordFits at)
-  where
-    go : (t : Bool) → WordIn (cond t (Word (256 * byteAt mem at + byteAt mem (lowAt at))) (Refused WordAtTop))
-    go true = omega (arith, byte-fits mem h at, byte-fits mem h (lowAt at))
-    go false = tt
+word-fits mem h at = omega (arith, byte-fits mem h at, byte-fits mem h (lowAt at))
 
 -- ---- the twelve places
 

@@ -5,3 +5,4 @@ pub mod Unique
 pub mod Places
 pub mod Twelve
 pub mod Fits
+pub mod Words

@@ -25,9 +25,6 @@ add-word κs a x y ws vs p q = (p ∙ sym q, refl)
 pub place : Determines 0 map.place.Kinds.ps map.place.Kinds.r map.place.Reads.Post
 place κs a x y ws vs p q = (p ∙ sym q, refl)
 
-pub word-fits : Determines 0 map.word_fits.Kinds.ps map.word_fits.Kinds.r map.word_fits.Reads.Post
-word-fits κs a x y ws vs p q = (p ∙ sym q, refl)
-
 pub lands : Determines 0 map.lands.Kinds.ps map.lands.Kinds.r map.lands.Reads.Post
 lands κs a x y ws vs p q = (p ∙ sym q, refl)
 

@@ -5,16 +5,12 @@ use mathlib.Core.Bool.{Bool, true, false, cond, not, _&&_, _||_}
 use mathlib.Core.List.{List}
 use lib.Dec.{leb, ltb}
 use lib.ListN.{getD}
+use Rattle.u8oru16.specs.declared.u8u16.{u8u16}
 use Rattle.u8oru16.specs.declared.u8u16.the-variants.{u8, u16}
 use Rattle.memory.specs.declared.AccessType.{AccessType}
 use Rattle.memory.specs.declared.AccessType.the-variants.{Program, UserStack, SystemStack, Generic, System}
 use Rattle.memory.specs.declared.Landing.{Landing}
 use Rattle.memory.specs.declared.Landing.the-variants.{Stored, Device, Ignored}
-use Rattle.answers.specs.declared.Refusal.the-variants.{WordAtTop}
-use Rattle.memory.specs.declared.ValueRead.{ValueRead}
-use Rattle.memory.specs.declared.ValueRead.the-variants.{Value, Refused as Refused′}
-use Rattle.memory.specs.declared.WordRead.{WordRead}
-use Rattle.memory.specs.declared.WordRead.the-variants.{Word, Refused}
 
 -- interrupt, SWI and CWAI stacking
 abbrev pub isSystem : AccessType → Bool
@@ -36,24 +32,17 @@ placeOf at = cond (within 0xFFE0 0xFFFF at) (at - 0x4000) at
 unfoldable pub byteAt : List ℕ → ℕ → ℕ
 byteAt mem at = getD mem (placeOf at) 0
 
--- a word fits at every address but FFFF; its low byte is at the next address
-abbrev pub wordFits : ℕ → Bool
-wordFits at = ltb at 0xFFFF
-
+-- the low byte of a word is at the next address, which is 0000 after FFFF
 abbrev pub lowAt : ℕ → ℕ
 lowAt at = (at + 1) % 65536
 
--- the word that a read gives, high byte first; at FFFF it is refused
-unfoldable pub wordAt : List ℕ → ℕ → WordRead
-wordAt mem at = cond (wordFits at) (Word (256 * byteAt mem at + byteAt mem (lowAt at))) (Refused WordAtTop)
+-- the word that a read gives, high byte first, each byte through the map
+unfoldable pub wordAt : List ℕ → ℕ → ℕ
+wordAt mem at = 256 * byteAt mem at + byteAt mem (lowAt at)
 
 -- a byte or a word
-abbrev asValue : WordRead → ValueRead
-asValue (Word w) = Value (u16 w)
-asValue (Refused r) = Refused′ r
-
-unfoldable pub valueAt : List ℕ → ℕ → Bool → ValueRead
-valueAt mem at wide = cond wide (asValue (wordAt mem at)) (Value (u8 (byteAt mem at)))
+unfoldable pub valueAt : List ℕ → ℕ → Bool → u8u16
+valueAt mem at wide = cond wide (u16 (wordAt mem at)) (u8 (byteAt mem at))
 
 -- what becomes of a write at an address, by the rows of the map
 unfoldable pub landingOf : ℕ → ℕ → Bool → Landing

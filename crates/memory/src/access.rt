@@ -1,4 +1,4 @@
-// One value written: the memory's length and a word at FFFF are judged first.
+// One value written: the memory's length is judged first.
 ghost use mathlib.Core.Path.{_≡_};
 ghost use Rattle.memory.specs.Writes.{writesOf, valueWrites};
 ghost use Rattle.memory.specs.Access.{byte, writeAnswer, wroteOf, memoryAfter};
@@ -6,7 +6,6 @@ use crate::AccessType;
 use crate::Write;
 use crate::Writes;
 use crate::Wrote;
-use crate::map;
 use crate::writes;
 use answers::Answer;
 use answers::Refusal;
@@ -22,24 +21,21 @@ fn value_writes(at: u16, value: u8u16, system: bool) -> Writes
     }
 }
 
-// Whether a value's write is refused: by the memory's length, then a word at FFFF, even where the write would be ignored.
-fn write_answer(length: usize, at: u16, value: u8u16) -> Answer
-    ensures { λ r. ⌜ r ≡ writeAnswer length at value ⌝ }
+// Whether a write is refused: by the memory's length alone.
+fn write_answer(length: usize) -> Answer
+    ensures { λ r. ⌜ r ≡ writeAnswer length ⌝ }
 {
-    if length != 65536 {
-        return Answer::Refused(Refusal::MemoryLength);
-    }
-    if value.is_u8() | map::word_fits(at) {
+    if length == 65536 {
         Answer::Done
     } else {
-        Answer::Refused(Refusal::WordAtTop)
+        Answer::Refused(Refusal::MemoryLength)
     }
 }
 
 pub fn write_u8u16(mem: &mut [u8], ram_top: u16, atype: AccessType, at: u16, value: u8u16) -> Wrote
     ensures { λ r. ⌜ (r ≡ wroteOf «ram_top» atype at value (now (mem .entry))) × (now (mem .exit) ≡ memoryAfter «ram_top» atype at value (now (mem .entry))) ⌝ }
 {
-    let answer = write_answer(mem.len(), at, value);
+    let answer = write_answer(mem.len());
     match answer {
         Answer::Done => {
             let devices = writes::store_all(

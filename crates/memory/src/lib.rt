@@ -6,14 +6,11 @@ mod writes;
 pub use access::write_u8;
 pub use access::write_u8u16;
 use answers::Answer;
-use answers::Refusal;
 pub use map::lands;
 pub use map::place;
 pub use map::read_u8;
 pub use map::read_u8u16;
 pub use map::read_u16;
-pub use map::word_fits;
-use u8oru16::u8u16;
 pub use writes::Write;
 pub use writes::Writes;
 pub use writes::read_u8_after;
@@ -33,18 +30,6 @@ pub enum Landing {
     Stored(u16),
     Device,
     Ignored,
-}
-
-// A word that was read.
-pub enum WordRead {
-    Word(u16),
-    Refused(Refusal),
-}
-
-// A value of one or two bytes that was read.
-pub enum ValueRead {
-    Value(u8u16),
-    Refused(Refusal),
 }
 
 // The device writes that a call reports, and its answer.

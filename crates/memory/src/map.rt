@@ -1,12 +1,9 @@
 // The map: where a byte lies, what a read gives, what becomes of a write.
 ghost use mathlib.Core.Path.{_≡_};
 ghost use Prim.Native.Nat.{_+_, _*_};
-ghost use Rattle.memory.specs.Map.{isSystem, placeOf, byteAt, wordFits, wordAt, valueAt, landingOf};
+ghost use Rattle.memory.specs.Map.{isSystem, placeOf, byteAt, wordAt, valueAt, landingOf};
 use crate::AccessType;
 use crate::Landing;
-use crate::ValueRead;
-use crate::WordRead;
-use answers::Refusal;
 use u8oru16::u8u16;
 
 impl AccessType {
@@ -42,41 +39,28 @@ pub fn read_u8(mem: &[u8], at: u16) -> u8
     if p < mem.len() { mem[p] } else { 0 }
 }
 
-// A word has no low byte at FFFF, where the Rust panics.
-pub fn word_fits(at: u16) -> bool
-    ensures { λ r. ⌜ r ≡ wordFits at ⌝ }
-{
-    at < 0xFFFF
-}
-
 pub fn word_of(high: u8, low: u8) -> u16
     ensures { λ r. ⌜ r ≡ 256 * high + low ⌝ }
 {
     256 * high as u16 + low as u16
 }
 
-// High byte first.
-pub fn read_u16(mem: &[u8], at: u16) -> WordRead
+// High byte first. The low byte of a word at FFFF is at 0000, where the Rust panics.
+pub fn read_u16(mem: &[u8], at: u16) -> u16
     ensures { λ r. ⌜ r ≡ wordAt (now (mem .entry)) at ⌝ }
 {
-    if word_fits(at) {
-        let high = read_u8(mem, at);
-        let low = read_u8(mem, std::num::wrapping_add_u16(at, 1));
-        WordRead::Word(word_of(high, low))
-    } else {
-        WordRead::Refused(Refusal::WordAtTop)
-    }
+    let high = read_u8(mem, at);
+    let low = read_u8(mem, std::num::wrapping_add_u16(at, 1));
+    word_of(high, low)
 }
 
-pub fn read_u8u16(mem: &[u8], at: u16, wide: bool) -> ValueRead
+pub fn read_u8u16(mem: &[u8], at: u16, wide: bool) -> u8u16
     ensures { λ r. ⌜ r ≡ valueAt (now (mem .entry)) at wide ⌝ }
 {
-    if !wide {
-        return ValueRead::Value(u8u16::u8(read_u8(mem, at)));
-    }
-    match read_u16(mem, at) {
-        WordRead::Word(word) => ValueRead::Value(u8u16::u16(word)),
-        WordRead::Refused(refusal) => ValueRead::Refused(refusal),
+    if wide {
+        u8u16::u16(read_u16(mem, at))
+    } else {
+        u8u16::u8(read_u8(mem, at))
     }
 }
 

@@ -7,9 +7,7 @@ ghost use lib.ListN.{length, getD};
 ghost use Rattle.memory.specs.Map.{byteAt, wordAt, landingOf};
 ghost use Rattle.memory.specs.Writes.{writesOf, listed, added, addedAll, wordWrites, putAt, deviceAt, stored, reported};
 use crate::Landing;
-use crate::WordRead;
 use crate::map;
-use answers::Refusal;
 
 // A byte to be written. Its four bytes leave no gap, so that a list of writes is copied as one block.
 pub struct Write {
@@ -140,14 +138,10 @@ pub fn read_u8_after(mem: &[u8], ram_top: u16, writes: Writes, at: u16) -> u8
     b
 }
 
-pub fn read_u16_after(mem: &[u8], ram_top: u16, writes: Writes, at: u16) -> WordRead
+pub fn read_u16_after(mem: &[u8], ram_top: u16, writes: Writes, at: u16) -> u16
     ensures { λ r. ⌜ r ≡ wordAt (stored «ram_top» (listed writes) (now (mem .entry))) at ⌝ }
 {
-    if map::word_fits(at) {
-        let high = read_u8_after(mem, ram_top, writes, at);
-        let low = read_u8_after(mem, ram_top, writes, std::num::wrapping_add_u16(at, 1));
-        WordRead::Word(map::word_of(high, low))
-    } else {
-        WordRead::Refused(Refusal::WordAtTop)
-    }
+    let high = read_u8_after(mem, ram_top, writes, at);
+    let low = read_u8_after(mem, ram_top, writes, std::num::wrapping_add_u16(at, 1));
+    map::word_of(high, low)
 }

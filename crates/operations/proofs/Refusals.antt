@@ -1,41 +1,29 @@
--- An operation on registers is refused with 6 or 7 exactly where it is said, and else done.
+-- An operation on registers is refused with 7 exactly where it is said, and else done.
 -- Assumes nothing.
-use Prim.Native.Nat.{ℕ, _+_, _*_}
 use mathlib.Core.Bool.{Bool, true, false, not, cond}
-use mathlib.Core.List.{List}
 use mathlib.Core.Path.{_≡_, refl}
-use Rattle.answers.specs.declared.Refusal.the-variants.{WordAtTop, TransferCode}
+use Rattle.answers.specs.declared.Refusal.the-variants.{TransferCode}
 use Rattle.registers.specs.declared.Set.{Set}
-use Rattle.memory.specs.Map.{byteAt, lowAt, wordAt, wordFits}
-use Rattle.memory.specs.declared.WordRead.the-variants.{Word as word, Refused as no-word}
+use Rattle.memory.specs.Map.{byteAt}
 use Rattle.opcodes.specs.declared.RegisterOp.the-variants.{Alu, OnAcc, TestAcc, TestMemory, Addd, Subd, Load16, Cmp16, Lea, Branch, Jmp, Nop, Daa, Sex, Mul, Abx, Andcc, Orcc, Exg, Tfr}
 use Rattle.operations.specs.Refusals.{numberOfChanged, ChangeRefusesExactly}
 use Rattle.operations.specs.Transfers.{transferable, transfer, exchange}
-use Rattle.operations.specs.Words.{ofWord, load16, compare16, addD, subtractD}
 use Rattle.operations.specs.declared.Changed.the-variants.{After, Refused}
-
-of-word : (f : ℕ → Set) (mem : List ℕ) (at : ℕ) → numberOfChanged (ofWord f (wordAt mem at)) ≡ cond (not (wordFits at)) 6 0
-unfolding wordAt
-of-word f mem at = go (wordFits at)
-  where
-    go : (b : Bool) → numberOfChanged (ofWord f (cond b (word (256 * byteAt mem at + byteAt mem (lowAt at))) (no-word WordAtTop))) ≡ cond (not b) 6 0
-    go true = refl
-    go false = refl
 
 of-test : (b : Bool) (q : Set) → numberOfChanged (cond b (After q) (Refused TransferCode)) ≡ cond (not b) 7 0
 of-test true q = refl
 of-test false q = refl
 
 pub change-refuses-exactly : ChangeRefusesExactly
-unfolding load16 compare16 addD subtractD transfer exchange
+unfolding transfer exchange
 change-refuses-exactly (Alu op acc) s mem r ea = refl
 change-refuses-exactly (OnAcc op acc) s mem r ea = refl
 change-refuses-exactly (TestAcc acc) s mem r ea = refl
 change-refuses-exactly TestMemory s mem r ea = refl
-change-refuses-exactly Addd s mem r ea = of-word _ mem ea
-change-refuses-exactly Subd s mem r ea = of-word _ mem ea
-change-refuses-exactly (Load16 name) s mem r ea = of-word _ mem ea
-change-refuses-exactly (Cmp16 name) s mem r ea = of-word _ mem ea
+change-refuses-exactly Addd s mem r ea = refl
+change-refuses-exactly Subd s mem r ea = refl
+change-refuses-exactly (Load16 name) s mem r ea = refl
+change-refuses-exactly (Cmp16 name) s mem r ea = refl
 change-refuses-exactly (Lea index) s mem r ea = refl
 change-refuses-exactly (Branch c) s mem r ea = refl
 change-refuses-exactly Jmp s mem r ea = refl

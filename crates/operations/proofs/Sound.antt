@@ -7,7 +7,6 @@ use mathlib.Core.List.{List, []}
 use native.Mathlib.Omega.{arith}
 use Rattle.answers.specs.declared.Answer.the-variants.{Done, Refused}
 use Rattle.answers.specs.declared.Refusal.{Refusal}
-use Rattle.answers.specs.declared.Refusal.the-variants.{WordAtTop}
 use Rattle.registers.specs.Fits.{Fits}
 use Rattle.registers.specs.Arithmetic.{logical}
 use Rattle.registers.specs.RegisterSet.{wordOf}
@@ -15,7 +14,7 @@ use Rattle.registers.specs.declared.Flags.{Flags}
 use Rattle.registers.specs.declared.Set.{Set}
 use Rattle.registers.specs.declared.Word.{Word}
 use Rattle.memory.specs.Fits.{AllFit}
-use Rattle.memory.specs.Map.{byteAt, wordFits}
+use Rattle.memory.specs.Map.{byteAt}
 use Rattle.memory.specs.Writes.{writesOf, wordWrites}
 use Rattle.memory.specs.declared.writes.Writes.{Writes}
 use Rattle.memory.proofs.Fits.{byte-fits, none-fit, added-fit, all-fit, word-writes-fit}
@@ -78,7 +77,5 @@ module _ (mem : List ℕ) (r : Set) (ea : ℕ) where
   pub store16-sound : (w : Word) → Sound (Given mem r ea) r Running (store16 r w ea)
   unfolding store16
   store16-sound w =
-      either-sound r (wordFits ea) _ _
-      (stored-sound r _ _ (all-full (writesOf []) (wordWrites ea (wordOf r w) false) none-full) (λ g. page-fits r (g .registers) (logical 0x8000 (wordOf r w) .flags))
-      (λ g. all-fit (writesOf []) (wordWrites ea (wordOf r w) false) none-fit (word-writes-fit ea (wordOf r w) false (g .address) (word-in r (g .registers) w))))
-      (refused-sound r (λ g. g .registers) WordAtTop)
+      stored-sound r _ _ (all-full (writesOf []) (wordWrites ea (wordOf r w) false) none-full) (λ g. page-fits r (g .registers) (logical 0x8000 (wordOf r w) .flags))
+      (λ g. all-fit (writesOf []) (wordWrites ea (wordOf r w) false) none-fit (word-writes-fit ea (wordOf r w) false (g .address) (word-in r (g .registers) w)))

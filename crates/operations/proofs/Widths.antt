@@ -31,9 +31,7 @@ use Rattle.registers.specs.declared.Word.{Word}
 use Rattle.registers.specs.declared.Word.the-variants.{D, X, Y, U, S}
 use Rattle.registers.proofs.Fits.{put-fits, codes-fit, result-fits, read-fits, written-fits}
 use Rattle.memory.specs.Map.{byteAt, wordAt}
-use Rattle.memory.specs.declared.WordRead.{WordRead}
-use Rattle.memory.specs.declared.WordRead.the-variants.{Word as word, Refused as no-word}
-use Rattle.memory.proofs.Fits.{byte-fits, WordIn, word-fits}
+use Rattle.memory.proofs.Fits.{byte-fits, word-fits}
 use Rattle.opcodes.specs.declared.Acc.{Acc}
 use Rattle.opcodes.specs.declared.Acc.the-variants.{A, B}
 use Rattle.opcodes.specs.declared.Alu.{Alu as Binary}
@@ -47,7 +45,7 @@ use Rattle.operations.specs.Codes.{withCodes, andCodes, orCodes}
 use Rattle.operations.specs.Inherent.{corrected, daaFlags, sexFlags}
 use Rattle.operations.specs.Sound.{Given, ChangedFits, ChangesFit}
 use Rattle.operations.specs.Transfers.{transferable, transferName, transfer, exchange}
-use Rattle.operations.specs.Words.{ofWord, load16, compare16, addD, subtractD, loadAddress, withZero}
+use Rattle.operations.specs.Words.{load16, compare16, addD, subtractD, loadAddress, withZero}
 use Rattle.operations.specs.declared.Changed.the-variants.{After, Refused}
 
 value-in : (v : u8u16) → InWidth v → valueOf v < 65536
@@ -147,12 +145,8 @@ module _ (mem : List ℕ) (r : Set) (ea : ℕ) (g : Given mem r ea) where
   byte-in : byteAt mem ea < 256
   byte-in = byte-fits mem (g .bytes) ea
 
-  of-word : (f : ℕ → Set) → ((w : ℕ) → w < 65536 → Fits (f w)) → ChangedFits (ofWord f (wordAt mem ea))
-  of-word f k = go (wordAt mem ea) (word-fits mem (g .bytes) ea)
-    where
-      go : (w : WordRead) → WordIn w → ChangedFits (ofWord f w)
-      go (word n) l = k n l
-      go (no-word x) l = tt
+  read-in : wordAt mem ea < 65536
+  read-in = word-fits mem (g .bytes) ea
 
   zero-fits : Fits (withZero r ea)
   zero-fits = codes-fits r (g .registers) _ (put-fits Z (eqb ea 0) (r .cc) (g .registers .cc))
@@ -176,11 +170,13 @@ changes-fit (OnAcc op acc) s mem r ea g =
 changes-fit (TestAcc acc) s mem r ea g = page-fits r (g .registers) (logical 0x80 (accumulator acc r) .flags)
 changes-fit TestMemory s mem r ea g = page-fits r (g .registers) (logical 0x80 (byteAt mem ea) .flags)
 changes-fit Addd s mem r ea g =
-    of-word mem r ea g _ (λ w l. on-d r (g .registers) (manual ADDD (r .cc) (wordOf r D) w .flags) (manual ADDD (r .cc) (wordOf r D) w .value) (result-fits Manual ADDD (r .cc) (wordOf r D) w (word-in r (g .registers) D) l))
+    let w = wordAt mem ea in
+    on-d r (g .registers) (manual ADDD (r .cc) (wordOf r D) w .flags) (manual ADDD (r .cc) (wordOf r D) w .value) (result-fits Manual ADDD (r .cc) (wordOf r D) w (word-in r (g .registers) D) (read-in mem r ea g))
 changes-fit Subd s mem r ea g =
-    of-word mem r ea g _ (λ w l. on-d r (g .registers) (manual SUBD (r .cc) (wordOf r D) w .flags) (manual SUBD (r .cc) (wordOf r D) w .value) (result-fits Manual SUBD (r .cc) (wordOf r D) w (word-in r (g .registers) D) l))
-changes-fit (Load16 name) s mem r ea g = of-word mem r ea g _ (λ w l. word-written _ (page-fits r (g .registers) (logical 0x8000 w .flags)) name w l)
-changes-fit (Cmp16 name) s mem r ea g = of-word mem r ea g _ (λ w l. page-fits r (g .registers) (manual SUBD (r .cc) (wordOf r name) w .flags))
+    let w = wordAt mem ea in
+    on-d r (g .registers) (manual SUBD (r .cc) (wordOf r D) w .flags) (manual SUBD (r .cc) (wordOf r D) w .value) (result-fits Manual SUBD (r .cc) (wordOf r D) w (word-in r (g .registers) D) (read-in mem r ea g))
+changes-fit (Load16 name) s mem r ea g = word-written _ (page-fits r (g .registers) (logical 0x8000 (wordAt mem ea) .flags)) name (wordAt mem ea) (read-in mem r ea g)
+changes-fit (Cmp16 name) s mem r ea g = page-fits r (g .registers) (manual SUBD (r .cc) (wordOf r name) (wordAt mem ea) .flags)
 changes-fit (Lea i) s mem r ea g = address-fits mem r ea g i
 changes-fit (Branch c) s mem r ea g = branch-fits mem r ea g (condition c (r .cc))
 changes-fit Jmp s mem r ea g = branch-fits mem r ea g true

@@ -1,5 +1,4 @@
--- What an operation on registers refuses: 6 where it reads a word at FFFF, 7 where the post-byte of TFR or EXG names no two registers of
--- one size.
+-- What an operation on registers refuses: 7 where the post-byte of TFR or EXG names no two registers of one size, and nothing else.
 -- Assumes nothing.
 use Prim.Native.Nat.{ℕ}
 use mathlib.Core.Bool.{Bool, true, false, not, cond, _&&_}
@@ -8,7 +7,7 @@ use mathlib.Core.Path.{_≡_}
 use Rattle.answers.specs.Numbers.{numberOf}
 use Rattle.registers.specs.declared.Flags.{Flags}
 use Rattle.registers.specs.declared.Set.{Set}
-use Rattle.memory.specs.Map.{byteAt, wordFits}
+use Rattle.memory.specs.Map.{byteAt}
 use Rattle.opcodes.specs.declared.RegisterOp.{RegisterOp}
 use Rattle.opcodes.specs.declared.RegisterOp.the-variants.{Alu, OnAcc, TestAcc, TestMemory, Addd, Subd, Load16, Cmp16, Lea, Branch, Jmp, Nop, Daa, Sex, Mul, Abx, Andcc, Orcc, Exg, Tfr}
 use Rattle.operations.specs.Change.{changedOf}
@@ -19,28 +18,6 @@ use Rattle.operations.specs.declared.Changed.the-variants.{After, Refuse
 abbrev pub numberOfChanged : Changed → ℕ
 numberOfChanged (After r) = 0
 numberOfChanged (Refused x) = numberOf x
-
-abbrev pub readsWord : RegisterOp → Bool
-readsWord (Alu op acc) = false
-readsWord (OnAcc op acc) = false
-readsWord (TestAcc acc) = false
-readsWord TestMemory = false
-readsWord Addd = true
-readsWord Subd = true
-readsWord (Load16 word) = true
-readsWord (Cmp16 word) = true
-readsWord (Lea index) = false
-readsWord (Branch c) = false
-readsWord Jmp = false
-readsWord Nop = false
-readsWord Daa = false
-readsWord Sex = false
-readsWord Mul = false
-readsWord Abx = false
-readsWord Andcc = false
-readsWord Orcc = false
-readsWord Exg = false
-readsWord Tfr = false
 
 abbrev pub namesTwo : RegisterOp → Bool
 namesTwo (Alu op acc) = false
@@ -64,12 +41,8 @@ namesTwo Orcc = false
 namesTwo Exg = true
 namesTwo Tfr = true
 
--- m is the byte at the effective address, which for TFR and EXG is the post-byte
-abbrev pub refusalNumber : RegisterOp → ℕ → ℕ → ℕ
-refusalNumber op m ea = cond (readsWord op && not (wordFits ea)) 6 (cond (namesTwo op && not (transferable m)) 7 0)
-
--- the law
+-- the law: the byte at the effective address is the post-byte of TFR and EXG
 abbrev pub ChangeRefusesExactly : Type 0
 ChangeRefusesExactly =
     (op : RegisterOp) (s : Flags) (mem : List ℕ) (r : Set) (ea : ℕ)
-    → numberOfChanged (changedOf op s mem r ea) ≡ refusalNumber op (byteAt mem ea) ea
+    → numberOfChanged (changedOf op s mem r ea) ≡ cond (namesTwo op && not (transferable (byteAt mem ea))) 7 0

@@ -1,10 +1,9 @@
--- Operations on words: LD, ST, CMP (16-Bit), ADDD, SUBD, LEA. A word at FFFF is refused (6). A clause for each page of the manual.
+-- Operations on words: LD, ST, CMP (16-Bit), ADDD, SUBD, LEA. A clause for each page of the manual.
 -- Assumes nothing.
 use Prim.Native.Nat.{ℕ}
-use mathlib.Core.Bool.{cond, false}
+use mathlib.Core.Bool.{false}
 use mathlib.Core.List.{List, []}
 use lib.Dec.{eqb}
-use Rattle.answers.specs.declared.Refusal.the-variants.{WordAtTop}
 use Rattle.registers.specs.ConditionCodes.{put}
 use Rattle.registers.specs.Arithmetic.{ADDD, SUBD, Page, codes, logical, manual}
 use Rattle.registers.specs.RegisterSet.{wordOf, withWord}
@@ -14,48 +13,37 @@ use Rattle.registers.specs.declared.Index.the-variants.{X as LEAX, Y as LEAY, U
 use Rattle.registers.specs.declared.Set.{Set}
 use Rattle.registers.specs.declared.Word.{Word}
 use Rattle.registers.specs.declared.Word.the-variants.{D, X, Y, U, S}
-use Rattle.memory.specs.Map.{wordFits, wordAt}
+use Rattle.memory.specs.Map.{wordAt}
 use Rattle.memory.specs.Writes.{writesOf, addedAll, wordWrites}
-use Rattle.memory.specs.declared.WordRead.{WordRead}
-use Rattle.memory.specs.declared.WordRead.the-variants.{Word as word, Refused as no-word}
-use Rattle.machine.specs.Effect.{stores, refuses}
+use Rattle.machine.specs.Effect.{stores}
 use Rattle.machine.specs.declared.Effect.{Effect}
 use Rattle.operations.specs.Codes.{withCodes}
-use Rattle.operations.specs.declared.Changed.{Changed}
-use Rattle.operations.specs.declared.Changed.the-variants.{After, Refused}
-
--- the registers after an operation on the word that was read
-abbrev pub ofWord : (ℕ → Set) → WordRead → Changed
-ofWord f (word w) = After (f w)
-ofWord f (no-word x) = Refused x
 
 -- N and Z by the word, V always cleared
 abbrev pub tested16 : Set → ℕ → Set
 tested16 r w = withCodes r (codes (r .cc) (logical 0x8000 w .flags))
 
 -- LD (16-Bit)
-unfoldable pub load16 : List ℕ → Set → Word → ℕ → Changed
-load16 mem r name ea = ofWord (λ w. withWord (tested16 r w) name w) (wordAt mem ea)
+unfoldable pub load16 : List ℕ → Set → Word → ℕ → Set
+load16 mem r name ea = let w = wordAt mem ea in withWord (tested16 r w) name w
 
 -- ST (16-Bit)
 unfoldable pub store16 : Set → Word → ℕ → Effect
-store16 r name ea =
-    cond (wordFits ea) (stores (tested16 r (wordOf r name)) (addedAll (writesOf []) (wordWrites ea (wordOf r name) false)))
-    (refuses r WordAtTop)
+store16 r name ea = stores (tested16 r (wordOf r name)) (addedAll (writesOf []) (wordWrites ea (wordOf r name) false))
 
 -- CMP (16-Bit): SUBD whose result is not kept
-unfoldable pub compare16 : List ℕ → Set → Word → ℕ → Changed
-compare16 mem r name ea = ofWord (λ w. withCodes r (codes (r .cc) (manual SUBD (r .cc) (wordOf r name) w .flags))) (wordAt mem ea)
+unfoldable pub compare16 : List ℕ → Set → Word → ℕ → Set
+compare16 mem r name ea = withCodes r (codes (r .cc) (manual SUBD (r .cc) (wordOf r name) (wordAt mem ea) .flags))
 
 -- ADD and SUB (16-Bit)
 abbrev onD : Set → Page → Set
 onD r p = withWord (withCodes r (codes (r .cc) (p .flags))) D (p .value)
 
-unfoldable pub addD : List ℕ → Set → ℕ → Changed
-addD mem r ea = ofWord (λ w. onD r (manual ADDD (r .cc) (wordOf r D) w)) (wordAt mem ea)
+unfoldable pub addD : List ℕ → Set → ℕ → Set
+addD mem r ea = onD r (manual ADDD (r .cc) (wordOf r D) (wordAt mem ea))
 
-unfoldable pub subtractD : List ℕ → Set → ℕ → Changed
-subtractD mem r ea = ofWord (λ w. onD r (manual SUBD (r .cc) (wordOf r D) w)) (wordAt mem ea)
+unfoldable pub subtractD : List ℕ → Set → ℕ → Set
+subtractD mem r ea = onD r (manual SUBD (r .cc) (wordOf r D) (wordAt mem ea))
 
 -- LEA: Z by the address for X and Y, no flag for S and U
 abbrev pub withZero : Set → ℕ → Set

@@ -22,7 +22,7 @@ use registers::Flags;
 use registers::Set;
 pub use words::store16;
 
-// Result of an instruction that only changes registers.
+// Result of an instruction that only changes registers. TFR and EXG alone may be refused.
 pub enum Changed {
     After(Set),
     Refused(Refusal),
@@ -44,10 +44,10 @@ pub fn change(op: RegisterOp, flags: Flags, mem: &[u8], regs: Set, ea: u16) -> C
             eight_bit::accumulator(regs, acc),
         )),
         RegisterOp::TestMemory => Changed::After(eight_bit::test(regs, memory::read_u8(mem, ea))),
-        RegisterOp::Addd => words::add_d(mem, regs, ea),
-        RegisterOp::Subd => words::subtract_d(mem, regs, ea),
-        RegisterOp::Load16(word) => words::load16(mem, regs, word, ea),
-        RegisterOp::Cmp16(word) => words::compare16(mem, regs, word, ea),
+        RegisterOp::Addd => Changed::After(words::add_d(mem, regs, ea)),
+        RegisterOp::Subd => Changed::After(words::subtract_d(mem, regs, ea)),
+        RegisterOp::Load16(word) => Changed::After(words::load16(mem, regs, word, ea)),
+        RegisterOp::Cmp16(word) => Changed::After(words::compare16(mem, regs, word, ea)),
         RegisterOp::Lea(index) => Changed::After(words::load_address(regs, index, ea)),
         RegisterOp::Branch(cond) => Changed::After(branches::branch(regs, cond, ea)),
         RegisterOp::Jmp => Changed::After(jump(regs, ea)),

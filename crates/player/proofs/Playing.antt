@@ -11,7 +11,7 @@ use Rattle.answers.specs.Numbers.{numberOf, numberOfAnswer}
 use Rattle.answers.specs.declared.Answer.{Answer}
 use Rattle.answers.specs.declared.Answer.the-variants.{Done, Refused}
 use Rattle.answers.specs.declared.Refusal.{Refusal}
-use Rattle.answers.specs.declared.Refusal.the-variants.{MemoryLength, Waiting, Opcode, PastEnd, PostByte, WordAtTop, TransferCode, StackTooSmall, ZeroAtVector, JournalFull, NoRecord, JournalLength, DivisionByZero, LeftByte, NoRoom, Malformed, OutputShort, LineShape, Checksum, PastTop, NoEnd, PostByte8F}
+use Rattle.answers.specs.declared.Refusal.the-variants.{MemoryLength, Waiting, Opcode, PastEnd, PostByte, TransferCode, StackTooSmall, ZeroAtVector, JournalFull, NoRecord, JournalLength, DivisionByZero, LeftByte, NoRoom, Malformed, OutputShort, LineShape, Checksum, PastTop, NoEnd, PostByte8F}
 use Rattle.text.proofs.Stores.{sets-append}
 use Rattle.text.proofs.Texts.{line-fits}
 use Rattle.machine.specs.declared.Machine.{Machine}
@@ -38,7 +38,6 @@ number-fits (Refused x) = go x
     go Opcode = omega arith
     go PastEnd = omega arith
     go PostByte = omega arith
-    go WordAtTop = omega arith
     go TransferCode = omega arith
     go StackTooSmall = omega arith
     go ZeroAtVector = omega arith

@@ -13,7 +13,7 @@ use Rattle.answers.specs.Numbers.{numberOf, numberOfAnswer}
 use Rattle.answers.specs.declared.Answer.{Answer}
 use Rattle.answers.specs.declared.Answer.the-variants.{Done, Refused}
 use Rattle.answers.specs.declared.Refusal.{Refusal}
-use Rattle.answers.specs.declared.Refusal.the-variants.{MemoryLength, Opcode, PastEnd, PostByte, WordAtTop, PostByte8F}
+use Rattle.answers.specs.declared.Refusal.the-variants.{MemoryLength, Opcode, PastEnd, PostByte, PostByte8F}
 use Rattle.answers.proofs.Numbers.{refused-by-a-number, numbers-apart}
 use Rattle.registers.specs.declared.Set.{Set}
 use Rattle.memory.specs.Map.{byteAt}
@@ -33,17 +33,15 @@ use Rattle.decode.proofs.CutShort.{bytes-refused}
 use Rattle.decode.proofs.Formless.{post-byte-refused}
 use Rattle.decode.proofs.Laws.{decoding-number, decode-refuses, opcode-refused}
 use Rattle.addressing.specs.Address.{resolvedOf}
-use Rattle.addressing.specs.Laws.{OfResolving, RefusedBy}
 use Rattle.addressing.specs.declared.Resolved.{Resolved}
 use Rattle.addressing.specs.declared.Resolved.the-variants.{At as Addressed, Refused as NoAddress}
-use Rattle.addressing.proofs.Exactly.{pointer-refused, next-refused}
-use Rattle.addressing.proofs.Refusals.{resolve-refuses}
+use Rattle.addressing.proofs.Refusals.{resolve-refuses, next-refused}
 use Rattle.evaluate.specs.Evaluate.{evaluateOf}
 use Rattle.evaluate.specs.Room.{isSmall}
 use Rattle.calls.specs.Cycles.{cyclesOf}
 use Rattle.calls.specs.Steps.{Reached, At, NotReached, addressed, ofDecoded, decodedTo, unlessWaiting, reached, finishedAs, finished, planned, stepPlan}
-use Rattle.refusals.specs.Operations.{codeRefused, wordAtTop, leadsToZero}
-use Rattle.refusals.specs.Steps.{Runs, NextPast, PointerAtTop, Met, StepsRefused}
+use Rattle.refusals.specs.Operations.{codeRefused, leadsToZero}
+use Rattle.refusals.specs.Steps.{Runs, NextPast, Met, StepsRefused}
 use Rattle.refusals.proofs.Operations.{operation-number}
 
 -- ---- the numbers of the parts
@@ -76,18 +74,13 @@ step-number mem m s = go (reached mem m)
 
 -- ---- decoding and the address
 
--- the address is refused by 4 or 6, decoding by 3, 4, 5 or 24
+-- the address is refused by 4, decoding by 3, 4, 5 or 24
 abbrev OfAddress : ℕ → Type 0
-OfAddress n = (n ≡ 0) ⊎ ((n ≡ 4) ⊎ (n ≡ 6))
+OfAddress n = (n ≡ 0) ⊎ (n ≡ 4)
 
-of-resolved : (i : Instruction) (x : Resolved) → RefusedBy OfResolving x → OfAddress (before (addressed i x))
+of-resolved : (i : Instruction) (x : Resolved) → ((y : Refusal) → x ≡ NoAddress y → y ≡ PastEnd) → OfAddress (before (addressed i x))
 of-resolved i (Addressed a) k = inl refl
-of-resolved i (NoAddress x) k = go (eqb (numberOf x) 4) refl (eqb (numberOf x) 6) refl k
-  where
-    go : (a : Bool) → eqb (numberOf x) 4 ≡ a → (b : Bool) → eqb (numberOf x) 6 ≡ b → T (a || b) → OfAddress (numberOf x)
-    go true p b q t = inr (inl (eqb-true (numberOf x) 4 p))
-    go false p true q t = inr (inr (eqb-true (numberOf x) 6 q))
-    go false p false q t = absurd t
+of-resolved i (NoAddress x) k = inr (ap numberOf (k x refl))
 
 -- a refusal and its number
 resolved-by : (i : Instruction) (x : Resolved) (y : Refusal) → (before (addressed i x) ≡ numberOf y) ↔ (x ≡ NoAddress y)
@@ -112,7 +105,7 @@ module _ (mem : List ℕ) (r : Set) where
       (λ q. f .0 (ap NotDecoded (numbers-apart x y q)), λ p. let c = f .1 p in let d : x ≡ y = cc in ap numberOf d)
 
   -- 4: by decoding or by the next address
-  by-four : {P : Type 0} (d : Decoded) → (d ≡ NotDecoded PastEnd) ↔ P → (number d ≡ 4) ↔ (P ⊎ NextPast d r)
+  by-four : {P : Type 0} (d : Decoded) → (d ≡ NotDecoded PastEnd) ↔ P → (number d ≡ 4) ↔ (P ⊎ NextPast d)
   by-four (Taken i) f =
       let b = resolved-by i (resolvedOf mem r (i .operand) (i .next)) PastEnd in
       let g = next-refused mem r (i .operand) (i .next) in (
@@ -124,24 +117,15 @@ module _ (mem : List ℕ) (r : Set) where
     λ h. ⊎-elim (λ p. let c = f .1 p in let d : x ≡ PastEnd = cc in ap numberOf d) (λ k. absurd k) h,
   )
 
-  -- 6: by the pointer
-  by-six : (d : Decoded) → RefusedSo d → (number d ≡ 6) ↔ PointerAtTop d r
-  by-six (Taken i) k =
-      let b = resolved-by i (resolvedOf mem r (i .operand) (i .next)) WordAtTop in
-      let g = pointer-refused mem r (i .operand) (i .next) in
-      (λ q. g .0 (b .0 q), λ h. b .1 (g .1 h))
-  by-six (NotDecoded x) k = (λ q. absurd (⊎-elim (λ p. omega (arith, p .1)) (λ p. omega arith) (decoding-number x k)), λ h. absurd h)
-
-  -- neither 1 nor 2, and at most 6 or 24
+  -- neither 1 nor 2, and at most 5 or 24
   record Middle (n : ℕ) : Type 0 where
     one : n ≡ 1 → ⊥
     two : n ≡ 2 → ⊥
-    most : (n ≤ 6) ⊎ (n ≡ 24)
+    most : (n ≤ 5) ⊎ (n ≡ 24)
 
   of-address : (n : ℕ) → OfAddress n → Middle n
   of-address n (inl e) = record { one = λ q. omega arith; two = λ q. omega arith; most = inl (omega arith) }
-  of-address n (inr (inl e)) = record { one = λ q. omega arith; two = λ q. omega arith; most = inl (omega arith) }
-  of-address n (inr (inr e)) = record { one = λ q. omega arith; two = λ q. omega arith; most = inl (omega arith) }
+  of-address n (inr e) = record { one = λ q. omega arith; two = λ q. omega arith; most = inl (omega arith) }
 
   of-number : (n : ℕ) → ((3 ≤ n) × (n ≤ 5)) ⊎ (n ≡ 24) → Middle n
   of-number n (inl (l, h)) = record { one = λ q. omega arith; two = λ q. omega arith; most = inl (omega arith) }
@@ -194,7 +178,7 @@ module _ (mem : List ℕ) (m : Machine) where
     is-more k l f (waits e g w) = (λ q. absurd (omega arith), λ p. absurd (w (p .0 .running)))
     is-more k l f (runs e r) = (λ q. (r, f .0 (sym e ∙ q)), λ p. e ∙ f .1 (p .1))
 
-    is-most : Case mem m n → (n ≤ 6) ⊎ (n ≡ 24)
+    is-most : Case mem m n → (n ≤ 5) ⊎ (n ≡ 24)
     is-most (short e h) = inl (omega arith)
     is-most (waits e l w) = inl (omega arith)
     is-most (runs e r) = rw e (in-middle .most)
@@ -204,12 +188,12 @@ module _ (mem : List ℕ) (m : Machine) where
 exact : (n k : ℕ) (b : Bool) → eqb n k ≡ b → (n ≡ k) ↔ (b ≡ true)
 exact n k b h = (λ e. sym h ∙ eq-eqb n k e, λ e. eqb-true n k (h ∙ e))
 
-not-early : (n k : ℕ) → T (eqb n 0 || leb 6 n) → 0 < k → k < 6 → n ≡ k → ⊥
+not-early : (n k : ℕ) → T (eqb n 0 || leb 7 n) → 0 < k → k < 6 → n ≡ k → ⊥
 not-early n k t l h e = go (eqb n 0) refl t
   where
-    go : (b : Bool) → eqb n 0 ≡ b → T (b || leb 6 n) → ⊥
+    go : (b : Bool) → eqb n 0 ≡ b → T (b || leb 7 n) → ⊥
     go true p t = omega (arith, eqb-true n 0 p)
-    go false p t = omega (arith, leb→le 6 n t)
+    go false p t = omega (arith, leb→le 7 n t)
 
 module _ (mem : List ℕ) (s : Settings) where
   -- a number that no operation gives
@@ -230,19 +214,13 @@ module _ (mem : List ℕ) (s : Settings) where
   early k h (At i r ea) = (λ q. absurd (h .none (i .entry .op) r ea q), λ q. absurd (omega (arith, h .some)))
   early k h (NotReached x) = (λ q. q, λ q. q)
 
-  at-six : (a : Reached) → (whole mem s a ≡ 6) ↔ ((before a ≡ 6) ⊎ Met a (λ op r ea. wordAtTop op mem r ea))
-  at-six (At i r ea) =
-      let b = exact _ 6 _ (operation-number s mem r ea (i .entry .op) .is6) in
-      (λ q. inr (b .0 q), λ h. ⊎-elim (λ q. absurd (omega arith)) (b .1) h)
-  at-six (NotReached x) = (λ q. inl q, λ h. ⊎-elim (λ q. q) (λ k. absurd k) h)
-
-  late : (k : ℕ) → 6 < k → k < 24 → (test : Op → Set → ℕ → Bool)
+  late : (k : ℕ) → 5 < k → k < 24 → (test : Op → Set → ℕ → Bool)
       → ((op : Op) (r : Set) (ea : ℕ) → eqb (numberOfAnswer (evaluateOf op s mem r ea .answer)) k ≡ test op r ea)
-      → (a : Reached) → (before a ≤ 6) ⊎ (before a ≡ 24) → (whole mem s a ≡ k) ↔ Met a test
+      → (a : Reached) → (before a ≤ 5) ⊎ (before a ≡ 24) → (whole mem s a ≡ k) ↔ Met a test
   late k l g test f (At i r ea) h = exact _ k (test (i .entry .op) r ea) (f (i .entry .op) r ea)
   late k l g test f (NotReached x) h = (λ q. absurd (⊎-elim (λ p. omega arith) (λ p. omega arith) h), λ q. absurd q)
 
-  no-other : (a : Reached) → (before a ≤ 6) ⊎ (before a ≡ 24) → (whole mem s a ≤ 9) ⊎ (whole mem s a ≡ 24)
+  no-other : (a : Reached) → (before a ≤ 5) ⊎ (before a ≡ 24) → (whole mem s a ≤ 9) ⊎ (whole mem s a ≡ 24)
   no-other (At i r ea) h = inl (most-number (i .entry .op) r ea)
   no-other (NotReached x) h = ⊎-elim (λ p. inl (omega arith)) (λ p. inr p) h
 
@@ -255,13 +233,9 @@ through e f = (λ q. f .0 (sym e ∙ q), λ a. e ∙ f .1 a)
 joined : {A B C : Type 0} → A ↔ B → B ↔ C → A ↔ C
 joined f g = (λ a. g .0 (f .0 a), λ c. f .1 (g .1 c))
 
-either : {A B C : Type 0} → A ↔ B → (A ⊎ C) ↔ (B ⊎ C)
-either f = (λ h. ⊎-elim (λ a. inl (f .0 a)) (λ c. inr c) h, λ h. ⊎-elim (λ b. inl (f .1 b)) (λ c. inr c) h)
-
-not-address : (k : ℕ) → T (not (eqb k 0 || (eqb k 4 || eqb k 6))) → OfAddress k → ⊥
+not-address : (k : ℕ) → T (not (eqb k 0 || eqb k 4)) → OfAddress k → ⊥
 not-address k t (inl e) = rw e at t
-not-address k t (inr (inl e)) = rw e at t
-not-address k t (inr (inr e)) = rw e at t
+not-address k t (inr e) = rw e at t
 
 pub steps-refused : StepsRefused
 steps-refused mem m s b l = record {
@@ -271,7 +245,6 @@ steps-refused mem m s b l = record {
   four = at 4 (below mem s 4 (omega arith) (omega arith)) (is-more mem m _ 4 (omega arith) (by-four mem r d (bytes-refused mem pc l)) c);
   five = at 5 (below mem s 5 (omega arith) (omega arith)) (is-more mem m _ 5 (omega arith) (by-decoding mem r PostByte (not-address 5 tt) d (post-byte-refused PostByte tt mem pc)) c);
   twentyFour = at 24 (above mem s 24 (omega arith)) (is-more mem m _ 24 (omega arith) (by-decoding mem r PostByte8F (not-address 24 tt) d (post-byte-refused PostByte8F tt mem pc)) c);
-  six = through e (joined (at-six mem s a) (either (is-more mem m _ 6 (omega arith) (by-six mem r d (decode-refuses mem pc)) c)));
   seven = through e (late mem s 7 (omega arith) (omega arith) (λ op q ea. codeRefused op mem ea) (λ op q ea. operation-number s mem q ea op .is7) a most);
   eight = through e (late mem s 8 (omega arith) (omega arith) (λ op q ea. isSmall op q (byteAt mem ea)) (λ op q ea. operation-number s mem q ea op .is8) a most);
   nine = through e (late mem s 9 (omega arith) (omega arith) (λ op q ea. leadsToZero op s mem q) (λ op q ea. operation-number s mem q ea op .is9) a most);
@@ -293,7 +266,7 @@ steps-refused mem m s b l = record {
     c : Case mem m (before (reached mem m))
     c = case mem m
 
-    most : (before (reached mem m) ≤ 6) ⊎ (before (reached mem m) ≡ 24)
+    most : (before (reached mem m) ≤ 5) ⊎ (before (reached mem m) ≡ 24)
     most = is-most mem m _ c
 
     e : numberOfAnswer (stepPlan mem m s .answer) ≡ whole mem s (reached mem m)

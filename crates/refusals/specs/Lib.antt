@@ -1,2 +1,3 @@
 pub mod Operations
+pub mod Addresses
 pub mod Steps

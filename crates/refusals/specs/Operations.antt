@@ -1,58 +1,27 @@
--- What the operation itself refuses once its address is found: 7, the operand's 6, 8 and 9. A table for each number; 8 has
+-- What the operation itself refuses once its address is found: 7, 8 and 9. A table for each number; 8 has
 -- evaluate/specs/Room.antt, isSmall. r are the registers with PC at the next instruction, ea is the effective address.
 -- Assumes nothing.
 use Prim.Native.Nat.{ℕ}
 use mathlib.Core.Bool.{Bool, true, false, not, _&&_}
-use mathlib.Core.List.{List, reverse}
+use mathlib.Core.List.{List}
 use lib.Dec.{eqb, ltb}
-use Rattle.registers.specs.ConditionCodes.{coded, flag}
-use Rattle.registers.specs.Names.{stackWord}
-use Rattle.registers.specs.RegisterSet.{wordOf}
-use Rattle.registers.specs.declared.CCBit.the-variants.{E}
 use Rattle.registers.specs.declared.Set.{Set}
-use Rattle.registers.specs.declared.Stack.{Stack}
-use Rattle.registers.specs.declared.Stack.the-variants.{S}
-use Rattle.memory.specs.Map.{byteAt, wordFits}
+use Rattle.memory.specs.Map.{byteAt, wordAt}
 use Rattle.memory.specs.Writes.{listed, stored}
 use Rattle.machine.specs.declared.Settings.{Settings}
 use Rattle.opcodes.specs.declared.MemoryOp.{MemoryOp}
 use Rattle.opcodes.specs.declared.MemoryOp.the-variants.{OnMemory, Store8, Store16, Bsr, Jsr, Rts, Rti, Swi, Cwai, Sync, Push, Pull}
 use Rattle.opcodes.specs.declared.Op.{Op}
 use Rattle.opcodes.specs.declared.Op.the-variants.{Registers, Memory}
-use Rattle.operations.specs.Refusals.{readsWord, namesTwo}
+use Rattle.operations.specs.Refusals.{namesTwo}
 use Rattle.operations.specs.Transfers.{transferable}
-use Rattle.stack.specs.Frames.{stackedBy, framed}
-use Rattle.stack.specs.Laws.{topMet}
-use Rattle.stack.specs.Pushing.{order, chosen}
-use Rattle.vectors.specs.Service.{vectorWord}
+use Rattle.stack.specs.Frames.{framed}
 use Rattle.vectors.specs.Table.{addressOf, softwareVector}
 
 -- 7: the post-byte of TFR or EXG, which stands at ea, names no two registers of one size
 abbrev pub codeRefused : Op → List ℕ → ℕ → Bool
 codeRefused (Registers op) mem ea = namesTwo op && not (transferable (byteAt mem ea))
 codeRefused (Memory op) mem ea = false
-
--- 6: a word would be read, written or pulled at FFFF. What a post-byte names is pulled from the pointer up
-abbrev pub pullsAtTop : Set → Stack → ℕ → Bool
-pullsAtTop r own post = topMet (wordOf r (stackWord own)) (chosen post (reverse (order own)))
-
-abbrev pub memoryAtTop : MemoryOp → List ℕ → Set → ℕ → Bool
-memoryAtTop (OnMemory op) mem r ea = false
-memoryAtTop (Store8 acc) mem r ea = false
-memoryAtTop (Store16 word) mem r ea = not (wordFits ea)
-memoryAtTop Bsr mem r ea = false
-memoryAtTop Jsr mem r ea = false
-memoryAtTop Rts mem r ea = not (wordFits (r .s))
-memoryAtTop Rti mem r ea = pullsAtTop r S (stackedBy (flag E (coded (byteAt mem (r .s)))))
-memoryAtTop (Swi which) mem r ea = false
-memoryAtTop Cwai mem r ea = false
-memoryAtTop Sync mem r ea = false
-memoryAtTop (Push own) mem r ea = false
-memoryAtTop (Pull own) mem r ea = pullsAtTop r own (byteAt mem ea)
-
-abbrev pub wordAtTop : Op → List ℕ → Set → ℕ → Bool
-wordAtTop (Registers op) mem r ea = readsWord op && not (wordFits ea)
-wordAtTop (Memory op) mem r ea = memoryAtTop op mem r ea
 
 -- memory once SWI, SWI2 or SWI3 has stacked all registers
 abbrev pub afterFrame : Settings → List ℕ → Set → List ℕ
@@ -69,7 +38,7 @@ memoryToZero Rts s mem r = false
 memoryToZero Rti s mem r = false
 memoryToZero (Swi which) s mem r =
     let after = afterFrame s mem r in
-    not (ltb (r .s) 12) && eqb (byteAt after (vectorWord after (addressOf (softwareVector which)))) 0
+    not (ltb (r .s) 12) && eqb (byteAt after (wordAt after (addressOf (softwareVector which)))) 0
 memoryToZero Cwai s mem r = false
 memoryToZero Sync s mem r = false
 memoryToZero (Push own) s mem r = false

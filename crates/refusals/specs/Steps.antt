@@ -20,10 +20,9 @@ use Rattle.decode.specs.Decode.{located, decodedAt}
 use Rattle.decode.specs.Laws.{Unnamed, PrefixAtTop, CutShort, Formless}
 use Rattle.decode.specs.declared.instruction.Decoded.{Decoded}
 use Rattle.decode.specs.declared.instruction.Decoded.the-variants.{Instruction, Refused as NotDecoded}
-use Rattle.addressing.specs.Laws.{PointerPast}
 use Rattle.evaluate.specs.Room.{isSmall}
 use Rattle.calls.specs.Steps.{Reached, At, NotReached, reached, stepOf}
-use Rattle.refusals.specs.Operations.{codeRefused, wordAtTop, leadsToZero}
+use Rattle.refusals.specs.Operations.{codeRefused, leadsToZero}
 
 -- a step is answered by the number n
 abbrev pub Answers : List ℕ → Machine → Settings → ℕ → Type 0
@@ -40,17 +39,12 @@ pub record Runs (mem : List ℕ) (m : Machine) : Type 0 where
 abbrev pub BytePast : List ℕ → ℕ → Type 0
 BytePast mem pc = PrefixAtTop mem pc ⊎ CutShort (located mem pc) mem
 
--- the next address: the instruction is whole, its pointer is there, and the address after it lies past FFFF
-abbrev pub NextPast : Decoded → Set → Type 0
-NextPast (Instruction i) r = (PointerPast (i .operand) r (i .next) → ⊥) × (0xFFFF < i .next)
-NextPast (NotDecoded x) r = ⊥
+-- the next address: the instruction is whole, and the address after it lies past FFFF
+abbrev pub NextPast : Decoded → Type 0
+NextPast (Instruction i) = 0xFFFF < i .next
+NextPast (NotDecoded x) = ⊥
 
--- ---- 6 to 9: the tables are in Operations.antt
-
--- the instruction is whole and indirect, and the address of its pointer is FFFF
-abbrev pub PointerAtTop : Decoded → Set → Type 0
-PointerAtTop (Instruction i) r = PointerPast (i .operand) r (i .next)
-PointerAtTop (NotDecoded x) r = ⊥
+-- ---- 7 to 9: the tables are in Operations.antt
 
 -- the operation is reached, none of the numbers above being given, and a table says yes of it, its registers and its effective address
 abbrev pub Met : Reached → (Op → Set → ℕ → Bool) → Type 0
@@ -67,14 +61,12 @@ pub record StepRefused (mem : List ℕ) (m : Machine) (s : Settings) : Type 0 wh
   -- 3: opcode not in the manual (Unnamed, in decode/specs/Laws.antt)
   pub three : Answers mem m s 3 ↔ (Runs mem m × Unnamed (located mem (m .regs .pc)))
   -- 4: a byte of the instruction, or the next address, lies past FFFF
-  pub four : Answers mem m s 4 ↔ (Runs mem m × (BytePast mem (m .regs .pc) ⊎ NextPast (decodedAt mem (m .regs .pc)) (m .regs)))
+  pub four : Answers mem m s 4 ↔ (Runs mem m × (BytePast mem (m .regs .pc) ⊎ NextPast (decodedAt mem (m .regs .pc))))
   -- 5: post-byte refused (Formless, in decode/specs/Laws.antt)
   pub five : Answers mem m s 5 ↔ (Runs mem m × Formless PostByte (located mem (m .regs .pc)) mem)
   -- 24, in 5's place: a post-byte of low form 8F that is not 9F
   pub twentyFour : Answers mem m s 24 ↔ (Runs mem m × Formless PostByte8F (located mem (m .regs .pc)) mem)
-  -- 6: word access at FFFF, program bytes apart. First the pointer, then the operand
-  pub six : Answers mem m s 6
-      ↔ ((Runs mem m × PointerAtTop (decodedAt mem (m .regs .pc)) (m .regs)) ⊎ Met (reached mem m) (λ op r ea. wordAtTop op mem r ea))
+  -- 6: withdrawn (SixWithdrawn, in answers/specs/Numbers.antt)
   -- 7: TFR/EXG code refused
   pub seven : Answers mem m s 7 ↔ Met (reached mem m) (λ op r ea. codeRefused op mem ea)
   -- 8: stack pointer smaller than the bytes to push (isSmall, in evaluate/specs/Room.antt)

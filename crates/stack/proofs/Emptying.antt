@@ -9,7 +9,6 @@ use native.Mathlib.Omega.{arith}
 use lib.ListN.{getD, drop}
 use lib.Seq.{drop-cons}
 use Rattle.u8oru16.specs.declared.u8u16.the-variants.{u8, u16}
-use Rattle.answers.specs.declared.Refusal.{Refusal}
 use Rattle.registers.specs.ConditionCodes.{bitAt}
 use Rattle.registers.specs.Names.{registerSize}
 use Rattle.registers.specs.RegisterSet.{written}
@@ -18,11 +17,9 @@ use Rattle.registers.specs.declared.Name.the-variants.{CC}
 use Rattle.registers.specs.declared.Set.{Set}
 use Rattle.registers.specs.declared.Stack.{Stack}
 use Rattle.memory.specs.Map.{byteAt, wordAt, valueAt}
-use Rattle.memory.specs.declared.WordRead.the-variants.{Word, Refused as NotRead}
 use Rattle.stack.specs.Pushing.{order, chosen}
-use Rattle.stack.specs.Pulling.{pulledInto, pulls}
+use Rattle.stack.specs.Pulling.{pulledTo, pulledInto, pulls}
 use Rattle.stack.specs.declared.pulling.Pulled.{Pulled}
-use Rattle.stack.specs.declared.pulling.Pulled.the-variants.{To, Refused}
 use Rattle.stack.proofs.Filling.{bit-of, word-of, byte-of}
 
 -- what is pulled at place k is what is pushed at place 7 - k
@@ -51,23 +48,13 @@ module _ (mem : List ℕ) (r : Set) (at : ℕ) (stack : Stack) (k : ℕ) where
   word-size : 3 < k → k < 8 → registerSize (nameAt stack k) ≡ 2
   word-size g h = rw (reversed stack k h) (word-of r stack (7 - k) (omega arith) .size)
 
-  byte-into : k < 4 → pulledInto mem (nameAt stack k) (To r at) ≡ To (written r (nameAt stack k) (u8 (byteAt mem at))) ((at + 1) % 65536)
+  byte-into : k < 4 → pulledInto mem (nameAt stack k) (pulledTo r at) ≡ pulledTo (written r (nameAt stack k) (u8 (byteAt mem at))) ((at + 1) % 65536)
   unfolding valueAt
-  byte-into g = rw (byte-size g, byte-size g)
+  byte-into g = rw (byte-size g)
 
-  word-into : (w : ℕ) → 3 < k → k < 8 → wordAt mem at ≡ Word w → pulledInto mem (nameAt stack k) (To r at) ≡ To (written r (nameAt stack k) (u16 w)) ((at + 2) % 65536)
+  word-into : 3 < k → k < 8 → pulledInto mem (nameAt stack k) (pulledTo r at) ≡ pulledTo (written r (nameAt stack k) (u16 (wordAt mem at))) ((at + 2) % 65536)
   unfolding valueAt
-  word-into w g h e = rw (word-size g h, e, word-size g h)
-
-  none-into : (x : Refusal) → 3 < k → k < 8 → wordAt mem at ≡ NotRead x → pulledInto mem (nameAt stack k) (To r at) ≡ Refused x
-  unfolding valueAt
-  none-into x g h e = rw (word-size g h, e)
-
--- after a refusal nothing more is pulled
-pub ended : (mem : List ℕ) (l : List Name) (x : Refusal) → pulls mem l (Refused x) ≡ Refused x
-unfolding pulls
-ended mem [] x = refl
-ended mem (n ∷ l) x = ended mem l x
+  word-into g h = rw (word-size g h)
 
 module _ (mem : List ℕ) (stack : Stack) (mask : ℕ) where
   -- the pull from bit k on
@@ -95,11 +82,8 @@ module _ (mem : List ℕ) (stack : Stack) (mask : ℕ) where
     turn-on b p = sym (one p ∙ rw b)
 
     module _ (r : Set) (at : ℕ) (b : bitAt k mask ≡ true) where
-      pub turn-byte : k < 4 → (v : ℕ) (q : Set) (to : ℕ) → v ≡ byteAt mem at → q ≡ written r (nameAt stack k) (u8 v) → to ≡ (at + 1) % 65536 → from (k + 1) (To q to) ≡ from k (To r at)
-      turn-byte g v q to ev eq et = rw (et, eq, ev) (ap (from (k + 1)) (sym (byte-into mem r at stack k g)) ∙ turn-on b (To r at))
+      pub turn-byte : k < 4 → (v : ℕ) (q : Set) (to : ℕ) → v ≡ byteAt mem at → q ≡ written r (nameAt stack k) (u8 v) → to ≡ (at + 1) % 65536 → from (k + 1) (pulledTo q to) ≡ from k (pulledTo r at)
+      turn-byte g v q to ev eq et = rw (et, eq, ev) (ap (from (k + 1)) (sym (byte-into mem r at stack k g)) ∙ turn-on b (pulledTo r at))
 
-      pub turn-word : 3 < k → (w : ℕ) (q : Set) (to : ℕ) → wordAt mem at ≡ Word w → q ≡ written r (nameAt stack k) (u16 w) → to ≡ (at + 2) % 65536 → from (k + 1) (To q to) ≡ from k (To r at)
-      turn-word g w q to ew eq et = rw (et, eq) (ap (from (k + 1)) (sym (word-into mem r at stack k w g h ew)) ∙ turn-on b (To r at))
-
-      pub turn-refused : 3 < k → (x : Refusal) → wordAt mem at ≡ NotRead x → Refused x ≡ from k (To r at)
-      turn-refused g x e = sym (ended mem _ x) ∙ (ap (from (k + 1)) (sym (none-into mem r at stack k x g h e)) ∙ turn-on b (To r at))
+      pub turn-word : 3 < k → (w : ℕ) (q : Set) (to : ℕ) → w ≡ wordAt mem at → q ≡ written r (nameAt stack k) (u16 w) → to ≡ (at + 2) % 65536 → from (k + 1) (pulledTo q to) ≡ from k (pulledTo r at)
+      turn-word g w q to ew eq et = rw (et, eq, ew) (ap (from (k + 1)) (sym (word-into mem r at stack k g h)) ∙ turn-on b (pulledTo r at))

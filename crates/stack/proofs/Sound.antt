@@ -24,14 +24,10 @@ use Rattle.registers.specs.declared.Stack.{Stack}
 use Rattle.registers.specs.declared.Stack.the-variants.{S}
 use Rattle.registers.proofs.Fits.{put-fits, read-fits, written-fits}
 use Rattle.memory.specs.Fits.{Bytes, AllFit}
-use Rattle.memory.specs.Map.{byteAt, wordAt, valueAt}
+use Rattle.memory.specs.Map.{byteAt, valueAt}
 use Rattle.memory.specs.Writes.{twelve, writesOf, valueWrites}
-use Rattle.memory.specs.declared.ValueRead.{ValueRead}
-use Rattle.memory.specs.declared.ValueRead.the-variants.{Value, Refused as NotRead}
-use Rattle.memory.specs.declared.WordRead.{WordRead}
-use Rattle.memory.specs.declared.WordRead.the-variants.{Word, Refused as NoWord}
 use Rattle.memory.specs.declared.writes.Write.{Write}
-use Rattle.memory.proofs.Fits.{byte-fits, WordIn, word-fits, word-writes-fit}
+use Rattle.memory.proofs.Fits.{byte-fits, word-fits, word-writes-fit}
 use Rattle.memory.proofs.Twelve.{Full}
 use Rattle.machine.specs.Effect.{stores}
 use Rattle.machine.specs.declared.Effect.{Effect}
@@ -40,14 +36,13 @@ use Rattle.machine.specs.declared.Wait.the-variants.{Running}
 use Rattle.operations.specs.Branches.{jumped}
 use Rattle.operations.specs.Codes.{withCodes}
 use Rattle.operations.specs.Sound.{Sound, Given}
-use Rattle.operations.proofs.Sound.{done-sound, changed-sound, stored-sound, refused-sound, either-sound}
+use Rattle.operations.proofs.Sound.{done-sound, stored-sound, refused-sound, either-sound}
 use Rattle.operations.proofs.Widths.{word-in, word-written, jumped-fits, codes-fits}
 use Rattle.stack.specs.Pushing.{order, chosen, registersNamed, bytesPushed, pushes, pushed, oncePushed, jumpedToSubroutine}
 use Rattle.stack.specs.Frames.{stackedBy, framed}
-use Rattle.stack.specs.Pulling.{pulledValue, pulledInto, pulls, ofPulled, pulled, returnedFromInterrupt}
+use Rattle.stack.specs.Pulling.{pulledTo, pulledInto, pulls, pulled, returnedFromInterrupt}
 use Rattle.stack.specs.Laws.{StackSound}
 use Rattle.stack.specs.declared.pulling.Pulled.{Pulled}
-use Rattle.stack.specs.declared.pulling.Pulled.the-variants.{To, Refused}
 use Rattle.stack.proofs.Laws.{none-dropped}
 
 -- ---- widths of writes
@@ -104,32 +99,21 @@ module _ {P : Type 0} (r : Set) (h : P → Fits r) where
 
 -- ---- pulls
 
-abbrev PulledFits : Pulled → Type 0
-PulledFits (To r pointer) = Fits r × (pointer < 65536)
-PulledFits (Refused x) = Unit {0}
-
--- a value that was read
-abbrev ValueIn : ValueRead → Type 0
-ValueIn (Value v) = InWidth v
-ValueIn (NotRead x) = Unit {0}
+record PulledFits (p : Pulled) : Type 0 where
+  registers : Fits (p .regs)
+  pointer : p .pointer < 65536
 
 module _ (mem : List ℕ) (bytes : Bytes mem) where
-  value-in : (at : ℕ) (wide : Bool) → ValueIn (valueAt mem at wide)
+  value-in : (at : ℕ) (wide : Bool) → InWidth (valueAt mem at wide)
   unfolding valueAt
   value-in at false = byte-fits mem bytes at
-  value-in at true = go (wordAt mem at) refl (word-fits mem bytes at)
-    where
-      go : (w : WordRead) → wordAt mem at ≡ w → WordIn w → ValueIn (valueAt mem at true)
-      go (Word w) e i = rw e i
-      go (NoWord x) e i = rw e tt
+  value-in at true = word-fits mem bytes at
 
   into-fits : (n : Name) (p : Pulled) → PulledFits p → PulledFits (pulledInto mem n p)
-  into-fits n (To r pointer) f = go (valueAt mem pointer (eqb (registerSize n) 2)) (value-in pointer (eqb (registerSize n) 2))
-    where
-      go : (v : ValueRead) → ValueIn v → PulledFits (pulledValue n r pointer v)
-      go (Value v) i = (written-fits r (f .0) n v i, mod-lt _ (lit< tt))
-      go (NotRead x) i = tt
-  into-fits n (Refused x) f = tt
+  into-fits n p f = record {
+    registers = written-fits (p .regs) (f .registers) n _ (value-in (p .pointer) (eqb (registerSize n) 2));
+    pointer = mod-lt _ (lit< tt);
+  }
 
   pulls-fit : (l : List Name) (p : Pulled) → PulledFits p → PulledFits (pulls mem l p)
   unfolding pulls
@@ -151,16 +135,13 @@ module _ (mem : List ℕ) (r : Set) (ea : ℕ) where
       (λ g. word-written r (g .registers) own (pointer - bytesPushed mask) (omega (arith, word-in r (g .registers) own)))
       (λ g. twelve-fit l (pushes-fit r (g .registers) system pointer (registersNamed stack mask) (word-in r (g .registers) own))))
 
-  pull-sound : (stack : Stack) (mask : ℕ) → Sound (Given mem r ea) r Running (pulled mem r stack mask)
+  pull-fits : (stack : Stack) (mask : ℕ) → Given mem r ea → Fits (pulled mem r stack mask)
   unfolding pulled
-  pull-sound stack mask =
+  pull-fits stack mask g =
       let own = stackWord stack in
-      let p = pulls mem (chosen mask (reverse (order stack))) (To r (wordOf r own)) in
-      go p (λ g. pulls-fit mem (g .bytes) (chosen mask (reverse (order stack))) (To r (wordOf r own)) (g .registers, word-in r (g .registers) own))
-    where
-      go : (p : Pulled) → (Given mem r ea → PulledFits p) → Sound (Given mem r ea) r Running (ofPulled r stack p)
-      go (To q pointer) f = changed-sound r (withWord q (stackWord stack) pointer) (λ g. word-written q (f g .0) (stackWord stack) pointer (f g .1))
-      go (Refused x) f = refused-sound r (λ g. g .registers) x
+      let start : PulledFits (pulledTo r (wordOf r own)) = record { registers = g .registers; pointer = word-in r (g .registers) own } in
+      let f = pulls-fit mem (g .bytes) (chosen mask (reverse (order stack))) (pulledTo r (wordOf r own)) start in
+      word-written _ (f .registers) own _ (f .pointer)
 
   jsr-sound : Sound (Given mem r ea) r Running (jumpedToSubroutine r ea)
   unfolding jumpedToSubroutine
@@ -179,6 +160,6 @@ stack-sound mem r ea = record {
       let q = withCodes r (put E entire (r .cc)) in
       handed-on r (λ g. g .registers) q _ (λ g. record { registers = codes-fits r (g .registers) (put E entire (r .cc)) (put-fits E entire (r .cc) (g .registers .cc)); bytes = g .bytes; address = g .address })
       (push-sound mem q ea S (stackedBy entire) true);
-  pull = pull-sound mem r ea;
-  rti = pull-sound mem r ea S (stackedBy (flag E (coded (byteAt mem (r .s)))));
+  pull = pull-fits mem r ea;
+  rti = pull-fits mem r ea S (stackedBy (flag E (coded (byteAt mem (r .s)))));
 }

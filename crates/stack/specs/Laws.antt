@@ -1,27 +1,24 @@
 -- What is known of every push and pull: what is refused, that no write is lost, that CC stays where it is not named, and that
 -- all fits its width.
 -- Assumes nothing.
-use Prim.Native.Nat.{ℕ, _+_, _%_, _≤_}
-use mathlib.Core.Bool.{Bool, false, not, cond, _&&_, _||_}
-use mathlib.Core.List.{List, [], _∷_, reverse}
+use Prim.Native.Nat.{ℕ, _≤_}
+use mathlib.Core.Bool.{Bool, false, cond}
+use mathlib.Core.List.{List}
 use mathlib.Core.Path.{_≡_}
-use lib.Dec.{eqb, ltb}
+use lib.Dec.{ltb}
 use lib.ListN.{length}
 use Rattle.answers.specs.Numbers.{numberOfAnswer}
-use Rattle.registers.specs.ConditionCodes.{bitAt, coded, flag}
-use Rattle.registers.specs.Names.{registerSize, stackWord}
+use Rattle.registers.specs.ConditionCodes.{bitAt}
+use Rattle.registers.specs.Fits.{Fits}
+use Rattle.registers.specs.Names.{stackWord}
 use Rattle.registers.specs.RegisterSet.{wordOf}
-use Rattle.registers.specs.declared.CCBit.the-variants.{E}
-use Rattle.registers.specs.declared.Name.{Name}
 use Rattle.registers.specs.declared.Set.{Set}
 use Rattle.registers.specs.declared.Stack.{Stack}
-use Rattle.registers.specs.declared.Stack.the-variants.{S}
-use Rattle.memory.specs.Map.{byteAt, wordFits}
-use Rattle.memory.specs.Writes.{writesOf, listed}
+use Rattle.memory.specs.Writes.{listed}
 use Rattle.machine.specs.declared.Wait.the-variants.{Running}
 use Rattle.operations.specs.Sound.{Sound, Given}
-use Rattle.stack.specs.Pushing.{order, chosen, registersNamed, bytesPushed, pushes, pushed, jumpedToSubroutine}
-use Rattle.stack.specs.Frames.{stackedBy, framed}
+use Rattle.stack.specs.Pushing.{registersNamed, bytesPushed, pushes, pushed, jumpedToSubroutine}
+use Rattle.stack.specs.Frames.{framed}
 use Rattle.stack.specs.Pulling.{pulled, returnedFromInterrupt}
 
 -- a push writes a byte for each that the post-byte counts, at most twelve; unless it is refused all of them are listed, from just below
@@ -33,36 +30,21 @@ pub record NoneDropped : Type 0 where
       → bytesPushed mask ≤ wordOf r (stackWord stack)
       → listed (pushed r stack mask system .writes) ≡ pushes r system (wordOf r (stackWord stack)) (registersNamed stack mask)
 
--- one of the registers is a word that would be pulled at FFFF
-unfoldable pub topMet : ℕ → List Name → Bool
-topMet pointer [] = false
-topMet pointer (name ∷ rest) = (eqb (registerSize name) 2 && not (wordFits pointer)) || topMet ((pointer + registerSize name) % 65536) rest
-
-abbrev topMetBy : Set → Stack → ℕ → Bool
-topMetBy r stack mask = topMet (wordOf r (stackWord stack)) (chosen mask (reverse (order stack)))
-
--- 8 exactly where the pointer is smaller than the bytes to push (a frame has 12 or 3), 6 exactly where a word would be pulled at FFFF
+-- 8 exactly where the pointer is smaller than the bytes to push (a frame has 12 or 3). A pull gives registers, and no refusal
 pub record StackRefusesExactly : Type 0 where
   pub push : (r : Set) (stack : Stack) (mask : ℕ) (system : Bool)
       → numberOfAnswer (pushed r stack mask system .answer) ≡ cond (ltb (wordOf r (stackWord stack)) (bytesPushed mask)) 8 0
   pub jsr : (r : Set) (ea : ℕ) → numberOfAnswer (jumpedToSubroutine r ea .answer) ≡ cond (ltb (r .s) 2) 8 0
   pub frame : (r : Set) (entire : Bool) → numberOfAnswer (framed r entire .answer) ≡ cond (ltb (r .s) (cond entire 12 3)) 8 0
-  pub pull : (mem : List ℕ) (r : Set) (stack : Stack) (mask : ℕ) → numberOfAnswer (pulled mem r stack mask .answer) ≡ cond (topMetBy r stack mask) 6 0
-  pub rti : (mem : List ℕ) (r : Set)
-      → numberOfAnswer (returnedFromInterrupt mem r .answer) ≡ cond (topMetBy r S (stackedBy (flag E (coded (byteAt mem (r .s)))))) 6 0
 
 -- a pull whose post-byte does not name CC, by bit 0, leaves CC
 abbrev pub PullKeepsCodes : Type 0
-PullKeepsCodes = (mem : List ℕ) (r : Set) (stack : Stack) (mask : ℕ) → bitAt 0 mask ≡ false → pulled mem r stack mask .regs .cc ≡ r .cc
+PullKeepsCodes = (mem : List ℕ) (r : Set) (stack : Stack) (mask : ℕ) → bitAt 0 mask ≡ false → pulled mem r stack mask .cc ≡ r .cc
 
--- no pull writes
-abbrev pub PullWritesNothing : Type 0
-PullWritesNothing = (mem : List ℕ) (r : Set) (stack : Stack) (mask : ℕ) → pulled mem r stack mask .writes ≡ writesOf []
-
--- each is sound: a refusal leaves the registers that came, and registers and writes fit where those that came do
+-- each is sound: a refusal leaves the registers that came, and registers and writes fit where those that came do. Of a pull the registers fit
 pub record StackSound (mem : List ℕ) (r : Set) (ea : ℕ) : Type 0 where
   pub push : (stack : Stack) (mask : ℕ) (system : Bool) → Sound (Given mem r ea) r Running (pushed r stack mask system)
   pub jsr : Sound (Given mem r ea) r Running (jumpedToSubroutine r ea)
   pub frame : (entire : Bool) → Sound (Given mem r ea) r Running (framed r entire)
-  pub pull : (stack : Stack) (mask : ℕ) → Sound (Given mem r ea) r Running (pulled mem r stack mask)
-  pub rti : Sound (Given mem r ea) r Running (returnedFromInterrupt mem r)
+  pub pull : (stack : Stack) (mask : ℕ) → Given mem r ea → Fits (pulled mem r stack mask)
+  pub rti : Given mem r ea → Fits (returnedFromInterrupt mem r)

@@ -7,20 +7,16 @@ ghost use Rattle.u8oru16.specs.declared.u8u16.the-variants.{u8, u16};
 ghost use Rattle.registers.specs.RegisterSet.{written};
 ghost use Rattle.registers.specs.declared.Name.the-variants.{CC};
 ghost use Rattle.stack.specs.Pushing.{order, chosen};
-ghost use Rattle.stack.specs.Pulling.{pulls, pulled, returnedFromInterrupt};
-ghost use Rattle.stack.specs.declared.pulling.Pulled.the-variants.{To};
+ghost use Rattle.stack.specs.Pulling.{pulledTo, pulls, pulled, returnedFromInterrupt};
 use super::bit;
-use answers::Refusal;
-use machine::Effect;
-use memory::WordRead;
 use registers::CCBits;
 use registers::Set;
 use registers::Stack;
 
-// The registers and the stack pointer so far, or the refusal that ended the pull.
-enum Pulled {
-    To(Set, u16),
-    Refused(Refusal),
+// The registers and the stack pointer so far.
+struct Pulled {
+    regs: Set,
+    pointer: u16,
 }
 
 // Bit 3, 2, 1 or 0 names a register of one byte, the same on either stack.
@@ -53,7 +49,7 @@ fn with_word(mut regs: Set, stack: Stack, k: u8, word: u16) -> Set
 
 // From CC up to PC: four bytes, then four words.
 fn pull_all(mem: &[u8], mut regs: Set, stack: Stack, pointer: u16, mask: u8) -> Pulled
-    ensures { λ r. ⌜ r ≡ pulls (now (mem .entry)) (chosen mask (reverse (order stack))) (To regs pointer) ⌝ }
+    ensures { λ r. ⌜ r ≡ pulls (now (mem .entry)) (chosen mask (reverse (order stack))) (pulledTo regs pointer) ⌝ }
 {
     let mut at = pointer;
     let mut k: u8 = 0;
@@ -66,31 +62,25 @@ fn pull_all(mem: &[u8], mut regs: Set, stack: Stack, pointer: u16, mask: u8) -> 
     }
     while k < 8 {
         if bit(mask, k) {
-            match memory::read_u16(mem, at) {
-                WordRead::Word(word) => {
-                    regs = with_word(regs, stack, k, word);
-                    at = std::num::wrapping_add_u16(at, 2);
-                }
-                WordRead::Refused(refusal) => return Pulled::Refused(refusal),
-            }
+            regs = with_word(regs, stack, k, memory::read_u16(mem, at));
+            at = std::num::wrapping_add_u16(at, 2);
         }
         k += 1;
     }
-    Pulled::To(regs, at)
+    Pulled { regs, pointer: at }
 }
 
-pub fn pull(mem: &[u8], regs: Set, stack: Stack, mask: u8) -> Effect
+// The registers alone change, and no pull is refused. The pointer in use is written last.
+pub fn pull(mem: &[u8], regs: Set, stack: Stack, mask: u8) -> Set
     ensures { λ r. ⌜ r ≡ pulled (now (mem .entry)) regs stack mask ⌝ }
 {
     let own = stack.word();
-    match pull_all(mem, regs, stack, regs.word(own), mask) {
-        Pulled::To(after, pointer) => Effect::changes(after.with_word(own, pointer)),
-        Pulled::Refused(refusal) => Effect::refuses(regs, refusal),
-    }
+    let pulled = pull_all(mem, regs, stack, regs.word(own), mask);
+    pulled.regs.with_word(own, pulled.pointer)
 }
 
 // RTI: E of the CC that is pulled says whether all registers follow, or PC alone.
-pub fn return_from_interrupt(mem: &[u8], regs: Set) -> Effect
+pub fn return_from_interrupt(mem: &[u8], regs: Set) -> Set
     ensures { λ r. ⌜ r ≡ returnedFromInterrupt (now (mem .entry)) regs ⌝ }
 {
     let entire = bit(memory::read_u8(mem, regs.s), 7);

@@ -1,4 +1,4 @@
--- 8 and 9 are given exactly where they should be, and 6 at no vector.
+-- 8 and 9 are given exactly where they should be, and no vector wraps.
 -- Assumes nothing.
 use Prim.Native.Nat.{ℕ}
 use mathlib.Core.Bool.{Bool, true, false, cond}
@@ -23,22 +23,22 @@ use Rattle.operations.specs.Codes.{andCodes, orCodes}
 use Rattle.stack.specs.Frames.{framed}
 use Rattle.stack.specs.Pushing.{oncePushed}
 use Rattle.stack.proofs.Laws.{once-number, stack-refuses-exactly}
-use Rattle.vectors.specs.Laws.{NoVectorAtTop, zeroNumber, VectorsRefuseExactly}
-use Rattle.vectors.specs.Service.{vectorWord, vectored, served}
+use Rattle.vectors.specs.Laws.{NoVectorWraps, zeroNumber, VectorsRefuseExactly}
+use Rattle.vectors.specs.Service.{vectored, served}
 use Rattle.vectors.specs.Table.{addressOf, masksOf, isEntire}
 use Rattle.vectors.specs.Waits.{waiting}
 use Rattle.vectors.specs.declared.table.Vector.{Vector}
 use Rattle.vectors.specs.declared.table.Vector.the-variants.{Swi3, Swi2, Firq, Irq, Swi, Nmi, Reset}
 
-pub no-vector-at-top : NoVectorAtTop
+pub no-vector-wraps : NoVectorWraps
 unfolding wordAt
-no-vector-at-top mem Swi3 = refl
-no-vector-at-top mem Swi2 = refl
-no-vector-at-top mem Firq = refl
-no-vector-at-top mem Irq = refl
-no-vector-at-top mem Swi = refl
-no-vector-at-top mem Nmi = refl
-no-vector-at-top mem Reset = refl
+no-vector-wraps mem Swi3 = refl
+no-vector-wraps mem Swi2 = refl
+no-vector-wraps mem Firq = refl
+no-vector-wraps mem Irq = refl
+no-vector-wraps mem Swi = refl
+no-vector-wraps mem Nmi = refl
+no-vector-wraps mem Reset = refl
 
 -- what is left once the frame is stacked
 zero : (r q : Set) (ws : Writes) (b : Bool) → numberOfAnswer (cond b (refuses r ZeroAtVector) (stores q ws) .answer) ≡ cond b 9 0
@@ -58,7 +58,7 @@ unfolding vectored
 running mem s r v =
     let frame = framed r (isEntire v) in
     let after = stored (s .«ram_top») (listed (frame .writes)) mem in
-    let pc = vectorWord after (addressOf v) in
+    let pc = wordAt after (addressOf v) in
     once r (frame .answer) _ (ltb (r .s) (cond (isEntire v) 12 3)) _ (stack-refuses-exactly .frame r (isEntire v))
     (zero r (jumped (orCodes (frame .regs) (masksOf v)) pc) (frame .writes) (eqb (byteAt after pc) 0))
 
@@ -66,7 +66,7 @@ pub vectors-refuse-exactly : VectorsRefuseExactly
 unfolding vectored waiting stored
 vectors-refuse-exactly = record {
   running = running;
-  inCwai = λ mem s r v. let pc = vectorWord mem (addressOf v) in zero r (jumped (orCodes r (masksOf v)) pc) (writesOf []) (eqb (byteAt mem pc) 0);
+  inCwai = λ mem s r v. let pc = wordAt mem (addressOf v) in zero r (jumped (orCodes r (masksOf v)) pc) (writesOf []) (eqb (byteAt mem pc) 0);
   cwai = λ r m. once-number r (framed (andCodes r m) true .answer) _ refl ∙ stack-refuses-exactly .frame (andCodes r m) true;
   sync = λ r. refl;
 }

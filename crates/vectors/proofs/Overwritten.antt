@@ -10,14 +10,14 @@ use lib.ListN.{length}
 use Rattle.registers.specs.ConditionCodes.{bitAt}
 use Rattle.registers.specs.declared.Set.{Set}
 use Rattle.answers.specs.declared.Answer.the-variants.{Done}
-use Rattle.memory.specs.Map.{placeOf, byteAt, landingOf}
+use Rattle.memory.specs.Map.{placeOf, byteAt, wordAt, landingOf}
 use Rattle.memory.specs.Writes.{twelve, listed, stored}
 use Rattle.memory.specs.declared.writes.Write.{Write}
 use Rattle.memory.proofs.Folds.{afterAll, read-stored}
 use Rattle.stack.specs.Frames.{framed}
 use Rattle.stack.specs.Pushing.{chosen, pushes, pushed}
 use Rattle.vectors.specs.Laws.{atVector, FrameOverVector}
-use Rattle.vectors.specs.Service.{vectorWord, vectored}
+use Rattle.vectors.specs.Service.{vectored}
 
 unfoldable frame : Set → List Write
 frame r = listed (framed (atVector r) true .writes)
@@ -37,8 +37,8 @@ module _ (top : ℕ) (r : Set) (b : ℕ) where
   low = simp clear
 
 -- the vector as it is after stacking
-vector : (top : ℕ) (r : Set) (mem : List ℕ) → length mem ≡ 65536 → vectorWord (stored top (frame r) mem) 0xFFF8 ≡ r .pc
-unfolding placeOf
+vector : (top : ℕ) (r : Set) (mem : List ℕ) → length mem ≡ 65536 → wordAt (stored top (frame r) mem) 0xFFF8 ≡ r .pc
+unfolding placeOf wordAt
 vector top r mem l =
     let e : 256 * (r .pc / 256) + r .pc % 256 ≡ r .pc = omega arith in
     rw (read-stored top (frame r) mem 0xFFF8, read-stored top (frame r) mem 0xFFF9, l, high top r (byteAt mem 0xFFF8), low top r (byteAt mem 0xFFF9), e)

@@ -1,18 +1,16 @@
 -- Interrupts that are served, and the waits, are sound.
 -- Assumes nothing.
-use Prim.Native.Nat.{ℕ, _+_, _<_}
+use Prim.Native.Nat.{ℕ, _<_}
 use mathlib.Core.Bool.{true}
 use mathlib.Core.List.{List}
 use mathlib.Core.Path.{refl}
-use native.Mathlib.Omega.{arith}
 use lib.Dec.{eqb, lit<}
 use Rattle.answers.specs.declared.Answer.the-variants.{Done}
 use Rattle.answers.specs.declared.Refusal.the-variants.{ZeroAtVector}
 use Rattle.registers.specs.declared.Set.{Set}
-use Rattle.memory.specs.Fits.{Bytes}
-use Rattle.memory.specs.Map.{byteAt}
+use Rattle.memory.specs.Map.{byteAt, wordAt}
 use Rattle.memory.specs.Writes.{listed, stored}
-use Rattle.memory.proofs.Fits.{byte-fits, none-fit, listed-fit, bytes-stored}
+use Rattle.memory.proofs.Fits.{byte-fits, word-fits, none-fit, listed-fit, bytes-stored}
 use Rattle.memory.proofs.Twelve.{none-full}
 use Rattle.machine.specs.Effect.{stores, refuses, changes}
 use Rattle.machine.specs.declared.Effect.{Effect}
@@ -27,7 +25,7 @@ use Rattle.operations.proofs.Widths.{jumped-fits, and-fits, or-fits}
 use Rattle.stack.specs.Frames.{framed}
 use Rattle.stack.proofs.Sound.{stack-sound, once-sound}
 use Rattle.vectors.specs.Laws.{VectorsSound}
-use Rattle.vectors.specs.Service.{vectorWord, vectored}
+use Rattle.vectors.specs.Service.{vectored}
 use Rattle.vectors.specs.Table.{addressOf, masksOf, isEntire}
 use Rattle.vectors.specs.Waits.{waiting, synchronized}
 use Rattle.vectors.specs.declared.table.Vector.{Vector}
@@ -42,20 +40,17 @@ masks-fit Swi = lit< tt
 masks-fit Nmi = lit< tt
 masks-fit Reset = lit< tt
 
-word-in : (mem : List ℕ) → Bytes mem → (at : ℕ) → vectorWord mem at < 65536
-word-in mem h at = omega (arith, byte-fits mem h at, byte-fits mem h (at + 1))
-
 module _ (mem : List ℕ) (s : Settings) (r : Set) (ea : ℕ) where
   pub vectored-sound : {w : Wait} (frame : Effect) (v : Vector) → Sound (Given mem r ea) r w frame → Sound (Given mem r ea) r Running (vectored mem s r frame v)
   unfolding vectored
   vectored-sound frame v f =
       let after = stored (s .«ram_top») (listed (frame .writes)) mem in
-      let pc = vectorWord after (addressOf v) in
+      let pc = wordAt after (addressOf v) in
       let q = orCodes (frame .regs) (masksOf v) in
       once-sound r (λ g. g .registers) (frame .answer) _
       (either-sound r (eqb (byteAt after pc) 0) (refuses r ZeroAtVector) (stores (jumped q pc) (frame .writes)) (refused-sound r (λ g. g .registers) ZeroAtVector)
       (stored-sound r (jumped q pc) (frame .writes) (record { places = f .few })
-      (λ g. jumped-fits q (or-fits (frame .regs) (f .registers g) (masksOf v) (masks-fit v)) pc (word-in after (bytes-stored (s .«ram_top») (listed (frame .writes)) mem (g .bytes) (listed-fit (frame .writes) (f .widths g))) (addressOf v)))
+      (λ g. jumped-fits q (or-fits (frame .regs) (f .registers g) (masksOf v) (masks-fit v)) pc (word-fits after (bytes-stored (s .«ram_top») (listed (frame .writes)) mem (g .bytes) (listed-fit (frame .writes) (f .widths g))) (addressOf v)))
       (f .widths)))
 
   cwai-sound : Sound (Given mem r ea) r Cwai (waiting r (byteAt mem ea))

@@ -10,7 +10,7 @@ pub of-software : Determines 0 Vector.of_software.Kinds.ps Vector.of_software.Ki
 of-software κs a x y ws vs p q = (p ∙ sym q, refl)
 
 pub address : Determines 0 Vector.address.Kinds.ps Vector.address.Kinds.r Vector.address.Reads.Post
-address κs a x y ws vs p q = (p .0 ∙ sym (q .0), refl)
+address κs a x y ws vs p q = (p ∙ sym q, refl)
 
 pub masks : Determines 0 Vector.masks.Kinds.ps Vector.masks.Kinds.r Vector.masks.Reads.Post
 masks κs a x y ws vs p q = (p ∙ sym q, refl)

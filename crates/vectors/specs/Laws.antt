@@ -1,6 +1,6 @@
 -- What is known of every interrupt that is served and of the waits: what is refused, and that all fits its width.
 -- Assumes nothing.
-use Prim.Native.Nat.{ℕ}
+use Prim.Native.Nat.{ℕ, _+_, _*_}
 use mathlib.Core.Bool.{true, cond}
 use mathlib.Core.List.{List}
 use mathlib.Core.Logic.{_≢_}
@@ -14,25 +14,24 @@ use Rattle.registers.specs.declared.Set.{Set}
 use Rattle.registers.specs.declared.Word.the-variants.{S}
 use Rattle.memory.specs.Map.{byteAt, wordAt}
 use Rattle.memory.specs.Writes.{listed, stored}
-use Rattle.memory.specs.declared.WordRead.the-variants.{Word}
 use Rattle.machine.specs.Effect.{changes}
 use Rattle.machine.specs.declared.Settings.{Settings}
 use Rattle.machine.specs.declared.Wait.the-variants.{Running, Cwai, Sync}
 use Rattle.operations.specs.Sound.{Sound, Given}
 use Rattle.stack.specs.Frames.{framed}
 use Rattle.vectors.specs.Table.{addressOf, isEntire}
-use Rattle.vectors.specs.Service.{vectorWord, vectored, served}
+use Rattle.vectors.specs.Service.{vectored, served}
 use Rattle.vectors.specs.Waits.{waiting, synchronized}
 use Rattle.vectors.specs.declared.table.Vector.{Vector}
 use Rattle.vectors.specs.declared.table.Vector.the-variants.{Irq}
 
--- no vector is a word at FFFF: the read of it is never refused (6)
-abbrev pub NoVectorAtTop : Type 0
-NoVectorAtTop = (mem : List ℕ) (v : Vector) → wordAt mem (addressOf v) ≡ Word (vectorWord mem (addressOf v))
+-- no vector is a word at FFFF: none wraps
+abbrev pub NoVectorWraps : Type 0
+NoVectorWraps = (mem : List ℕ) (v : Vector) → wordAt mem (addressOf v) ≡ 256 * byteAt mem (addressOf v) + byteAt mem (addressOf v + 1)
 
 -- 9 if the byte that a vector leads to is zero
 abbrev pub zeroNumber : List ℕ → Vector → ℕ
-zeroNumber mem v = cond (eqb (byteAt mem (vectorWord mem (addressOf v))) 0) 9 0
+zeroNumber mem v = cond (eqb (byteAt mem (wordAt mem (addressOf v))) 0) 9 0
 
 -- 8 exactly where S is smaller than the frame, of 12 bytes or of 3; then 9 exactly where the vector, after stacking, leads to a zero byte.
 -- In CWAI nothing is stacked, and S is not tested

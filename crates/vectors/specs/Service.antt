@@ -1,12 +1,12 @@
 -- How an interrupt is served (document 01, section "Interrupts, SWI, reset").
 -- Assumes nothing.
-use Prim.Native.Nat.{ℕ, _+_, _*_}
+use Prim.Native.Nat.{ℕ}
 use mathlib.Core.Bool.{cond}
 use mathlib.Core.List.{List}
 use lib.Dec.{eqb}
 use Rattle.answers.specs.declared.Refusal.the-variants.{ZeroAtVector}
 use Rattle.registers.specs.declared.Set.{Set}
-use Rattle.memory.specs.Map.{byteAt}
+use Rattle.memory.specs.Map.{byteAt, wordAt}
 use Rattle.memory.specs.Writes.{listed, stored}
 use Rattle.machine.specs.Effect.{stores, refuses}
 use Rattle.machine.specs.declared.Effect.{Effect}
@@ -19,16 +19,12 @@ use Rattle.stack.specs.Pushing.{oncePushed}
 use Rattle.vectors.specs.Table.{addressOf, masksOf, isEntire, softwareVector}
 use Rattle.vectors.specs.declared.table.Vector.{Vector}
 
--- a word that does not stand at FFFF, as no vector does: 6 cannot happen here
-abbrev pub vectorWord : List ℕ → ℕ → ℕ
-vectorWord mem at = 256 * byteAt mem at + byteAt mem (at + 1)
-
 -- after a frame: the masks are ORed into CC, and PC is the word at the vector. The vector and the byte that it leads to are read from
 -- memory as it is after stacking, and a zero byte refuses (9). A refusal leaves the registers r from before the frame
 unfoldable pub vectored : List ℕ → Settings → Set → Effect → Vector → Effect
 vectored mem s r frame v =
     let after = stored (s .«ram_top») (listed (frame .writes)) mem in
-    let pc = vectorWord after (addressOf v) in
+    let pc = wordAt after (addressOf v) in
     oncePushed r (frame .answer)
     (cond (eqb (byteAt after pc) 0) (refuses r ZeroAtVector)
     (stores (jumped (orCodes (frame .regs) (masksOf v)) pc) (frame .writes)))

@@ -1,27 +1,15 @@
 // An interrupt that is served: its frame is stacked, its masks are set, its vector is taken.
 ghost use mathlib.Core.Path.{_≡_};
-ghost use Rattle.memory.specs.Writes.{listed, stored};
-ghost use Rattle.vectors.specs.Table.{addressOf};
-ghost use Rattle.vectors.specs.Service.{vectorWord, vectored, served};
+ghost use Rattle.vectors.specs.Service.{vectored, served};
 use super::table::Vector;
 use answers::Answer;
 use answers::Refusal;
 use machine::Effect;
 use machine::Settings;
-use memory::Writes;
 use registers::Set;
 
-// The word at the vector, as it is once the writes are made.
-fn word_at(mem: &[u8], ram_top: u16, writes: Writes, vector: Vector) -> u16
-    ensures { λ r. ⌜ r ≡ vectorWord (stored «ram_top» (listed writes) (now (mem .entry))) (addressOf vector) ⌝ }
-{
-    let at = vector.address();
-    let high = memory::read_u8_after(mem, ram_top, writes, at);
-    let low = memory::read_u8_after(mem, ram_top, writes, at + 1);
-    256 * high as u16 + low as u16
-}
-
-// After a frame; with nothing stacked it is an interrupt in CWAI. A refusal hands back the registers from before the frame.
+// After a frame; with nothing stacked it is an interrupt in CWAI. The vector is read as it is once the frame is stored. A refusal hands back
+// the registers from before the frame.
 pub fn take_vector(
     mem: &[u8],
     settings: Settings,
@@ -38,7 +26,7 @@ pub fn take_vector(
     match answer {
         Answer::Refused(refusal) => Effect::refuses(before, refusal),
         Answer::Done => {
-            let pc = word_at(mem, ram_top, writes, vector);
+            let pc = memory::read_u16_after(mem, ram_top, writes, vector.address());
             if memory::read_u8_after(mem, ram_top, writes, pc) == 0 {
                 Effect::refuses(before, Refusal::ZeroAtVector)
             } else {

@@ -1,6 +1,5 @@
 // The vectors, in the order of their addresses.
 ghost use mathlib.Core.Path.{_≡_};
-ghost use Prim.Native.Nat.{_<_};
 ghost use Rattle.vectors.specs.Table.{addressOf, masksOf, isEntire, softwareVector};
 use opcodes::Software;
 
@@ -25,10 +24,8 @@ impl Vector {
         }
     }
 
-    // None stands at FFFF, so the word at it has both its bytes.
     pub fn address(self) -> u16
         ensures { λ r. ⌜ r ≡ addressOf self ⌝ }
-        ensures { λ r. ⌜ r < 0xFFFF ⌝ }
     {
         match self {
             Vector::Swi3 => 0xFFF2,

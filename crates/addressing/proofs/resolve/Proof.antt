@@ -9,6 +9,5 @@ pub resolve-spec : {M : Type 1} → statement M
 unfolding resolvedOf
 resolve-spec =
     tie.close
-    (tie.spec (search needs) (search needs) (search needs) (search needs)
-    (λ c. rw (c .advance .ensures, ← (c .before .before .before .before .effective .ensures), c .before .before .found .given .1))
-    (λ c. rw (← (c .before .before .before .effective .ensures), c .before .refusal .given .1)))
+    (tie.spec (search needs) (search needs)
+    (λ c. rw (c .advance .ensures, c .before .effective .ensures)))

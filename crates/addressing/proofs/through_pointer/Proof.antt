@@ -1,4 +1,4 @@
--- The word that is read, or its refusal.
+-- The word that is read.
 -- Assumes nothing.
 use borrow.Author.Needs.{needs}
 use Rattle.addressing.specs.Address.{throughPointer}
@@ -9,6 +9,5 @@ pub through-pointer-spec : {M : Type 1} → statement M
 unfolding throughPointer
 through-pointer-spec =
     tie.close
-    (tie.spec (search needs) (search needs) (search needs) (search needs)
-    (λ c. rw (c .at-address .ensures, ← (c .before .before .before .before .read-u16 .ensures), c .before .before .ea .given .1))
-    (λ c. rw (← (c .before .before .before .read-u16 .ensures), c .before .refusal .given .1)))
+    (tie.spec (search needs) (search needs)
+    (λ c. rw (c .at-address .ensures, c .before .read-u16 .ensures)))

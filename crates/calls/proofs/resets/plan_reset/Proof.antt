@@ -12,11 +12,16 @@ returns c = rw (c .refused .ensures, ne-eqb _ 65536 (c .before .if1 .taken))
 
 returns-2 : tie.Need-returns-2
 unfolding resetPlan
-returns-2 c = rw (c .accept .ensures, c .before .with-registers .ensures, c .before .before .jump .ensures, c .before .before .before .reset .ensures, eq-eqb _ 65536 (c .before .before .before .before .before .before .before .before .before .if1 .left), ← (c .before .before .before .before .before .before .before .before .address .ensures .0), ← (c .before .before .before .before .before .before .before .read-u16 .ensures), c .before .before .before .before .before .pc .given .1)
-
-returns-3 : tie.Need-returns-3
-unfolding resetPlan
-returns-3 c = rw (c .refused2 .ensures, eq-eqb _ 65536 (c .before .before .before .before .before .before .if1 .left), ← (c .before .before .before .before .before .address .ensures .0), ← (c .before .before .before .before .read-u16 .ensures), c .before .before .refusal .given .1)
+returns-2 c =
+    rw (
+      c .accept .ensures,
+      c .before .with-registers .ensures,
+      c .before .before .jump .ensures,
+      c .before .before .before .reset .ensures,
+      c .before .before .before .before .read-u16 .ensures,
+      c .before .before .before .before .before .address .ensures,
+      eq-eqb _ 65536 (c .before .before .before .before .before .before .if1 .left),
+    )
 
 pub plan-reset-spec : {M : Type 1} → statement M
-plan-reset-spec = tie.close (tie.spec (search needs) returns (search needs) (search needs) (search needs) (search needs) (search needs) (search needs) (search needs) (search needs) (search needs) returns-2 returns-3)
+plan-reset-spec = tie.close (tie.spec (search needs) returns (search needs) (search needs) (search needs) (search needs) (search needs) (search needs) returns-2)

@@ -7,13 +7,7 @@ use Rattle.memory.proofs.writes.read_u16_after.Tie as tie
 
 returns : tie.Need-returns
 unfolding wordAt
-returns c = rw (c .word-of .ensures, c .before .read-u8-after2 .ensures, c .before .before .wrapping-add-u16 .ensures, c .before .before .before .read-u8-after .ensures, ← (c .before .before .before .before .before .word-fits .ensures), c .before .before .before .before .if1 .taken)
-
-returns-2 : tie.Need-returns-2
-unfolding wordAt
-returns-2 c = rw (← (c .before .word-fits .ensures), c .if1 .left)
+returns c = rw (c .word-of .ensures, c .before .read-u8-after2 .ensures, c .before .before .wrapping-add-u16 .ensures, c .before .before .before .read-u8-after .ensures)
 
 pub read-u16-after-spec : {M : Type 1} → statement M
-read-u16-after-spec =
-    tie.close
-    (tie.spec (search needs) (search needs) (search needs) (search needs) (search needs) returns returns-2)
+read-u16-after-spec = tie.close (tie.spec (search needs) (search needs) (search needs) (search needs) returns)

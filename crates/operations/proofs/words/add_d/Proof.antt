@@ -1,4 +1,4 @@
--- D and the codes are those of ADDD; a word at FFFF refuses.
+-- D and the codes are those of ADDD.
 -- Assumes nothing.
 use borrow.Author.Needs.{needs}
 use Rattle.operations.specs.Words.{addD}
@@ -9,6 +9,5 @@ pub add-d-spec : {M : Type 1} → statement M
 unfolding addD
 add-d-spec =
     tie.close
-    (tie.spec (search needs) (search needs) (search needs) (search needs) (search needs) (search needs) (search needs)
-    (λ c. rw (c .with-word .ensures, c .before .with-codes .ensures, c .before .before .add-u16 .ensures, c .before .before .before .word .ensures, ← (c .before .before .before .before .before .before .before .read-u16 .ensures), c .before .before .before .before .before .m .given .1))
-    (λ c. rw (← (c .before .before .before .read-u16 .ensures), c .before .refusal .given .1)))
+    (tie.spec (search needs) (search needs) (search needs) (search needs) (search needs)
+    (λ c. rw (c .with-word .ensures, c .before .with-codes .ensures, c .before .before .add-u16 .ensures, c .before .before .before .word .ensures, c .before .before .before .before .read-u16 .ensures)))

@@ -1,4 +1,4 @@
--- The codes are those of SUBD; a word at FFFF refuses.
+-- The codes are those of SUBD.
 -- Assumes nothing.
 use borrow.Author.Needs.{needs}
 use Rattle.operations.specs.Words.{compare16}
@@ -9,6 +9,5 @@ pub compare16-spec : {M : Type 1} → statement M
 unfolding compare16
 compare16-spec =
     tie.close
-    (tie.spec (search needs) (search needs) (search needs) (search needs) (search needs) (search needs)
-    (λ c. rw (c .with-codes .ensures, c .before .cmp-u16 .ensures, c .before .before .word .ensures, ← (c .before .before .before .before .before .before .read-u16 .ensures), c .before .before .before .before .m .given .1))
-    (λ c. rw (← (c .before .before .before .read-u16 .ensures), c .before .refusal .given .1)))
+    (tie.spec (search needs) (search needs) (search needs) (search needs)
+    (λ c. rw (c .with-codes .ensures, c .before .cmp-u16 .ensures, c .before .before .word .ensures, c .before .before .before .read-u16 .ensures)))

@@ -1,4 +1,4 @@
--- The word that was read is tested and written; one at FFFF refuses.
+-- The word that was read is tested and written.
 -- Assumes nothing.
 use borrow.Author.Needs.{needs}
 use Rattle.operations.specs.Words.{load16}
@@ -9,6 +9,5 @@ pub load16-spec : {M : Type 1} → statement M
 unfolding load16
 load16-spec =
     tie.close
-    (tie.spec (search needs) (search needs) (search needs) (search needs) (search needs)
-    (λ c. rw (c .with-word .ensures, c .before .test16 .ensures, ← (c .before .before .before .before .before .read-u16 .ensures), c .before .before .before .m .given .1))
-    (λ c. rw (← (c .before .before .before .read-u16 .ensures), c .before .refusal .given .1)))
+    (tie.spec (search needs) (search needs) (search needs)
+    (λ c. rw (c .with-word .ensures, c .before .test16 .ensures, c .before .before .read-u16 .ensures)))

@@ -1,4 +1,4 @@
--- A word that fits is tested and written; one at FFFF refuses.
+-- The word is tested and written.
 -- Assumes nothing.
 use borrow.Author.Needs.{needs}
 use Rattle.operations.specs.Words.{store16}
@@ -9,6 +9,5 @@ pub store16-spec : {M : Type 1} → statement M
 unfolding store16
 store16-spec =
     tie.close
-    (tie.spec (search needs) (search needs) (search needs) (search needs) (search needs) (search needs) (search needs)
-    (λ c. rw (c .stores .ensures, c .before .add-word .ensures, c .before .before .none .ensures, c .before .before .before .test16 .ensures, c .before .before .before .before .word .ensures, ← (c .before .before .before .before .before .before .word-fits .ensures), c .before .before .before .before .before .if1 .taken))
-    (λ c. rw (c .refuses .ensures, ← (c .before .before .word-fits .ensures), c .before .if1 .left)))
+    (tie.spec (search needs) (search needs) (search needs) (search needs) (search needs)
+    (λ c. rw (c .stores .ensures, c .before .add-word .ensures, c .before .before .none .ensures, c .before .before .before .test16 .ensures, c .before .before .before .before .word .ensures)))

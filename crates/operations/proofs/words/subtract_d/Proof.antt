@@ -1,4 +1,4 @@
--- D and the codes are those of SUBD; a word at FFFF refuses.
+-- D and the codes are those of SUBD.
 -- Assumes nothing.
 use borrow.Author.Needs.{needs}
 use Rattle.operations.specs.Words.{subtractD}
@@ -9,6 +9,5 @@ pub subtract-d-spec : {M : Type 1} → statement M
 unfolding subtractD
 subtract-d-spec =
     tie.close
-    (tie.spec (search needs) (search needs) (search needs) (search needs) (search needs) (search needs) (search needs)
-    (λ c. rw (c .with-word .ensures, c .before .with-codes .ensures, c .before .before .sub-u16 .ensures, c .before .before .before .word .ensures, ← (c .before .before .before .before .before .before .before .read-u16 .ensures), c .before .before .before .before .before .m .given .1))
-    (λ c. rw (← (c .before .before .before .read-u16 .ensures), c .before .refusal .given .1)))
+    (tie.spec (search needs) (search needs) (search needs) (search needs) (search needs)
+    (λ c. rw (c .with-word .ensures, c .before .with-codes .ensures, c .before .before .sub-u16 .ensures, c .before .before .before .word .ensures, c .before .before .before .before .read-u16 .ensures)))

@@ -5,19 +5,19 @@ use Prim.Native.Nat.{_-_, _≤_}
 use mathlib.Core.Path.{_≡_, refl, sym, _∙_}
 use mathlib.Core.Logic.{⊎-elim}
 use native.Mathlib.Omega.{arith}
-use Rattle.stack.specs.declared.pulling.Pulled.the-variants.{To}
-use Rattle.stack.proofs.Emptying.{from, all-pulled, turn-off, turn-byte, turn-word, turn-refused}
+use Rattle.stack.specs.Pulling.{pulledTo}
+use Rattle.stack.proofs.Emptying.{from, all-pulled, turn-off, turn-byte, turn-word}
 use Rattle.stack.proofs.pulling.pull_all.Statement.{statement}
 use Rattle.stack.proofs.pulling.pull_all.Tie as tie
 
 abbrev Inv-loop : tie.InvT-loop
-Inv-loop mem regs₀ stack pointer mask at₀ k₀ regs at k = (k ≤ 4) × (from mem stack mask k (To regs at) ≡ from mem stack mask 0 (To regs₀ pointer))
+Inv-loop mem regs₀ stack pointer mask at₀ k₀ regs at k = (k ≤ 4) × (from mem stack mask k (pulledTo regs at) ≡ from mem stack mask 0 (pulledTo regs₀ pointer))
 
 abbrev μ-loop : tie.MeasureT-loop
 μ-loop mem regs₀ stack pointer mask at₀ k₀ regs at k = 4 - k
 
 abbrev Inv-loop2 : tie.InvT-loop2
-Inv-loop2 mem regs₀ stack pointer mask at₀ k₀ regs at k = ((4 ≤ k) × (k ≤ 8)) × (from mem stack mask k (To regs at) ≡ from mem stack mask 4 (To regs₀ at₀))
+Inv-loop2 mem regs₀ stack pointer mask at₀ k₀ regs at k = ((4 ≤ k) × (k ≤ 8)) × (from mem stack mask k (pulledTo regs at) ≡ from mem stack mask 4 (pulledTo regs₀ at₀))
 
 abbrev μ-loop2 : tie.MeasureT-loop2
 μ-loop2 mem regs₀ stack pointer mask at₀ k₀ regs at k = 8 - k
@@ -34,7 +34,7 @@ loop-again c =
       omega arith,
       ⊎-elim
           (λ w. turn-byte (a .mem .now) (a .stack) (a .mask) (l .k) (omega arith) (l .regs) (l .at) (sym b ∙ w .0 .taken) t (w .1 .result) (c .if1 .regs) (c .if1 .at) (w .1 .ensures) (w .4 ∙ w .2 .ensures) (w .5 ∙ w .3 .ensures))
-          (λ w. rw (w .1, w .2) (turn-off (a .mem .now) (a .stack) (a .mask) (l .k) (omega arith) (sym b ∙ w .0 .left) (To (l .regs) (l .at))))
+          (λ w. rw (w .1, w .2) (turn-off (a .mem .now) (a .stack) (a .mask) (l .k) (omega arith) (sym b ∙ w .0 .left) (pulledTo (l .regs) (l .at))))
           (c .if1 .came)
           ∙ l .inv .1,
     )
@@ -46,18 +46,6 @@ loop2-holds c =
     let z : l .k ≡ 4 = omega arith in
     ((omega arith, omega arith), rw z)
 
-returns : tie.Need-returns Inv-loop μ-loop Inv-loop2 μ-loop2
-returns c =
-    let i = c .before .before .before .before .before .before .before in
-    let l = i .loop2 in
-    let m = i .before .before .loop in
-    let a = i .before .before .before .before .args in
-    let t = c .before .before .before .before .before .before .loop2-test .taken in
-    let u = i .before .loop-test .left in
-    let z : m .k ≡ 4 = omega arith in
-    turn-refused (a .mem .now) (a .stack) (a .mask) (l .k) (omega arith) (l .regs) (l .at) (sym (c .before .before .before .before .before .bit2 .ensures) ∙ c .before .before .before .before .if2 .taken) (omega arith) _ (sym (c .before .before .before .read-u16 .ensures) ∙ c .before .refusal .given .1)
-    ∙ (l .inv .1 ∙ rw z at (m .inv .1))
-
 loop2-again : tie.Need-loop2-again Inv-loop μ-loop Inv-loop2 μ-loop2
 loop2-again c =
     let l = c .before .before .before .loop2 in
@@ -66,14 +54,14 @@ loop2-again c =
     let b = c .before .bit2 .ensures in (
       (omega arith, omega arith),
       ⊎-elim
-          (λ w. turn-word (a .mem .now) (a .stack) (a .mask) (l .k) (omega arith) (l .regs) (l .at) (sym b ∙ w .0 .taken) (omega arith) _ (c .if2 .regs) (c .if2 .at) (sym (w .1 .ensures) ∙ w .3 .given .1) (w .7 ∙ w .5 .ensures) (w .8 ∙ w .6 .ensures))
-          (λ w. rw (w .1, w .2) (turn-off (a .mem .now) (a .stack) (a .mask) (l .k) (omega arith) (sym b ∙ w .0 .left) (To (l .regs) (l .at))))
+          (λ w. turn-word (a .mem .now) (a .stack) (a .mask) (l .k) (omega arith) (l .regs) (l .at) (sym b ∙ w .0 .taken) (omega arith) (w .1 .result) (c .if2 .regs) (c .if2 .at) (w .1 .ensures) (w .4 ∙ w .2 .ensures) (w .5 ∙ w .3 .ensures))
+          (λ w. rw (w .1, w .2) (turn-off (a .mem .now) (a .stack) (a .mask) (l .k) (omega arith) (sym b ∙ w .0 .left) (pulledTo (l .regs) (l .at))))
           (c .if2 .came)
           ∙ l .inv .1,
     )
 
-returns-2 : tie.Need-returns-2 Inv-loop μ-loop Inv-loop2 μ-loop2
-returns-2 c =
+returns : tie.Need-returns Inv-loop μ-loop Inv-loop2 μ-loop2
+returns c =
     let l = c .before .loop2 in
     let m = c .before .before .before .loop in
     let a = c .before .before .before .before .before .args in
@@ -81,9 +69,9 @@ returns-2 c =
     let u = c .before .before .loop-test .left in
     let z : l .k ≡ 8 = omega arith in
     let y : m .k ≡ 4 = omega arith in
-    all-pulled (a .mem .now) (a .stack) (a .mask) (To (l .regs) (l .at)) ∙ (rw z at (l .inv .1) ∙ rw y at (m .inv .1))
+    all-pulled (a .mem .now) (a .stack) (a .mask) (pulledTo (l .regs) (l .at)) ∙ (rw z at (l .inv .1) ∙ rw y at (m .inv .1))
 
 pub pull-all-spec : {M : Type 1} → statement M
 pull-all-spec =
     tie.close
-    (tie.spec Inv-loop μ-loop Inv-loop2 μ-loop2 loop-holds (search needs) (search needs) (search needs) (search needs) (search needs) (search needs) loop-again loop2-holds (search needs) (search needs) (search needs) (search needs) (search needs) (search needs) returns (search needs) (search needs) loop2-again returns-2)
+    (tie.spec Inv-loop μ-loop Inv-loop2 μ-loop2 loop-holds (search needs) (search needs) (search needs) (search needs) (search needs) (search needs) loop-again loop2-holds (search needs) (search needs) (search needs) (search needs) (search needs) (search needs) loop2-again returns)

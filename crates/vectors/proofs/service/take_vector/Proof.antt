@@ -15,8 +15,9 @@ unfolding vectored
 returns-2 c =
     rw (
       c .refuses2 .ensures,
-      c .before .before .before .before .enum-told .given .1,
-      ← (c .before .before .before .word-at .ensures),
+      c .before .before .before .before .before .enum-told .given .1,
+      ← (c .before .before .before .before .address .ensures),
+      ← (c .before .before .before .read-u16-after .ensures),
       ← (c .before .before .read-u8-after .ensures),
       eq-eqb _ 0 (c .before .if1 .taken),
     )
@@ -29,11 +30,12 @@ returns-3 c =
       c .before .jump .ensures,
       c .before .before .or-codes .ensures,
       c .before .before .before .masks .ensures,
-      c .before .before .before .before .before .before .before .enum-told .given .1,
-      ← (c .before .before .before .before .before .before .word-at .ensures),
+      c .before .before .before .before .before .before .before .before .enum-told .given .1,
+      ← (c .before .before .before .before .before .before .before .address .ensures),
+      ← (c .before .before .before .before .before .before .read-u16-after .ensures),
       ← (c .before .before .before .before .before .read-u8-after .ensures),
       ne-eqb _ 0 (c .before .before .before .before .if1 .left),
     )
 
 pub take-vector-spec : {M : Type 1} → statement M
-take-vector-spec = tie.close (tie.spec (search needs) (search needs) (search needs) (search needs) (search needs) (search needs) (search needs) (search needs) (search needs) (search needs) returns returns-2 returns-3)
+take-vector-spec = tie.close (tie.spec (search needs) (search needs) (search needs) (search needs) (search needs) (search needs) (search needs) (search needs) (search needs) (search needs) (search needs) returns returns-2 returns-3)
