@@ -1,12 +1,10 @@
 -- The arms of the cycles' matches that several cases share: what each of their cases adds, by the tags that the arm takes.
 -- Assumes nothing.
-use Prim.Native.Nat.{ℕ, _≤_, _<_, _^_}
+use Prim.Native.Nat.{ℕ}
 use mathlib.Core.Path.{_≡_, refl, sym, ap, _∙_}
 use mathlib.Core.Bool.{Bool, true, false, cond}
 use mathlib.Core.List.{List, [], _∷_}
-use native.Mathlib.Nat.{lt-of-le-of-lt}
 use denote.Enum.Declared.{tagOf}
-use lib.Dec.{lit<}
 use mir.Val.{boolByte}
 use types.Run.{OneOf, miss}
 use Rattle.registers.specs.ConditionCodes.{coded, flag}
@@ -31,7 +29,6 @@ use Rattle.decode.specs.declared.operand.Operand.the-variants.{Inherent as Noth
 use Rattle.decode.proofs.operand.Operand as operands
 use Rattle.operations.specs.Branches.{condition}
 use Rattle.stack.specs.Pushing.{bytesPushed}
-use Rattle.stack.proofs.Laws.{none-dropped}
 use Rattle.calls.specs.Cycles.{operandExtra, branchExtra, registersExtra, returnExtra, memoryExtra}
 
 -- an operand without a post-byte
@@ -136,7 +133,3 @@ no-pull Cwai mem r ea h = refl
 no-pull Sync mem r ea h = refl
 no-pull (Push own) mem r ea h = absurd (miss (0 ∷ 1 ∷ 2 ∷ 3 ∷ 4 ∷ 5 ∷ 7 ∷ 8 ∷ 9 ∷ []) 10 tt h)
 no-pull (Pull own) mem r ea h = absurd (miss (0 ∷ 1 ∷ 2 ∷ 3 ∷ 4 ∷ 5 ∷ 7 ∷ 8 ∷ 9 ∷ []) 11 tt h)
-
--- at most twelve bytes are counted, so that their number is a byte
-pub counts-fit : (mask : ℕ) → bytesPushed mask < 2 ^ 8
-counts-fit mask = lt-of-le-of-lt (none-dropped .few mask) (lit< tt)

@@ -81,7 +81,7 @@ pub fn memory_extra(op: MemoryOp, mem: &[u8], regs: Set, ea: u16) -> u8
 {
     match op {
         MemoryOp::Rti => return_extra(mem, regs),
-        MemoryOp::Push(_) | MemoryOp::Pull(_) => stack::bytes_of(memory::read_u8(mem, ea)) as u8,
+        MemoryOp::Push(_) | MemoryOp::Pull(_) => stack::bytes_of(memory::read_u8(mem, ea)),
         _ => 0,
     }
 }

@@ -1,13 +1,9 @@
--- RTI, a push or a pull, or no extra. What a push counts is a byte.
+-- RTI, a push or a pull, or no extra.
 -- Assumes nothing.
 use borrow.Author.Needs.{needs}
-use Rattle.memory.specs.Map.{byteAt}
-use Rattle.calls.proofs.Arms.{stacks, no-pull, counts-fit}
+use Rattle.calls.proofs.Arms.{stacks, no-pull}
 use Rattle.calls.proofs.cycles.memory_extra.Statement.{statement}
 use Rattle.calls.proofs.cycles.memory_extra.Tie as tie
-
-cast-result : tie.Need-cast-result
-cast-result c = rw (c .bytes-of .ensures) (record { fits = counts-fit _ })
 
 returns : tie.Need-returns
 returns c = rw (c .return-extra .ensures, c .before .enum-told .given .1)
@@ -21,4 +17,4 @@ returns-3 : tie.Need-returns-3
 returns-3 c = let x = c .before .before .args in no-pull (x .op) (x .mem .now) (x .regs) (x .ea) (c .match .keys3)
 
 pub memory-extra-spec : {M : Type 1} → statement M
-memory-extra-spec = tie.close (tie.spec (search needs) (search needs) (search needs) (search needs) cast-result returns returns-2 returns-3)
+memory-extra-spec = tie.close (tie.spec (search needs) (search needs) (search needs) (search needs) returns returns-2 returns-3)
