@@ -7,7 +7,7 @@ use mathlib.Core.List.{List, [], _∷_}
 use native.Mathlib.Omega.{arith}
 use lib.Dec.{T, eqb, leb, leb→le, lit≤}
 use lib.ListN.{length}
-use Rattle.answers.specs.declared.Refusal.the-variants.{MemoryLength}
+use Rattle.answers.specs.declared.Refusal.the-variants.{MemoryLength, PastEnd}
 use Rattle.registers.specs.ConditionCodes.{coded, flag, bitAt}
 use Rattle.registers.specs.declared.CCBit.the-variants.{E}
 use Rattle.registers.specs.declared.CCBits.{CCBits}
@@ -35,7 +35,7 @@ use Rattle.opcodes.specs.declared.RegisterOp.{RegisterOp}
 use Rattle.opcodes.specs.declared.RegisterOp.the-variants.{Alu, OnAcc, TestAcc, TestMemory, Addd, Subd, Load16, Cmp16, Lea, Branch, Jmp, Nop, Daa, Sex, Mul, Abx, Andcc, Orcc, Exg, Tfr}
 use Rattle.opcodes.proofs.Rows.{alike}
 use Rattle.decode.specs.Decode.{decodedAt}
-use Rattle.decode.specs.Operand.{operandAt}
+use Rattle.decode.specs.Operand.{signedByte, operandNumber, operandAt}
 use Rattle.decode.specs.Origin.{OriginOf}
 use Rattle.decode.specs.PostByte.{isIndirect, formOf}
 use Rattle.decode.specs.declared.instruction.Decoded.{Decoded}
@@ -51,9 +51,10 @@ use Rattle.decode.proofs.Origin.{decode-origin}
 use Rattle.addressing.specs.Address.{resolvedOf}
 use Rattle.addressing.specs.declared.Resolved.{Resolved}
 use Rattle.addressing.specs.declared.Resolved.the-variants.{At as Addressed, Refused as NoAddress}
+use Rattle.operations.specs.Branches.{condition}
 use Rattle.stack.proofs.Laws.{none-dropped}
 use Rattle.calls.specs.Bills.{Bounded, StepBounded, byForm, postByteExtra, PostByteExtras}
-use Rattle.calls.specs.Cycles.{formExtra, operandExtra, branchExtra, registersExtra, memoryExtra, operationExtra, extraOf, cyclesOf}
+use Rattle.calls.specs.Cycles.{formExtra, operandExtra, isConditional, branchExtra, registersExtra, memoryExtra, operationExtra, extraOf, cyclesOf}
 use Rattle.calls.specs.Steps.{Reached, At, NotReached, addressed, ofDecoded, decodedTo, unlessWaiting, reached}
 
 -- ---- the most that an operand and an operation add
@@ -104,20 +105,20 @@ by-index (Read (ByOffset offset) next) = lit≤ tt
 by-index (NotRead x) = tt
 
 module _ (mem : List ℕ) (at : ℕ) where
-  tested : (mode : Mode) (t : Bool) (r : OperandRead) {x : OperandRead} → ReadSo mode r → ReadSo mode x → ReadSo mode (cond t r x)
-  tested mode true r h k = h
-  tested mode false r h k = k
+  tested : (mode : Mode) (t : Bool) (r : OperandRead) → ReadSo mode r → ReadSo mode (cond t r (NotRead PastEnd))
+  tested mode true r h = h
+  tested mode false r h = tt
 
   operand-most : (mode : Mode) → ReadSo mode (operandAt mode mem at)
   unfolding operandAt mostOf
   operand-most Inherent = lit≤ tt
-  operand-most Immediate8 = tested Immediate8 (leb (at + 1) 0x10000) _ (lit≤ tt) tt
-  operand-most Immediate16 = tested Immediate16 (leb (at + 2) 0x10000) _ (lit≤ tt) tt
-  operand-most Direct = tested Direct (leb (at + 1) 0x10000) _ (lit≤ tt) tt
-  operand-most Indexed = by-index _
-  operand-most Extended = tested Extended (leb (at + 2) 0x10000) _ (lit≤ tt) tt
-  operand-most Relative8 = tested Relative8 (leb (at + 1) 0x10000) _ (lit≤ tt) tt
-  operand-most Relative16 = tested Relative16 (leb (at + 2) 0x10000) _ (lit≤ tt) tt
+  operand-most Immediate8 = tested Immediate8 (leb (at + 1) 0x10000) (Read (ByValue at) (at + 1)) (lit≤ tt)
+  operand-most Immediate16 = tested Immediate16 (leb (at + 2) 0x10000) (Read (ByValue at) (at + 2)) (lit≤ tt)
+  operand-most Direct = tested Direct (leb (at + 1) 0x10000) (Read (InPage (operandNumber 1 mem at)) (at + 1)) (lit≤ tt)
+  operand-most Indexed = by-index (operandAt Indexed mem at)
+  operand-most Extended = tested Extended (leb (at + 2) 0x10000) (Read (AtAddress (operandNumber 2 mem at)) (at + 2)) (lit≤ tt)
+  operand-most Relative8 = tested Relative8 (leb (at + 1) 0x10000) (Read (ByOffset (signedByte (operandNumber 1 mem at))) (at + 1)) (lit≤ tt)
+  operand-most Relative16 = tested Relative16 (leb (at + 2) 0x10000) (Read (ByOffset (operandNumber 2 mem at)) (at + 2)) (lit≤ tt)
 
 mostBy : Op → ℕ
 mostBy (Registers op) = 1
@@ -135,7 +136,7 @@ mostBy (Memory (Push own)) = 12
 mostBy (Memory (Pull own)) = 12
 
 branch-most : (mode : Mode) (c : Cond) (codes : CCBits) → branchExtra mode c codes ≤ 1
-branch-most Relative16 c codes = either 1 1 0 (lit≤ tt) (lit≤ tt) _
+branch-most Relative16 c codes = either 1 1 0 (lit≤ tt) (lit≤ tt) (isConditional c && condition c codes)
 branch-most Relative8 c codes = lit≤ tt
 branch-most Inherent c codes = lit≤ tt
 branch-most Immediate8 c codes = lit≤ tt
@@ -210,7 +211,10 @@ both false b e = let z : _≡_ {A = ℕ} 0 1 = cc in absurd (omega arith)
 
 so : (p : Place) → small p ≡ true → PlaceSmall p
 unfolding small
-so (InManual e) t = let (h, k) = both _ _ t in record { extra = leb→le _ 12 h; whole = leb→le _ 20 k }
+so (InManual e) t =
+    let n = mostOf (e .mode) + mostBy (e .op) in
+    let (h, k) = both (leb n 12) (leb (e .cycles + n) 20) t in
+    record { extra = leb→le n 12 h; whole = leb→le (e .cycles + n) 20 k }
 so None t = tt
 
 each-small : (page : Page) (code : ℕ) → code < 256 → PlaceSmall (entryOf page code)
