@@ -7,7 +7,7 @@ use mathlib.Core.List.{List, [], _∷_}
 use denote.Enum.Declared.{tagOf}
 use mir.Val.{boolByte}
 use types.Run.{OneOf, miss}
-use Rattle.registers.specs.ConditionCodes.{coded, flag}
+use Rattle.registers.specs.ConditionCodes.{flag}
 use Rattle.registers.specs.declared.CCBit.the-variants.{E}
 use Rattle.registers.specs.declared.CCBits.{CCBits}
 use Rattle.registers.specs.declared.Set.{Set}
@@ -29,7 +29,7 @@ use Rattle.decode.specs.declared.operand.Operand.the-variants.{Inherent as Noth
 use Rattle.decode.proofs.operand.Operand as operands
 use Rattle.operations.specs.Branches.{condition}
 use Rattle.stack.specs.Pushing.{bytesPushed}
-use Rattle.calls.specs.Cycles.{operandExtra, branchExtra, registersExtra, returnExtra, memoryExtra}
+use Rattle.calls.specs.Cycles.{operandExtra, branchExtra, registersExtra, memoryExtra}
 
 -- an operand without a post-byte
 pub no-index : (o : Operand) → OneOf (0 ∷ 1 ∷ 2 ∷ 4 ∷ 5 ∷ []) (tagOf operands.the-type o) → 0 ≡ operandExtra o
@@ -100,9 +100,12 @@ no-branch Orcc m codes h = refl
 no-branch Exg m codes h = refl
 no-branch Tfr m codes h = refl
 
--- RTI, by the bit that was read
-pub by-e : (b : Bool) (mem : List ℕ) (r : Set) → b ≡ flag E (coded (byteAt mem (r .s))) → (v : Bool) → b ≡ v → cond v 9 0 ≡ returnExtra mem r
-by-e b mem r p v q = ap (λ (t : Bool). cond t 9 0) (sym q ∙ p)
+-- RTI, by E of the codes that were read
+abbrev pub nine : Bool → ℕ
+nine b = cond b 9 0
+
+pub by-e : (b : Bool) (codes : CCBits) → b ≡ flag E codes → (v : Bool) → b ≡ v → nine v ≡ nine (flag E codes)
+by-e b codes p v q = ap nine (sym q ∙ p)
 
 -- PSHS, PSHU, PULS, PULU
 pub stacks : (op : MemoryOp) (mem : List ℕ) (r : Set) (ea : ℕ) → OneOf (10 ∷ 11 ∷ []) (tagOf memory-ops.the-type op) → bytesPushed (byteAt mem ea) ≡ memoryExtra op mem r ea
