@@ -6,7 +6,7 @@ use Prim.Native.Nat.{ℕ}
 use mir.Val.{Val}
 use denote.Laws.{Is}
 use denote.Struct.Laws as LL
-use Rattle.journal.specs.Recorded.{Ended, LeavesTwin as Recorded}
+use Rattle.journal.specs.Recorded.{Ended, Leaves}
 use Rattle.journal.specs.declared.Outcome.{Outcome}
 use Rattle.journal.specs.declared.Twin.{Twin}
 use Rattle.journal.proofs.Twin as T
@@ -23,7 +23,7 @@ use Rattle.lent.proofs.Returned.Laws as S′
 abbrev pub parts : Outcome → Returned
 parts o = record { reported = record { devices = o .devices; answer = o .answer }; twin = o .twin }
 
-pub parted : (o : Outcome) (us vs : List ℕ) (e : Ended) → Recorded o us vs e → Returns (parts o) us vs e
+pub parted : (o : Outcome) (us vs : List ℕ) (e : Ended) → Leaves o us vs e → Returns (parts o) us vs e
 parted o us vs e p = record { result = ap parts (p .result); memory-is = p .memory-is; journal-is = p .journal-is }
 
 abbrev pub at-twin : Twin → Val
