@@ -282,6 +282,10 @@ COND = [
     lambda c: bool(c & fZ) or bool(c & fN) != bool(c & fV),
 ]
 
+# cycles beyond the table's, by the post-byte (document 02, [3]): its low digit, bit 7 set; plain, then indirect. A five-bit offset is 1
+EXTRA = {0x0: (2, None), 0x1: (3, 6), 0x2: (2, None), 0x3: (3, 6), 0x4: (0, 3), 0x5: (1, 4), 0x6: (1, 4), 0x8: (1, 4), 0x9: (4, 7),
+         0xB: (4, 7), 0xC: (1, 4), 0xD: (5, 8), 0xF: (None, 5)}
+
 CODES = {0: 'D', 1: X, 2: Y, 3: U, 4: S, 5: PC, 8: A, 9: B, 10: CC, 11: DP}
 
 
@@ -480,6 +484,7 @@ class Machine:
         ea = None
         imm = None
         pb = None
+        extra = 0
         if mode == INH:
             pass
         elif mode == IMM1 or mode == REL8 or mode == DIR:
@@ -511,6 +516,7 @@ class Machine:
                 if off & 0x10:
                     off -= 32
                 ea = (r[ir] + off) & 0xFFFF
+                extra = 1
             else:
                 low = pb & 0x0F
                 ind = pb & 0x10
@@ -552,6 +558,7 @@ class Machine:
                     ea = ((v if low == 9 else n if low == 13 else 0) + off) & 0xFFFF
                 if ind:
                     ea = self.rdw(ea)
+                extra = EXTRA[low][1 if ind else 0]
         if n > 0xFFFF:
             raise Refuse(4)
         r[PC] = n
@@ -613,6 +620,8 @@ class Machine:
         elif kind == 'bra':
             if COND[arg](cc):
                 r[PC] = ea
+                if mode == REL16 and arg:
+                    extra = 1
         elif kind == 'jsr':
             if r[S] < 2:
                 raise Refuse(8)
@@ -672,13 +681,17 @@ class Machine:
                         p -= 1
                         w.append((p, r[reg]))
             r[arg] = p
+            extra = cnt
         elif kind == 'pul':
             other = U if arg == S else S
             self.pull(r, arg, imm, other)
+            extra = bin(imm).count('1') + bin(imm & 0xF0).count('1')
         elif kind == 'rts':
             self.pull(r, S, 0x80, U)
         elif kind == 'rti':
             self.pull(r, S, 0x01, U)
+            if r[CC] & fE:
+                extra = 9
             self.pull(r, S, 0xFE if r[CC] & fE else 0x80, U)
         elif kind == 'abx':
             r[X] = (r[X] + r[B]) & 0xFFFF
@@ -710,7 +723,7 @@ class Machine:
         self.record(old, self.wait, self.cycles, self.instrs, stored)
         self.r = r
         self.wait = wait
-        self.cycles = (self.cycles + cyc) & M64
+        self.cycles = (self.cycles + cyc + extra) & M64
         self.instrs = (self.instrs + 1) & M64
         self.dev = dev
         st = self.stats

@@ -32,7 +32,8 @@ use Rattle.opcodes.specs.declared.Entry.{Entry}
 use Rattle.decode.specs.Decode.{decodedAt}
 use Rattle.decode.specs.Laws.{DecodedFits}
 use Rattle.decode.specs.declared.instruction.Decoded.{Decoded}
-use Rattle.decode.specs.declared.instruction.Decoded.the-variants.{Instruction, Refused as NotDecoded}
+use Rattle.decode.specs.declared.instruction.Decoded.the-variants.{Instruction as Taken, Refused as NotDecoded}
+use Rattle.decode.specs.declared.instruction.Instruction.{Instruction}
 use Rattle.decode.proofs.Laws.{decode-fits}
 use Rattle.addressing.specs.Address.{resolvedOf}
 use Rattle.addressing.specs.declared.Resolved.{Resolved}
@@ -50,16 +51,15 @@ use Rattle.evaluate.specs.Evaluate.{evaluateOf}
 use Rattle.evaluate.specs.Waits.{waitAfter}
 use Rattle.evaluate.proofs.Sound.{evaluated-sound}
 use Rattle.evaluate.proofs.Waits.{cwai-alone, sync-alone}
+use Rattle.calls.specs.Cycles.{extraOf, cyclesOf}
 use Rattle.calls.specs.Plans.{refusedWith, accepted, withRegisters, carriedOut, memoryWith, PlanFits, NothingChanged}
-use Rattle.calls.specs.Steps.{addressed, ofDecoded, decodedTo, unlessWaiting, reached, finishedAs, finished, planned, stepPlan}
+use Rattle.calls.specs.Steps.{Reached, At, NotReached, addressed, ofDecoded, decodedTo, unlessWaiting, reached, finishedAs, finished, planned, stepPlan}
 use Rattle.calls.specs.Interrupts.{vectorOf, isMasked, taken, afterMasked, ofEffect, interruptPlan}
 use Rattle.calls.specs.Resets.{resetTo, resetPlan}
 use Rattle.calls.specs.Calls.{Call, step, interrupt, reset, settingsIn, planOf, RefusedCall, FewWrites, CallFits}
 use Rattle.calls.specs.Moves.{Moved, MovedBy, StepMoves, Still, InterruptStill, ResetStill}
 use Rattle.calls.specs.declared.InterruptType.{InterruptType}
 use Rattle.calls.specs.declared.Plan.{Plan}
-use Rattle.calls.specs.declared.steps.Reached.{Reached}
-use Rattle.calls.specs.declared.steps.Reached.the-variants.{At, Refused as NotReached}
 
 -- what a call is given
 record Provided (mem : List ℕ) (m : Machine) : Type 0 where
@@ -96,24 +96,24 @@ weaker f t = record { few = t .few; waits = t .waits; refused = t .refused; regi
 -- ---- a step
 
 -- an operation that is carried out, by the entry e
-module _ {P : Type 0} (m : Machine) (h : P → MachineFits m) (e : Entry) (f : Effect) (r : Set) (s : Sound P r (waitAfter (e .op)) f) where
-  as-whole : (a : Answer) → (a ≡ Done → f .wait ≡ waitAfter (e .op)) → Whole P (Moved e m) m (finishedAs a m (e .cycles) f)
+module _ {P : Type 0} (m : Machine) (h : P → MachineFits m) (e : Entry) (cost : ℕ) (f : Effect) (r : Set) (s : Sound P r (waitAfter (e .op)) f) where
+  as-whole : (a : Answer) → (a ≡ Done → f .wait ≡ waitAfter (e .op)) → Whole P (Moved e cost m) m (finishedAs a m cost f)
   as-whole Done w = record {
     few = record { places = s .few };
     refused = λ x d. not-done (sym d);
-    fits = λ g. record { registers = s .registers g; cycles = mod-lt (m .cycles + e .cycles) (lit< tt); instructions = mod-lt (m .instructions + 1) (lit< tt) };
+    fits = λ g. record { registers = s .registers g; cycles = mod-lt (m .cycles + cost) (lit< tt); instructions = mod-lt (m .instructions + 1) (lit< tt) };
     widths = s .widths;
     moves = λ d. record { cycles = refl; instructions = refl; cwai = rw (w refl) (cwai-alone (e .op)); sync = rw (w refl) (sync-alone (e .op)) };
   }
   as-whole (Refused y) w = refused-whole m h y
 
-  finished-whole : Whole P (Moved e m) m (finished m (e .cycles) f)
+  finished-whole : Whole P (Moved e cost m) m (finished m cost f)
   unfolding finished
   finished-whole = as-whole (f .answer) (s .waits)
 
 -- what was reached fits
 abbrev pub ReachedFits : Reached → Type 0
-ReachedFits (At e r ea) = Fits r × (ea < 65536)
+ReachedFits (At i r ea) = Fits r × (ea < 65536)
 ReachedFits (NotReached x) = Unit {0}
 
 module _ (mem : List ℕ) (m : Machine) where
@@ -121,12 +121,12 @@ module _ (mem : List ℕ) (m : Machine) where
   unfolding reached decodedTo
   reached-fits b f = go (eqb (length mem) 65536)
     where
-      of-address : (e : Entry) (a : Resolved) → ResolvedFits a → ReachedFits (addressed e a)
-      of-address e (Addressed a) k = (k .registers, k .address)
-      of-address e (NoAddress x) k = tt
+      of-address : (i : Instruction) (a : Resolved) → ResolvedFits a → ReachedFits (addressed i a)
+      of-address i (Addressed a) k = (k .registers, k .address)
+      of-address i (NoAddress x) k = tt
 
       of-decoded : (d : Decoded) → DecodedFits (m .regs .pc) d → ReachedFits (ofDecoded mem (m .regs) d)
-      of-decoded (Instruction i) k = of-address (i .entry) (resolvedOf mem (m .regs) (i .operand) (i .next)) (resolve-fits mem b (m .regs) f (i .operand) (i .next) (k .operand))
+      of-decoded (Taken i) k = of-address i (resolvedOf mem (m .regs) (i .operand) (i .next)) (resolve-fits mem b (m .regs) f (i .operand) (i .next) (k .operand))
       of-decoded (NotDecoded x) k = tt
 
       waiting : (w : Wait) → ReachedFits (unlessWaiting w mem (m .regs))
@@ -138,13 +138,14 @@ module _ (mem : List ℕ) (m : Machine) where
       go true = waiting (m .wait)
       go false = tt
 
-  planned-whole : (s : Settings) (a : Reached) → (Provided mem m → ReachedFits a) → Whole (Provided mem m) (MovedBy a m) m (planned mem m s a)
-  planned-whole s (At e r ea) k =
-      finished-whole m (λ g. g .machine) e _ r
-      (weaker (λ g. record { registers = k g .0; bytes = g .bytes; address = k g .1 }) (evaluated-sound (e .op) s mem r ea))
+  planned-whole : (s : Settings) (a : Reached) → (Provided mem m → ReachedFits a) → Whole (Provided mem m) (MovedBy mem a m) m (planned mem m s a)
+  unfolding cyclesOf
+  planned-whole s (At i r ea) k =
+      finished-whole m (λ g. g .machine) (i .entry) (i .entry .cycles + extraOf i mem r ea) _ r
+      (weaker (λ g. record { registers = k g .0; bytes = g .bytes; address = k g .1 }) (evaluated-sound (i .entry .op) s mem r ea))
   planned-whole s (NotReached x) k = refused-whole m (λ g. g .machine) x
 
-  step-whole : (s : Settings) → Whole (Provided mem m) (MovedBy (reached mem m) m) m (stepPlan mem m s)
+  step-whole : (s : Settings) → Whole (Provided mem m) (MovedBy mem (reached mem m) m) m (stepPlan mem m s)
   unfolding stepPlan
   step-whole s = planned-whole s (reached mem m) (λ g. reached-fits (g .bytes) (g .machine .registers))
 

@@ -24,10 +24,9 @@ use Rattle.evaluate.specs.Parting.{InstructionParts, on-registers, on-memory}
 use Rattle.evaluate.proofs.Parting.{instructions-part}
 use Rattle.calls.specs.Parting.{PlansPart, PartsAt, StepsPart}
 use Rattle.calls.specs.Plans.{refusedWith}
-use Rattle.calls.specs.Steps.{reached, finishedAs, finished, planned, stepPlan}
+use Rattle.calls.specs.Cycles.{cyclesOf}
+use Rattle.calls.specs.Steps.{Reached, At, NotReached, reached, finishedAs, finished, planned, stepPlan}
 use Rattle.calls.specs.declared.Plan.{Plan}
-use Rattle.calls.specs.declared.steps.Reached.{Reached}
-use Rattle.calls.specs.declared.steps.Reached.the-variants.{At, Refused as NotReached}
 use Rattle.calls.proofs.Laws.{ReachedFits, reached-fits}
 
 same : {p q : Plan} {Case : Type 0} → p ≡ q → (Case → ⊥) → PlansPart p q Case
@@ -66,5 +65,5 @@ unfolding stepPlan
 steps-part mem m top l h = go (reached mem m) (reached-fits mem m l h)
   where
     go : (a : Reached) → ReachedFits a → PlansPart (planned mem m (settingsOf top Bought) a) (planned mem m (settingsOf top Manual) a) (PartsAt mem a)
-    go (At e r ea) k = finished-part m (e .cycles) _ _ (instructions-part (e .op) top mem r ea (k .0 .a) (k .0 .b) (byte-fits mem l ea)) (parts-done (e .op) top mem r ea)
+    go (At i r ea) k = finished-part m (cyclesOf i mem r ea) _ _ (instructions-part (i .entry .op) top mem r ea (k .0 .a) (k .0 .b) (byte-fits mem l ea)) (parts-done (i .entry .op) top mem r ea)
     go (NotReached x) k = same refl (λ c. c)

@@ -21,11 +21,11 @@ use Rattle.machine.specs.declared.Machine.{Machine}
 use Rattle.machine.specs.declared.Settings.{Settings}
 use Rattle.machine.specs.declared.Wait.{Wait}
 use Rattle.machine.specs.declared.Wait.the-variants.{Running, Cwai, Sync}
-use Rattle.opcodes.specs.declared.Entry.{Entry}
 use Rattle.decode.specs.Decode.{decodedAt}
 use Rattle.decode.specs.Laws.{OfDecoding, RefusedSo}
 use Rattle.decode.specs.declared.instruction.Decoded.{Decoded}
-use Rattle.decode.specs.declared.instruction.Decoded.the-variants.{Instruction, Refused as NotDecoded}
+use Rattle.decode.specs.declared.instruction.Decoded.the-variants.{Instruction as Taken, Refused as NotDecoded}
+use Rattle.decode.specs.declared.instruction.Instruction.{Instruction}
 use Rattle.decode.proofs.Laws.{decoding-number, decode-refuses}
 use Rattle.addressing.specs.Address.{resolvedOf}
 use Rattle.addressing.specs.declared.Resolved.{Resolved}
@@ -39,13 +39,12 @@ use Rattle.vectors.specs.Service.{served}
 use Rattle.vectors.specs.Table.{addressOf, isEntire}
 use Rattle.vectors.specs.declared.table.Vector.{Vector}
 use Rattle.vectors.proofs.Laws.{vectors-refuse-exactly}
+use Rattle.calls.specs.Cycles.{cyclesOf}
 use Rattle.calls.specs.Plans.{refusedWith, accepted, withRegisters}
-use Rattle.calls.specs.Steps.{addressed, ofDecoded, decodedTo, unlessWaiting, reached, finishedAs, finished, planned, stepPlan}
+use Rattle.calls.specs.Steps.{Reached, At, NotReached, addressed, ofDecoded, decodedTo, unlessWaiting, reached, finishedAs, finished, planned, stepPlan}
 use Rattle.calls.specs.Interrupts.{vectorOf, isMasked, taken, afterMasked, ofEffect, interruptPlan}
 use Rattle.calls.specs.Room.{smallAt, StepSmallExactly, smallFrame, smallInterrupt, InterruptSmallExactly}
 use Rattle.calls.specs.declared.InterruptType.{InterruptType}
-use Rattle.calls.specs.declared.steps.Reached.{Reached}
-use Rattle.calls.specs.declared.steps.Reached.the-variants.{At, Refused as NotReached}
 
 abbrev isEight : Answer → Bool
 isEight a = eqb (numberOfAnswer a) 8
@@ -59,19 +58,19 @@ of-decoding : (x : Refusal) → OfDecoding x → Other x
 of-decoding x t = ne-eqb (numberOf x) 8 (λ e. ⊎-elim (λ p. omega (arith, p .1)) (λ p. omega arith) (decoding-number x t))
 
 abbrev OtherReached : Reached → Type 0
-OtherReached (At e r ea) = Unit {0}
+OtherReached (At i r ea) = Unit {0}
 OtherReached (NotReached x) = Other x
 
 reached-other : (mem : List ℕ) (m : Machine) → OtherReached (reached mem m)
 unfolding reached decodedTo
 reached-other mem m = go (eqb (length mem) 65536)
   where
-    of-address : (e : Entry) (a : Resolved) → ((x : Refusal) → a ≡ NoAddress x → x ≡ PastEnd) → OtherReached (addressed e a)
-    of-address e (Addressed a) k = tt
-    of-address e (NoAddress x) k = rw (k x refl) refl
+    of-address : (i : Instruction) (a : Resolved) → ((x : Refusal) → a ≡ NoAddress x → x ≡ PastEnd) → OtherReached (addressed i a)
+    of-address i (Addressed a) k = tt
+    of-address i (NoAddress x) k = rw (k x refl) refl
 
     of-decoded : (d : Decoded) → RefusedSo d → OtherReached (ofDecoded mem (m .regs) d)
-    of-decoded (Instruction i) k = of-address (i .entry) (resolvedOf mem (m .regs) (i .operand) (i .next)) (resolve-refuses mem (m .regs) (i .operand) (i .next))
+    of-decoded (Taken i) k = of-address i (resolvedOf mem (m .regs) (i .operand) (i .next)) (resolve-refuses mem (m .regs) (i .operand) (i .next))
     of-decoded (NotDecoded x) k = of-decoding x k
 
     waiting : (w : Wait) → OtherReached (unlessWaiting w mem (m .regs))
@@ -98,7 +97,7 @@ unfolding stepPlan
 step-small-exactly mem m s = go (reached mem m) (reached-other mem m)
   where
     go : (a : Reached) → OtherReached a → isEight (planned mem m s a .answer) ≡ smallAt mem a
-    go (At e r ea) k = done m (e .cycles) (evaluateOf (e .op) s mem r ea) ∙ small-exactly (e .op) s mem r ea
+    go (At i r ea) k = done m (cyclesOf i mem r ea) (evaluateOf (i .entry .op) s mem r ea) ∙ small-exactly (i .entry .op) s mem r ea
     go (NotReached x) k = k
 
 -- ---- an interrupt

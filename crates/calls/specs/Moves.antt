@@ -11,27 +11,28 @@ use Rattle.machine.specs.declared.Wait.the-variants.{Cwai as InCwai, Sync as In
 use Rattle.opcodes.specs.declared.Entry.{Entry}
 use Rattle.opcodes.specs.declared.MemoryOp.the-variants.{Cwai, Sync}
 use Rattle.opcodes.specs.declared.Op.the-variants.{Memory}
-use Rattle.calls.specs.Steps.{reached, stepPlan}
+use Rattle.calls.specs.Cycles.{extraOf}
+use Rattle.calls.specs.Steps.{Reached, At, NotReached, reached, stepPlan}
 use Rattle.calls.specs.Interrupts.{interruptPlan}
 use Rattle.calls.specs.Resets.{resetPlan}
 use Rattle.calls.specs.declared.InterruptType.{InterruptType}
-use Rattle.calls.specs.declared.steps.Reached.{Reached}
-use Rattle.calls.specs.declared.steps.Reached.the-variants.{At, Refused}
 
--- machine n comes after machine m by the table's entry e: the counters wrap, and CWAI and SYNC alone begin a wait
-pub record Moved (e : Entry) (m n : Machine) : Type 0 where
-  pub cycles : n .cycles ≡ (m .cycles + e .cycles) % 2 ^ 64
+-- machine n comes after machine m by an instruction with the table's entry e that costs so many cycles: the counters wrap, and CWAI and
+-- SYNC alone begin a wait
+pub record Moved (e : Entry) (cost : ℕ) (m n : Machine) : Type 0 where
+  pub cycles : n .cycles ≡ (m .cycles + cost) % 2 ^ 64
   pub instructions : n .instructions ≡ (m .instructions + 1) % 2 ^ 64
   pub cwai : (n .wait ≡ InCwai) ↔ (e .op ≡ Memory Cwai)
   pub sync : (n .wait ≡ InSync) ↔ (e .op ≡ Memory Sync)
 
-abbrev pub MovedBy : Reached → Machine → Machine → Type 0
-MovedBy (At e r ea) m n = Moved e m n
-MovedBy (Refused x) m n = ⊥
+-- the base figure, and the extra of what was reached
+abbrev pub MovedBy : List ℕ → Reached → Machine → Machine → Type 0
+MovedBy mem (At i r ea) m n = Moved (i .entry) (i .entry .cycles + extraOf i mem r ea) m n
+MovedBy mem (NotReached x) m n = ⊥
 
--- an accepted step moves them by the entry of the instruction that it reached
+-- an accepted step moves them by the instruction that it reached
 abbrev pub StepMoves : Type 0
-StepMoves = (mem : List ℕ) (m : Machine) (s : Settings) → stepPlan mem m s .answer ≡ Done → MovedBy (reached mem m) m (stepPlan mem m s .machine)
+StepMoves = (mem : List ℕ) (m : Machine) (s : Settings) → stepPlan mem m s .answer ≡ Done → MovedBy mem (reached mem m) m (stepPlan mem m s .machine)
 
 -- neither counter moves
 pub record Still (m n : Machine) : Type 0 where

@@ -11,10 +11,8 @@ use Rattle.machine.specs.Machine.{settingsOf}
 use Rattle.machine.specs.declared.Machine.{Machine}
 use Rattle.operations.specs.Parting.{PartInV}
 use Rattle.evaluate.specs.Parting.{InstructionParts}
-use Rattle.calls.specs.Steps.{reached, stepPlan}
+use Rattle.calls.specs.Steps.{Reached, At, NotReached, reached, stepPlan}
 use Rattle.calls.specs.declared.Plan.{Plan}
-use Rattle.calls.specs.declared.steps.Reached.{Reached}
-use Rattle.calls.specs.declared.steps.Reached.the-variants.{At, Refused}
 
 -- two plans that write the same bytes, answer alike and leave the same machine but for V, which differs exactly in the case named
 pub record PlansPart (p q : Plan) (Case : Type 0) : Type 0 where
@@ -27,8 +25,8 @@ pub record PlansPart (p q : Plan) (Case : Type 0) : Type 0 where
 
 -- the case: an operation is reached that parts at its registers and the byte at its address
 abbrev pub PartsAt : List ℕ → Reached → Type 0
-PartsAt mem (At e r ea) = InstructionParts r (byteAt mem ea) (e .op)
-PartsAt mem (Refused x) = ⊥
+PartsAt mem (At i r ea) = InstructionParts r (byteAt mem ea) (i .entry .op)
+PartsAt mem (NotReached x) = ⊥
 
 -- the law: as bought on the left, by the manual on the right; memory and devices follow the writes
 abbrev pub StepsPart : Type 0

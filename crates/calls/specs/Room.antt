@@ -17,16 +17,14 @@ use Rattle.stack.specs.Frames.{stackedBy}
 use Rattle.stack.specs.Pushing.{bytesPushed}
 use Rattle.vectors.specs.Table.{isEntire}
 use Rattle.vectors.specs.declared.table.Vector.{Vector}
-use Rattle.calls.specs.Steps.{reached, stepPlan}
+use Rattle.calls.specs.Steps.{Reached, At, NotReached, reached, stepPlan}
 use Rattle.calls.specs.Interrupts.{vectorOf, isMasked, interruptPlan}
 use Rattle.calls.specs.declared.InterruptType.{InterruptType}
-use Rattle.calls.specs.declared.steps.Reached.{Reached}
-use Rattle.calls.specs.declared.steps.Reached.the-variants.{At, Refused}
 
 -- a step: where an operation is reached that pushes
 abbrev pub smallAt : List ℕ → Reached → Bool
-smallAt mem (At e r ea) = isSmall (e .op) r (byteAt mem ea)
-smallAt mem (Refused x) = false
+smallAt mem (At i r ea) = isSmall (i .entry .op) r (byteAt mem ea)
+smallAt mem (NotReached x) = false
 
 abbrev pub StepSmallExactly : Type 0
 StepSmallExactly = (mem : List ℕ) (m : Machine) (s : Settings) → eqb (numberOfAnswer (stepPlan mem m s .answer)) 8 ≡ smallAt mem (reached mem m)

@@ -7,6 +7,7 @@ use lib.Dec.{eqb}
 use lib.ListN.{length}
 use Rattle.answers.specs.declared.Answer.{Answer}
 use Rattle.answers.specs.declared.Answer.the-variants.{Done, Refused}
+use Rattle.answers.specs.declared.Refusal.{Refusal}
 use Rattle.answers.specs.declared.Refusal.the-variants.{MemoryLength, Waiting}
 use Rattle.registers.specs.declared.Set.{Set}
 use Rattle.machine.specs.declared.Effect.{Effect}
@@ -14,28 +15,32 @@ use Rattle.machine.specs.declared.Machine.{Machine}
 use Rattle.machine.specs.declared.Settings.{Settings}
 use Rattle.machine.specs.declared.Wait.{Wait}
 use Rattle.machine.specs.declared.Wait.the-variants.{Running, Cwai, Sync}
-use Rattle.opcodes.specs.declared.Entry.{Entry}
 use Rattle.decode.specs.Decode.{decodedAt}
 use Rattle.decode.specs.declared.instruction.Decoded.{Decoded}
-use Rattle.decode.specs.declared.instruction.Decoded.the-variants.{Instruction, Refused as NotDecoded}
+use Rattle.decode.specs.declared.instruction.Decoded.the-variants.{Instruction as Taken, Refused as NotDecoded}
+use Rattle.decode.specs.declared.instruction.Instruction.{Instruction}
 use Rattle.addressing.specs.Address.{resolvedOf}
 use Rattle.addressing.specs.declared.Resolved.{Resolved}
 use Rattle.addressing.specs.declared.Resolved.the-variants.{At as Addressed, Refused as NoAddress}
 use Rattle.evaluate.specs.Evaluate.{evaluateOf}
+use Rattle.calls.specs.Cycles.{cyclesOf}
 use Rattle.calls.specs.Plans.{refusedWith, carriedOut, memoryWith}
 use Rattle.calls.specs.declared.Plan.{Plan}
 use Rattle.calls.specs.declared.Report.{Report}
-use Rattle.calls.specs.declared.steps.Reached.{Reached}
-use Rattle.calls.specs.declared.steps.Reached.the-variants.{At, Refused as NotReached}
 
 -- ---- what stands before the operation
 
-abbrev pub addressed : Entry → Resolved → Reached
-addressed e (Addressed a) = At e (a .regs) (a .ea)
-addressed e (NoAddress x) = NotReached x
+-- the instruction, the registers with PC at the next one, and the address; or the refusal
+pub data Reached : Type 0 where
+  At : Instruction → Set → ℕ → Reached
+  NotReached : Refusal → Reached
+
+abbrev pub addressed : Instruction → Resolved → Reached
+addressed i (Addressed a) = At i (a .regs) (a .ea)
+addressed i (NoAddress x) = NotReached x
 
 abbrev pub ofDecoded : List ℕ → Set → Decoded → Reached
-ofDecoded mem r (Instruction i) = addressed (i .entry) (resolvedOf mem r (i .operand) (i .next))
+ofDecoded mem r (Taken i) = addressed i (resolvedOf mem r (i .operand) (i .next))
 ofDecoded mem r (NotDecoded x) = NotReached x
 
 -- 4, 3, 4, 5 or 24, 4 by decoding, then 4 by the next address
@@ -53,7 +58,7 @@ reached mem m = cond (eqb (length mem) 65536) (unlessWaiting (m .wait) mem (m .r
 
 -- ---- the operation
 
--- an instruction that is carried out: instructions and 1, cycles and the table's figure, both wrapping
+-- an instruction that is carried out: instructions and 1, cycles and what the step costs, both wrapping
 abbrev pub afterInstruction : Machine → ℕ → Set → Wait → Machine
 afterInstruction m cycles r w =
     record { cycles = (m .cycles + cycles) % 2 ^ 64; instructions = (m .instructions + 1) % 2 ^ 64; regs = r; wait = w }
@@ -65,11 +70,11 @@ finishedAs (Refused x) m cycles e = refusedWith m x
 unfoldable pub finished : Machine → ℕ → Effect → Plan
 finished m cycles e = finishedAs (e .answer) m cycles e
 
-abbrev pub operated : List ℕ → Machine → Settings → Entry → Set → ℕ → Plan
-operated mem m s e r ea = finished m (e .cycles) (evaluateOf (e .op) s mem r ea)
+abbrev pub operated : List ℕ → Machine → Settings → Instruction → Set → ℕ → Plan
+operated mem m s i r ea = finished m (cyclesOf i mem r ea) (evaluateOf (i .entry .op) s mem r ea)
 
 abbrev pub planned : List ℕ → Machine → Settings → Reached → Plan
-planned mem m s (At e r ea) = operated mem m s e r ea
+planned mem m s (At i r ea) = operated mem m s i r ea
 planned mem m s (NotReached x) = refusedWith m x
 
 unfoldable pub stepPlan : List ℕ → Machine → Settings → Plan

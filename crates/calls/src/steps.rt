@@ -1,15 +1,24 @@
 // One step: decode the instruction, find its address, evaluate it, store its writes.
 ghost use mathlib.Core.Path.{_≡_};
 ghost use Rattle.machine.specs.Effect.{changes};
-ghost use Rattle.calls.specs.Steps.{afterInstruction, finished, decodedTo, operated, planned, stepPlan, stepOf, memoryAfterStep};
+ghost use Prim.Native.Nat.{_+_};
+ghost use Rattle.decode.specs.declared.instruction.Decoded.the-variants.{Instruction as Decodes};
+ghost use Rattle.evaluate.specs.Evaluate.{evaluateOf};
+ghost use Rattle.calls.specs.Cycles.{operationExtra};
+ghost use Rattle.calls.specs.Steps.{afterInstruction, finished, ofDecoded, decodedTo, planned, stepPlan, stepOf, memoryAfterStep};
 use super::Plan;
 use super::Report;
+use super::cycles::cost;
+use super::cycles::memory_extra;
+use super::cycles::operand_extra;
+use super::cycles::registers_extra;
 use super::plans::carry_out;
 use super::plans::refused;
 use addressing::Resolved;
 use answers::Answer;
 use answers::Refusal;
 use decode::Decoded;
+use decode::Instruction;
 use machine::Effect;
 use machine::Machine;
 use machine::Settings;
@@ -20,14 +29,8 @@ use opcodes::Op;
 use operations::Changed;
 use registers::Set;
 
-// What stands before the operation: its entry, the registers with PC at the next instruction, and the address; or the refusal.
-pub enum Reached {
-    At(Entry, Set, u16),
-    Refused(Refusal),
-}
-
-// An instruction that is carried out counts once, and its base cycles are added.
-fn advance(machine: Machine, cycles: u8, regs: Set, wait: Wait) -> Machine
+// An instruction that is carried out counts once, and its cycles are added.
+fn advance(machine: Machine, cycles: u16, regs: Set, wait: Wait) -> Machine
     ensures { λ r. ⌜ r ≡ afterInstruction machine cycles regs wait ⌝ }
 {
     Machine {
@@ -39,7 +42,7 @@ fn advance(machine: Machine, cycles: u8, regs: Set, wait: Wait) -> Machine
 }
 
 // An instruction that changes registers alone: no list of writes is carried along for it.
-fn change(machine: Machine, cycles: u8, regs: Set) -> Plan
+fn change(machine: Machine, cycles: u16, regs: Set) -> Plan
     ensures { λ r. ⌜ r ≡ finished machine cycles (changes regs) ⌝ }
 {
     Plan {
@@ -49,7 +52,7 @@ fn change(machine: Machine, cycles: u8, regs: Set) -> Plan
     }
 }
 
-fn finish(machine: Machine, cycles: u8, effect: Effect) -> Plan
+fn finish(machine: Machine, cycles: u16, effect: Effect) -> Plan
     ensures { λ r. ⌜ r ≡ finished machine cycles effect ⌝ }
 {
     let answer = effect.answer;
@@ -66,45 +69,48 @@ fn finish(machine: Machine, cycles: u8, effect: Effect) -> Plan
     }
 }
 
-fn reach(mem: &[u8], regs: Set) -> Reached
-    ensures { λ r. ⌜ r ≡ decodedTo (now (mem .entry)) regs ⌝ }
-{
-    match decode::decode(mem, regs.pc) {
-        Decoded::Refused(refusal) => Reached::Refused(refusal),
-        Decoded::Instruction(instruction) => {
-            let entry = instruction.entry;
-            let operand = instruction.operand;
-            match addressing::resolve(mem, regs, operand, instruction.next) {
-                Resolved::Refused(refusal) => Reached::Refused(refusal),
-                Resolved::At(found) => {
-                    let after = found.regs;
-                    Reached::At(entry, after, found.ea)
-                }
-            }
-        }
-    }
-}
-
+// The operation. `extra` is the operand's, known before the address is found.
 fn operate(
     mem: &[u8],
     machine: Machine,
     settings: Settings,
     entry: Entry,
+    extra: u8,
     regs: Set,
     ea: u16,
 ) -> Plan
-    ensures { λ r. ⌜ r ≡ operated (now (mem .entry)) machine settings entry regs ea ⌝ }
+    ensures { λ r. ⌜ r ≡ finished machine (entry .cycles + (extra + operationExtra (entry .op) (entry .mode) (now (mem .entry)) regs ea)) (evaluateOf (entry .op) settings (now (mem .entry)) regs ea) ⌝ }
 {
     let op = entry.op;
+    let mode = entry.mode;
     let flags = settings.flags;
     match op {
-        Op::Registers(on) => match operations::change(on, flags, mem, regs, ea) {
-            Changed::After(after) => change(machine, entry.cycles, after),
-            Changed::Refused(refusal) => refused(machine, refusal),
-        },
+        Op::Registers(on) => {
+            let cycles = cost(entry.cycles, extra, registers_extra(on, mode, regs.cc));
+            match operations::change(on, flags, mem, regs, ea) {
+                Changed::After(after) => change(machine, cycles, after),
+                Changed::Refused(refusal) => refused(machine, refusal),
+            }
+        }
         Op::Memory(on) => {
+            let cycles = cost(entry.cycles, extra, memory_extra(on, mem, regs, ea));
             let effect = evaluate::evaluate_memory(on, settings, mem, regs, ea);
-            finish(machine, entry.cycles, effect)
+            finish(machine, cycles, effect)
+        }
+    }
+}
+
+fn execute(mem: &[u8], machine: Machine, settings: Settings, instruction: Instruction) -> Plan
+    ensures { λ r. ⌜ r ≡ planned (now (mem .entry)) machine settings (ofDecoded (now (mem .entry)) (machine .regs) (Decodes instruction)) ⌝ }
+{
+    let entry = instruction.entry;
+    let operand = instruction.operand;
+    let extra = operand_extra(operand);
+    match addressing::resolve(mem, machine.regs, operand, instruction.next) {
+        Resolved::Refused(refusal) => refused(machine, refusal),
+        Resolved::At(found) => {
+            let after = found.regs;
+            operate(mem, machine, settings, entry, extra, after, found.ea)
         }
     }
 }
@@ -114,9 +120,9 @@ fn run(mem: &[u8], machine: Machine, settings: Settings) -> Plan
     ensures { λ r. ⌜ r ≡ planned (now (mem .entry)) machine settings (decodedTo (now (mem .entry)) (machine .regs)) ⌝ }
 {
     let regs = machine.regs;
-    match reach(mem, regs) {
-        Reached::Refused(refusal) => refused(machine, refusal),
-        Reached::At(entry, after, ea) => operate(mem, machine, settings, entry, after, ea),
+    match decode::decode(mem, regs.pc) {
+        Decoded::Refused(refusal) => refused(machine, refusal),
+        Decoded::Instruction(instruction) => execute(mem, machine, settings, instruction),
     }
 }
 

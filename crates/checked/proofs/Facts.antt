@@ -2,7 +2,7 @@
 -- Assumes nothing.
 use Prim.Native.Nat.{ℕ, _+_, _%_, _^_}
 use mathlib.Core.Path.{_≡_, refl, ap, _∙_}
-use mathlib.Core.List.{append-nil}
+use mathlib.Core.List.{List, append-nil}
 use native.Mathlib.Omega.{arith}
 use borrow.Author.Tests.{le-ltb}
 use Rattle.answers.specs.Numbers.{numberOfAnswer}
@@ -14,9 +14,7 @@ use Rattle.stack.specs.Pushing.{chosen, pushes, pushed}
 use Rattle.calls.specs.Plans.{withRegisters}
 use Rattle.calls.specs.Interrupts.{afterMasked}
 use Rattle.calls.specs.Moves.{MovedBy}
-use Rattle.calls.specs.Steps.{reached, stepPlan}
-use Rattle.calls.specs.declared.steps.Reached.{Reached}
-use Rattle.calls.specs.declared.steps.Reached.the-variants.{At, Refused as NotReached}
+use Rattle.calls.specs.Steps.{Reached, At, NotReached, reached, stepPlan}
 use Rattle.calls.specs.declared.Plan.{Plan}
 use Rattle.calls.specs.declared.InterruptType.the-variants.{Nmi}
 use Rattle.calls.proofs.Accepted.{waits-refused, masked-stays, reset-accepted}
@@ -27,9 +25,9 @@ use Rattle.runfile.specs.Format.{operationAt}
 use Rattle.player.specs.Boots.{stepLines, runLines, bootLines}
 use Rattle.checked.specs.Facts.{Facts}
 
-one-more : (x : Reached) (m n : Machine) → MovedBy x m n → n .instructions ≡ (m .instructions + 1) % 2 ^ 64
-one-more (At e r ea) m n h = h .instructions
-one-more (NotReached x) m n h = absurd h
+one-more : (mem : List ℕ) (x : Reached) (m n : Machine) → MovedBy mem x m n → n .instructions ≡ (m .instructions + 1) % 2 ^ 64
+one-more mem (At i r ea) m n h = h .instructions
+one-more mem (NotReached x) m n h = absurd h
 
 pub facts : Facts
 unfolding pushed pushes chosen bitAt operationAt bootLines runLines stepLines
@@ -39,7 +37,7 @@ facts = record {
   masked-in-sync = λ mem m s i size k w. ap (λ (p : Plan). p .machine) (masked-stays mem m s i size k) ∙ ap (λ (v : Wait). withRegisters m (m .regs) (afterMasked v)) w;
   step-in-sync = λ mem m s size w.
       ap (λ (p : Plan). numberOfAnswer (p .answer)) (waits-refused mem m s size (λ r. let z : _≡_ {A = ℕ} 0 1 = cc in absurd (omega arith)));
-  counts = λ mem m s more d. one-more (reached mem m) m (stepPlan mem m s .machine) (step-moves mem m s d);
+  counts = λ mem m s more d. one-more mem (reached mem m) m (stepPlan mem m s .machine) (step-moves mem m s d);
   no-row = λ mem m s b p r u. steps-refused mem m s b p .three .1 (r, u);
   mul = λ s cc a b. (mul-flags s cc a b .0, mul-flags s cc a b .1);
   leax = λ s mem r ea. refl;

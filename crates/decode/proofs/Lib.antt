@@ -8,3 +8,4 @@ pub mod Laws
 pub mod Formless
 pub mod Unique
 pub mod CutShort
+pub mod Origin

@@ -2,3 +2,4 @@ pub mod PostByte
 pub mod Operand
 pub mod Decode
 pub mod Laws
+pub mod Origin

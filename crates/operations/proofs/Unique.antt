@@ -11,6 +11,9 @@ use Rattle.operations.proofs.words
 pub change : Determines 1 proofs.change.Kinds.ps proofs.change.Kinds.r proofs.change.Reads.Post
 change κs a x y ws vs p q = (p ∙ sym q, refl)
 
+pub condition : Determines 0 branches.condition.Kinds.ps branches.condition.Kinds.r branches.condition.Reads.Post
+condition κs a x y ws vs p q = (p ∙ sym q, refl)
+
 pub jump : Determines 0 branches.jump.Kinds.ps branches.jump.Kinds.r branches.jump.Reads.Post
 jump κs a x y ws vs p q = (p ∙ sym q, refl)
 

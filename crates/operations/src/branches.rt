@@ -13,7 +13,8 @@ fn is_less(cc: CCBits) -> bool
     cc.is_set(CCBit::N) ^ cc.is_set(CCBit::V)
 }
 
-fn condition(cc: CCBits, cond: Cond) -> bool
+// Whether a branch is taken.
+pub fn condition(cc: CCBits, cond: Cond) -> bool
     ensures { λ r. ⌜ r ≡ condition cond cc ⌝ }
 {
     match cond {

@@ -10,6 +10,7 @@ mod words;
 ghost use mathlib.Core.Path.{_≡_};
 ghost use Rattle.operations.specs.Change.{changedOf};
 use answers::Refusal;
+pub use branches::condition;
 pub use branches::jump;
 pub use codes::and_codes;
 pub use codes::or_codes;

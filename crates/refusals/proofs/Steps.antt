@@ -22,12 +22,12 @@ use Rattle.machine.specs.declared.Machine.{Machine}
 use Rattle.machine.specs.declared.Settings.{Settings}
 use Rattle.machine.specs.declared.Wait.{Wait}
 use Rattle.machine.specs.declared.Wait.the-variants.{Running, Cwai, Sync}
-use Rattle.opcodes.specs.declared.Entry.{Entry}
 use Rattle.opcodes.specs.declared.Op.{Op}
 use Rattle.decode.specs.Decode.{decodedAt}
 use Rattle.decode.specs.Laws.{RefusedSo}
 use Rattle.decode.specs.declared.instruction.Decoded.{Decoded}
-use Rattle.decode.specs.declared.instruction.Decoded.the-variants.{Instruction, Refused as NotDecoded}
+use Rattle.decode.specs.declared.instruction.Decoded.the-variants.{Instruction as Taken, Refused as NotDecoded}
+use Rattle.decode.specs.declared.instruction.Instruction.{Instruction}
 use Rattle.decode.specs.declared.operand.Operand.{Operand}
 use Rattle.decode.proofs.CutShort.{bytes-refused}
 use Rattle.decode.proofs.Formless.{post-byte-refused}
@@ -38,9 +38,8 @@ use Rattle.addressing.specs.declared.Resolved.the-variants.{At as Addressed, Re
 use Rattle.addressing.proofs.Refusals.{resolve-refuses, next-refused}
 use Rattle.evaluate.specs.Evaluate.{evaluateOf}
 use Rattle.evaluate.specs.Room.{isSmall}
-use Rattle.calls.specs.Steps.{addressed, ofDecoded, decodedTo, unlessWaiting, reached, finishedAs, finished, planned, stepPlan}
-use Rattle.calls.specs.declared.steps.Reached.{Reached}
-use Rattle.calls.specs.declared.steps.Reached.the-variants.{At, Refused as NotReached}
+use Rattle.calls.specs.Cycles.{cyclesOf}
+use Rattle.calls.specs.Steps.{Reached, At, NotReached, addressed, ofDecoded, decodedTo, unlessWaiting, reached, finishedAs, finished, planned, stepPlan}
 use Rattle.refusals.specs.Operations.{codeRefused, leadsToZero}
 use Rattle.refusals.specs.Steps.{Runs, NextPast, Met, StepsRefused}
 use Rattle.refusals.proofs.Operations.{operation-number}
@@ -49,12 +48,12 @@ use Rattle.refusals.proofs.Operations.{operation-number}
 
 -- of what stands before the operation: 0 where the operation is reached
 abbrev before : Reached → ℕ
-before (At e r ea) = 0
+before (At i r ea) = 0
 before (NotReached x) = numberOf x
 
 -- of the step
 abbrev whole : List ℕ → Settings → Reached → ℕ
-whole mem s (At e r ea) = numberOfAnswer (evaluateOf (e .op) s mem r ea .answer)
+whole mem s (At i r ea) = numberOfAnswer (evaluateOf (i .entry .op) s mem r ea .answer)
 whole mem s (NotReached x) = numberOf x
 
 done : (m : Machine) (cycles : ℕ) (e : Effect) → numberOfAnswer (finished m cycles e .answer) ≡ numberOfAnswer (e .answer)
@@ -70,7 +69,7 @@ unfolding stepPlan
 step-number mem m s = go (reached mem m)
   where
     go : (a : Reached) → numberOfAnswer (planned mem m s a .answer) ≡ whole mem s a
-    go (At e r ea) = done m (e .cycles) (evaluateOf (e .op) s mem r ea)
+    go (At i r ea) = done m (cyclesOf i mem r ea) (evaluateOf (i .entry .op) s mem r ea)
     go (NotReached x) = refl
 
 -- ---- decoding and the address
@@ -79,27 +78,27 @@ step-number mem m s = go (reached mem m)
 abbrev OfAddress : ℕ → Type 0
 OfAddress n = (n ≡ 0) ⊎ (n ≡ 4)
 
-of-resolved : (e : Entry) (x : Resolved) → ((y : Refusal) → x ≡ NoAddress y → y ≡ PastEnd) → OfAddress (before (addressed e x))
-of-resolved e (Addressed a) k = inl refl
-of-resolved e (NoAddress x) k = inr (ap numberOf (k x refl))
+of-resolved : (i : Instruction) (x : Resolved) → ((y : Refusal) → x ≡ NoAddress y → y ≡ PastEnd) → OfAddress (before (addressed i x))
+of-resolved i (Addressed a) k = inl refl
+of-resolved i (NoAddress x) k = inr (ap numberOf (k x refl))
 
 -- a refusal and its number
-resolved-by : (e : Entry) (x : Resolved) (y : Refusal) → (before (addressed e x) ≡ numberOf y) ↔ (x ≡ NoAddress y)
-resolved-by e (Addressed a) y =
+resolved-by : (i : Instruction) (x : Resolved) (y : Refusal) → (before (addressed i x) ≡ numberOf y) ↔ (x ≡ NoAddress y)
+resolved-by i (Addressed a) y =
     (λ q. absurd (omega (arith, refused-by-a-number y)), λ q. let z : _≡_ {A = ℕ} 0 1 = cc in absurd (omega arith))
-resolved-by e (NoAddress x) y = (λ q. ap NoAddress (numbers-apart x y q), λ q. let d : x ≡ y = cc in ap numberOf d)
+resolved-by i (NoAddress x) y = (λ q. ap NoAddress (numbers-apart x y q), λ q. let d : x ≡ y = cc in ap numberOf d)
 
 module _ (mem : List ℕ) (r : Set) where
   abbrev number : Decoded → ℕ
   number d = before (ofDecoded mem r d)
 
-  address-number : (e : Entry) (o : Operand) (next : ℕ) → OfAddress (before (addressed e (resolvedOf mem r o next)))
-  address-number e o next = of-resolved e (resolvedOf mem r o next) (resolve-refuses mem r o next)
+  address-number : (i : Instruction) (o : Operand) (next : ℕ) → OfAddress (before (addressed i (resolvedOf mem r o next)))
+  address-number i o next = of-resolved i (resolvedOf mem r o next) (resolve-refuses mem r o next)
 
   -- 3, 5 and 24: by decoding alone
   by-decoding : (y : Refusal) → (OfAddress (numberOf y) → ⊥) → {P : Type 0} (d : Decoded) → (d ≡ NotDecoded y) ↔ P → (number d ≡ numberOf y) ↔ P
-  by-decoding y n (Instruction i) f = (
-    λ q. absurd (n (rw q at (address-number (i .entry) (i .operand) (i .next)))),
+  by-decoding y n (Taken i) f = (
+    λ q. absurd (n (rw q at (address-number i (i .operand) (i .next)))),
     λ p. let c = f .1 p in let z : _≡_ {A = ℕ} 0 1 = cc in absurd (omega arith),
   )
   by-decoding y n (NotDecoded x) f =
@@ -107,8 +106,8 @@ module _ (mem : List ℕ) (r : Set) where
 
   -- 4: by decoding or by the next address
   by-four : {P : Type 0} (d : Decoded) → (d ≡ NotDecoded PastEnd) ↔ P → (number d ≡ 4) ↔ (P ⊎ NextPast d)
-  by-four (Instruction i) f =
-      let b = resolved-by (i .entry) (resolvedOf mem r (i .operand) (i .next)) PastEnd in
+  by-four (Taken i) f =
+      let b = resolved-by i (resolvedOf mem r (i .operand) (i .next)) PastEnd in
       let g = next-refused mem r (i .operand) (i .next) in (
         λ q. inr (g .0 (b .0 q)),
         λ h. ⊎-elim (λ p. let c = f .1 p in let z : _≡_ {A = ℕ} 0 1 = cc in absurd (omega arith)) (λ k. b .1 (g .1 k)) h,
@@ -133,7 +132,7 @@ module _ (mem : List ℕ) (r : Set) where
   of-number n (inr e) = record { one = λ q. omega arith; two = λ q. omega arith; most = inr e }
 
   middle : (d : Decoded) → RefusedSo d → Middle (number d)
-  middle (Instruction i) k = of-address _ (address-number (i .entry) (i .operand) (i .next))
+  middle (Taken i) k = of-address _ (address-number i (i .operand) (i .next))
   middle (NotDecoded x) k = of-number (numberOf x) (decoding-number x k)
 
 -- ---- 1 and 2 come first
@@ -212,17 +211,17 @@ module _ (mem : List ℕ) (s : Settings) where
   above k l = record { some = omega arith; none = λ op r ea q. omega (arith, most-number op r ea) }
 
   early : (k : ℕ) → Early k → (a : Reached) → (whole mem s a ≡ k) ↔ (before a ≡ k)
-  early k h (At e r ea) = (λ q. absurd (h .none (e .op) r ea q), λ q. absurd (omega (arith, h .some)))
+  early k h (At i r ea) = (λ q. absurd (h .none (i .entry .op) r ea q), λ q. absurd (omega (arith, h .some)))
   early k h (NotReached x) = (λ q. q, λ q. q)
 
   late : (k : ℕ) → 5 < k → k < 24 → (test : Op → Set → ℕ → Bool)
       → ((op : Op) (r : Set) (ea : ℕ) → eqb (numberOfAnswer (evaluateOf op s mem r ea .answer)) k ≡ test op r ea)
       → (a : Reached) → (before a ≤ 5) ⊎ (before a ≡ 24) → (whole mem s a ≡ k) ↔ Met a test
-  late k l g test f (At e r ea) h = exact _ k (test (e .op) r ea) (f (e .op) r ea)
+  late k l g test f (At i r ea) h = exact _ k (test (i .entry .op) r ea) (f (i .entry .op) r ea)
   late k l g test f (NotReached x) h = (λ q. absurd (⊎-elim (λ p. omega arith) (λ p. omega arith) h), λ q. absurd q)
 
   no-other : (a : Reached) → (before a ≤ 5) ⊎ (before a ≡ 24) → (whole mem s a ≤ 9) ⊎ (whole mem s a ≡ 24)
-  no-other (At e r ea) h = inl (most-number (e .op) r ea)
+  no-other (At i r ea) h = inl (most-number (i .entry .op) r ea)
   no-other (NotReached x) h = ⊎-elim (λ p. inl (omega arith)) (λ p. inr p) h
 
 -- ---- the laws

@@ -21,9 +21,7 @@ use Rattle.decode.specs.Laws.{Unnamed, PrefixAtTop, CutShort, Formless}
 use Rattle.decode.specs.declared.instruction.Decoded.{Decoded}
 use Rattle.decode.specs.declared.instruction.Decoded.the-variants.{Instruction, Refused as NotDecoded}
 use Rattle.evaluate.specs.Room.{isSmall}
-use Rattle.calls.specs.Steps.{reached, stepOf}
-use Rattle.calls.specs.declared.steps.Reached.{Reached}
-use Rattle.calls.specs.declared.steps.Reached.the-variants.{At, Refused}
+use Rattle.calls.specs.Steps.{Reached, At, NotReached, reached, stepOf}
 use Rattle.refusals.specs.Operations.{codeRefused, leadsToZero}
 
 -- a step is answered by the number n
@@ -50,8 +48,8 @@ NextPast (NotDecoded x) = ⊥
 
 -- the operation is reached, none of the numbers above being given, and a table says yes of it, its registers and its effective address
 abbrev pub Met : Reached → (Op → Set → ℕ → Bool) → Type 0
-Met (At e r ea) test = test (e .op) r ea ≡ true
-Met (Refused x) test = ⊥
+Met (At i r ea) test = test (i .entry .op) r ea ≡ true
+Met (NotReached x) test = ⊥
 
 -- ---- the laws
 

@@ -1,3 +1,4 @@
+pub mod Digits
 pub mod Filling
 pub mod Emptying
 pub mod Laws

@@ -6,6 +6,9 @@ use Rattle.stack.proofs.frames
 use Rattle.stack.proofs.pulling
 use Rattle.stack.proofs.pushing
 
+pub bytes-of : Determines 0 pushing.bytes_of.Kinds.ps pushing.bytes_of.Kinds.r pushing.bytes_of.Reads.Post
+bytes-of κs a x y ws vs p q = (p ∙ sym q, refl)
+
 pub push : Determines 0 pushing.push.Kinds.ps pushing.push.Kinds.r pushing.push.Reads.Post
 push κs a x y ws vs p q = (p ∙ sym q, refl)
 

@@ -9,6 +9,7 @@ ghost use Rattle.registers.specs.ConditionCodes.{bitAt};
 pub use frames::frame;
 pub use pulling::pull;
 pub use pulling::return_from_interrupt;
+pub use pushing::bytes_of;
 pub use pushing::jump_to_subroutine;
 pub use pushing::push;
 

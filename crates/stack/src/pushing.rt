@@ -83,21 +83,21 @@ fn push_all(regs: Set, stack: Stack, pointer: u16, mask: u8, system: bool) -> Wr
     Writes { count, list }
 }
 
+// How many bits of a digit are set.
+const BITS: [u8; 16] = [0, 1, 1, 2, 1, 2, 2, 3, 1, 2, 2, 3, 2, 3, 3, 4];
+
 // How many bytes a post-byte names.
-fn bytes_of(mask: u8) -> u16
+pub fn bytes_of(mask: u8) -> u8
     ensures { λ r. ⌜ r ≡ bytesPushed mask ⌝ }
 {
-    let m = mask as u16;
-    let words = m / 128 % 2 + m / 64 % 2 + m / 32 % 2 + m / 16 % 2;
-    let bytes = m / 8 % 2 + m / 4 % 2 + m / 2 % 2 + m % 2;
-    2 * words + bytes
+    2 * BITS[(mask / 16) as usize] + BITS[(mask % 16) as usize]
 }
 
 pub fn push(regs: Set, stack: Stack, mask: u8, system: bool) -> Effect
     ensures { λ r. ⌜ r ≡ pushed regs stack mask system ⌝ }
 {
     let pointer = regs.word(stack.word());
-    let bytes = bytes_of(mask);
+    let bytes = bytes_of(mask) as u16;
     if pointer < bytes {
         return Effect::refuses(regs, Refusal::StackTooSmall);
     }

@@ -31,4 +31,4 @@ returns-2 c =
 pub push-spec : {M : Type 1} → statement M
 push-spec =
     tie.close
-    (tie.spec (search needs) (search needs) (search needs) (search needs) returns (λ c κs. rw (← (c .before .bytes-of .ensures)) (c .if1 .left)) (search needs) (search needs) (search needs) returns-2)
+    (tie.spec (search needs) (search needs) (search needs) (search needs) (search needs) returns (λ c κs. rw (← (c .before .bytes-of .ensures)) (c .if1 .left)) (search needs) (search needs) (search needs) returns-2)
