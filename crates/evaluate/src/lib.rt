@@ -24,15 +24,13 @@ pub fn evaluate_memory(op: MemoryOp, settings: Settings, mem: &[u8], regs: Set, 
         MemoryOp::Store16(word) => operations::store16(regs, word, ea),
         MemoryOp::Bsr => stack::jump_to_subroutine(regs, ea),
         MemoryOp::Jsr => stack::jump_to_subroutine(regs, ea),
-        MemoryOp::Rts => Effect::changes(stack::pull(mem, regs, Stack::S, 0x80)),
-        MemoryOp::Rti => Effect::changes(stack::return_from_interrupt(mem, regs)),
+        MemoryOp::Rts => stack::pull(mem, regs, Stack::S, 0x80),
+        MemoryOp::Rti => stack::return_from_interrupt(mem, regs),
         MemoryOp::Swi(which) => vectors::serve(mem, settings, regs, Vector::of_software(which)),
         MemoryOp::Cwai => vectors::wait_for_interrupt(regs, memory::read_u8(mem, ea)),
         MemoryOp::Sync => vectors::synchronize(regs),
         MemoryOp::Push(own) => stack::push(regs, own, memory::read_u8(mem, ea), false),
-        MemoryOp::Pull(own) => {
-            Effect::changes(stack::pull(mem, regs, own, memory::read_u8(mem, ea)))
-        }
+        MemoryOp::Pull(own) => stack::pull(mem, regs, own, memory::read_u8(mem, ea)),
     }
 }
 

@@ -6,9 +6,11 @@ ghost use lib.ListN.{getD};
 ghost use Rattle.u8oru16.specs.declared.u8u16.the-variants.{u8, u16};
 ghost use Rattle.registers.specs.RegisterSet.{written};
 ghost use Rattle.registers.specs.declared.Name.the-variants.{CC};
+ghost use Rattle.machine.specs.Effect.{changes};
 ghost use Rattle.stack.specs.Pushing.{order, chosen};
 ghost use Rattle.stack.specs.Pulling.{pulledTo, pulls, pulled, returnedFromInterrupt};
 use super::bit;
+use machine::Effect;
 use registers::CCBits;
 use registers::Set;
 use registers::Stack;
@@ -70,18 +72,19 @@ fn pull_all(mem: &[u8], mut regs: Set, stack: Stack, pointer: u16, mask: u8) -> 
     Pulled { regs, pointer: at }
 }
 
-// The registers alone change, and no pull is refused. The pointer in use is written last.
-pub fn pull(mem: &[u8], regs: Set, stack: Stack, mask: u8) -> Set
-    ensures { λ r. ⌜ r ≡ pulled (now (mem .entry)) regs stack mask ⌝ }
+// The registers alone change, and no pull is refused; the pointer in use is written last. The effect is made here and not by the caller,
+// which would make every step slower (docs/PERFORMANCE.md).
+pub fn pull(mem: &[u8], regs: Set, stack: Stack, mask: u8) -> Effect
+    ensures { λ r. ⌜ r ≡ changes (pulled (now (mem .entry)) regs stack mask) ⌝ }
 {
     let own = stack.word();
     let pulled = pull_all(mem, regs, stack, regs.word(own), mask);
-    pulled.regs.with_word(own, pulled.pointer)
+    Effect::changes(pulled.regs.with_word(own, pulled.pointer))
 }
 
 // RTI: E of the CC that is pulled says whether all registers follow, or PC alone.
-pub fn return_from_interrupt(mem: &[u8], regs: Set) -> Set
-    ensures { λ r. ⌜ r ≡ returnedFromInterrupt (now (mem .entry)) regs ⌝ }
+pub fn return_from_interrupt(mem: &[u8], regs: Set) -> Effect
+    ensures { λ r. ⌜ r ≡ changes (returnedFromInterrupt (now (mem .entry)) regs) ⌝ }
 {
     let entire = bit(memory::read_u8(mem, regs.s), 7);
     let mask = if entire { 0xFF } else { 0x81 };
