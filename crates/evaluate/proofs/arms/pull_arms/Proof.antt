@@ -2,12 +2,12 @@
 -- Assumes nothing.
 use Rattle.registers.specs.ConditionCodes.{bitAt}
 use borrow.Author.Needs.{needs}
-use Rattle.evaluate.proofs.arming.pull_arms.Statement.{statement}
-use Rattle.evaluate.proofs.arming.pull_arms.Tie as tie
+use Rattle.evaluate.proofs.arms.pull_arms.Statement.{statement}
+use Rattle.evaluate.proofs.arms.pull_arms.Tie as tie
 
 returns : tie.Need-returns
 unfolding bitAt
 returns c = rw (c .enum-told .given .1)
 
 pub pull-arms-spec : {M : Type 1} → statement M
-pull-arms-spec = tie.close (tie.spec (search needs) returns (search needs))
+pull-arms-spec = tie.close (tie.spec (search needs) (search needs) returns (λ c. rw (c .enum-told2 .given .1)))

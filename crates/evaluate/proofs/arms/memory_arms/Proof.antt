@@ -2,8 +2,8 @@
 -- Assumes nothing.
 use Rattle.evaluate.proofs.Arming.{no-pull}
 use borrow.Author.Needs.{needs}
-use Rattle.evaluate.proofs.arming.memory_arms.Statement.{statement}
-use Rattle.evaluate.proofs.arming.memory_arms.Tie as tie
+use Rattle.evaluate.proofs.arms.memory_arms.Statement.{statement}
+use Rattle.evaluate.proofs.arms.memory_arms.Tie as tie
 
 returns-2 : tie.Need-returns-2
 returns-2 c = let x = c .before .before .args in no-pull (x .op) _ (c .match .keys2)
