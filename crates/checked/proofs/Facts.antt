@@ -35,7 +35,10 @@ unfolding pushed pushes chosen bitAt operationAt bootLines runLines stepLines
 facts = record {
   reset-codes = λ mem m s size. ap (λ (p : Plan). p .machine .regs .cc) (reset-accepted mem m size);
   nmi = λ mem m s size a w e l. small-interrupt mem m s Nmi size (ap not a) w l;
-  unarmed = λ mem m s size a. ap (λ (p : Plan). numberOfAnswer (p .answer)) (masked-stays mem m s Nmi size (ap not a));
+  unarmed-in-sync = λ mem m s size a w. (
+    ap (λ (p : Plan). numberOfAnswer (p .answer)) (masked-stays mem m s Nmi size (ap not a)),
+    ap (λ (p : Plan). p .machine) (masked-stays mem m s Nmi size (ap not a)) ∙ ap (λ (v : Wait). withRegisters m (m .regs) (afterHeldOff v)) w,
+  );
   masked-in-sync = λ mem m s i size k w. ap (λ (p : Plan). p .machine) (masked-stays mem m s i size k) ∙ ap (λ (v : Wait). withRegisters m (m .regs) (afterHeldOff v)) w;
   step-in-sync = λ mem m s size w.
       ap (λ (p : Plan). numberOfAnswer (p .answer)) (waits-refused mem m s size (λ r. let z : _≡_ {A = ℕ} 0 1 = cc in absurd (omega arith)));

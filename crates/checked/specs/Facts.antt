@@ -54,9 +54,10 @@ pub record Facts : Type 0 where
   -- NMI is never masked: once S is loaded it is served with every bit of CC set, so that 8 is met where S is below 12
   pub nmi : (mem : List ℕ) (m : Machine) (s : Settings) → length mem ≡ 65536 → m .armed ≡ true → m .wait ≢ Cwai → m .regs .cc ≡ coded 0xFF → m .regs .s < 12
       → numberOfAnswer (interruptOf mem m s Nmi .answer) ≡ 8
-  -- document 02, [5]: before S is loaded an NMI is answered 0, wherever S points and the vector leads
-  pub unarmed : (mem : List ℕ) (m : Machine) (s : Settings) → length mem ≡ 65536 → m .armed ≡ false → numberOfAnswer (interruptOf mem m s Nmi .answer) ≡ 0
-  -- a masked interrupt, and an NMI before S is loaded, ends SYNC and changes nothing else
+  -- document 02, [5]: before S is loaded an NMI is answered 0, wherever S points and the vector leads; it ends SYNC, and changes nothing else
+  pub unarmed-in-sync : (mem : List ℕ) (m : Machine) (s : Settings) → length mem ≡ 65536 → m .armed ≡ false → m .wait ≡ Sync
+      → (numberOfAnswer (interruptOf mem m s Nmi .answer) ≡ 0) × (interruptOf mem m s Nmi .machine ≡ withRegisters m (m .regs) Running)
+  -- a masked interrupt ends SYNC, and changes nothing else
   pub masked-in-sync : (mem : List ℕ) (m : Machine) (s : Settings) (i : InterruptType) → length mem ≡ 65536 → isHeldOff i m ≡ true → m .wait ≡ Sync
       → interruptOf mem m s i .machine ≡ withRegisters m (m .regs) Running
   -- "Numbers returned", 2: a step in SYNC
