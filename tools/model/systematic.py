@@ -178,6 +178,18 @@ def masks():
                                             (0x5000, dump)], [0] * 10 + [0] * 30 + [3] + [0] * 14 + [5] * 20 + [3] + [0] * 15))
 
 
+def marks():
+    # each opcode of the three pages with each byte after it, on a machine that has not loaded S: does an NMI after it find the mark?
+    for page in range(3):
+        for o in range(256):
+            for b in range(256):
+                ins = PRE[page] + bytes([o, b, 0x20, 0x00])
+                for pre in (b'', b'\x35\x3E\x35\x3E'):  # S 0000, and moved to 000E by PULS
+                    if TABLE[page][o] and (not pre or b % 16 == 4 or b & 0x40):
+                        cmp('marks', pack(sett(1), [(0x1000, pre + ins), (0x5000, b'\x3B'), (0xBFF2, w2(0x5000) * 6 + b'\x10\x00')],
+                                          [4] + [0] * (len(pre) // 2) + [0, 3, 0, 3, 5, 5, 5, 5, 3, 0, 4, 3]))
+
+
 def frames():
     # every way of stacking, S at all edges, all ram_tops of note, with dumps of the places
     dump = tfrdump()

@@ -25,7 +25,7 @@ numberOf TransferCode = 7
 numberOf StackTooSmall = 8
 -- the vector to be taken leads to a zero byte
 numberOf ZeroAtVector = 9
--- fewer than 68 journal bytes after the used records
+-- no room for a record in the journal after the used ones
 numberOf JournalFull = 10
 -- undo with no record
 numberOf NoRecord = 11
