@@ -1,41 +1,42 @@
-// The journal: recorded calls, undo, and the newest record. A record holds the machine and the bytes of memory from before a call.
+// The journal: recorded calls, undo, the newest record, and drop. A record holds the machine and the bytes of memory from before a call.
+mod drops;
+mod record;
 mod recorded;
 mod undos;
 
 ghost use mathlib.Core.Path.{_≡_};
 ghost use Rattle.journal.specs.Recorded.{freshTwin};
 use answers::Answer;
-use machine::HEADER;
+use calls::InterruptType;
+pub use drops::drop;
 use machine::Machine;
 use memory::Writes;
+pub use recorded::call;
 pub use recorded::interrupt;
 pub use recorded::reset;
 pub use recorded::step;
 pub use undos::newest;
 pub use undos::undo;
 
-// A record: the machine, the count of its entries, and room for twelve entries of a place and the byte that it had.
-const COUNT: usize = HEADER;
-
-const ENTRIES: usize = COUNT + 1;
-
-const ENTRY: usize = 3;
-
-const MOST: usize = 12;
-
-pub const RECORD: usize = ENTRIES + MOST * ENTRY;
-
-// A machine, and how many records of its journal are used.
+// A machine, how many records its journal holds, and how many bytes they use.
 pub struct Twin {
     pub machine: Machine,
-    pub used: usize,
+    pub records: usize,
+    pub bytes: usize,
 }
 
-// What a call returns: the device writes that it reports, the machine and the count after it, its answer.
+// What a call returns: the device writes that it reports, the machine and the counts after it, its answer.
 pub struct Outcome {
     pub devices: Writes,
     pub twin: Twin,
     pub answer: Answer,
+}
+
+// The calls that are recorded.
+pub enum CallType {
+    Step,
+    Interrupt(InterruptType),
+    Reset,
 }
 
 impl Twin {
@@ -45,7 +46,8 @@ impl Twin {
     {
         Twin {
             machine: Machine::fresh(),
-            used: 0,
+            records: 0,
+            bytes: 0,
         }
     }
 }

@@ -1,0 +1,5 @@
+pub mod Rows
+pub mod Stores
+pub mod Chain
+pub mod Theorem
+pub mod History
