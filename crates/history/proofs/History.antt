@@ -16,9 +16,7 @@ use Rattle.calls.specs.Calls.{Call, step, interrupt, reset}
 use Rattle.journal.specs.Recorded.{State, inHand, Ended, Typed, Leaves, returned, call}
 use Rattle.journal.specs.Undos.{undone}
 use Rattle.journal.specs.Drops.{dropped}
-use Rattle.journal.proofs.recorded
-use Rattle.journal.proofs.undos
-use Rattle.journal.proofs.drops
+use Rattle.journal.proofs as code
 use Rattle.history.specs.Sequence.{Window, Snap, push, pop, lose, hostWrites, Drops, Unchanged}
 use Rattle.history.specs.History.{Contracts, Chain, begins, calls, undoes, drops, writes, Undone, Counted, Demand3Of}
 use Rattle.history.proofs.Chain.{Kept}
@@ -39,38 +37,38 @@ pub record Steps (t : Settings) (s : State) (e : Ended) : Type 0 where
   pub κs : Lfts 2
   pub mem : Lies
   pub jrn : Lies
-  pub post : let a : Dens κs recorded.step.Kinds.ps = (lent mem (s .memory), (lent jrn (s .journal), (s .twin, (t, tt)))) in
-      recorded.step.Reads.Post κs a (returned e) (atExit (endedOf 2 recorded.step.Kinds.ps recorded.step.Kinds.r) κs a (e .state .memory, (e .state .journal, (tt, (tt, tt)))))
+  pub post : let a : Dens κs code.step.Kinds.ps = (lent mem (s .memory), (lent jrn (s .journal), (s .twin, (t, tt)))) in
+      code.step.Reads.Post κs a (returned e) (atExit (endedOf 2 code.step.Kinds.ps code.step.Kinds.r) κs a (e .state .memory, (e .state .journal, (tt, (tt, tt)))))
 
 pub record Interrupts (t : Settings) (i : InterruptType) (s : State) (e : Ended) : Type 0 where
   pub κs : Lfts 2
   pub mem : Lies
   pub jrn : Lies
-  pub post : let a : Dens κs recorded.interrupt.Kinds.ps = (lent mem (s .memory), (lent jrn (s .journal), (s .twin, (t, (i, tt))))) in
-      recorded.interrupt.Reads.Post κs a (returned e) (atExit (endedOf 2 recorded.interrupt.Kinds.ps recorded.interrupt.Kinds.r) κs a (e .state .memory, (e .state .journal, (tt, (tt, (tt, tt))))))
+  pub post : let a : Dens κs code.interrupt.Kinds.ps = (lent mem (s .memory), (lent jrn (s .journal), (s .twin, (t, (i, tt))))) in
+      code.interrupt.Reads.Post κs a (returned e) (atExit (endedOf 2 code.interrupt.Kinds.ps code.interrupt.Kinds.r) κs a (e .state .memory, (e .state .journal, (tt, (tt, (tt, tt))))))
 
 pub record Resets (t : Settings) (s : State) (e : Ended) : Type 0 where
   pub κs : Lfts 2
   pub mem : Lies
   pub jrn : Lies
-  pub post : let a : Dens κs recorded.reset.Kinds.ps = (lent mem (s .memory), (lent jrn (s .journal), (s .twin, (t, tt)))) in
-      recorded.reset.Reads.Post κs a (returned e) (atExit (endedOf 2 recorded.reset.Kinds.ps recorded.reset.Kinds.r) κs a (e .state .memory, (e .state .journal, (tt, (tt, tt)))))
+  pub post : let a : Dens κs code.reset.Kinds.ps = (lent mem (s .memory), (lent jrn (s .journal), (s .twin, (t, tt)))) in
+      code.reset.Reads.Post κs a (returned e) (atExit (endedOf 2 code.reset.Kinds.ps code.reset.Kinds.r) κs a (e .state .memory, (e .state .journal, (tt, (tt, tt)))))
 
 -- the journal is lent to be read only: it is at exit what it was
 pub record Undoing (s : State) (e : Ended) : Type 0 where
   pub κs : Lfts 2
   pub mem : Lies
   pub jrn : Lies
-  pub post : let a : Dens κs undos.undo.Kinds.ps = (lent mem (s .memory), (lent jrn (s .journal), (s .twin, tt))) in
-      undos.undo.Reads.Post κs a (returned e) (atExit (endedOf 2 undos.undo.Kinds.ps undos.undo.Kinds.r) κs a (e .state .memory, (tt, (tt, tt))))
+  pub post : let a : Dens κs code.undo.Kinds.ps = (lent mem (s .memory), (lent jrn (s .journal), (s .twin, tt))) in
+      code.undo.Reads.Post κs a (returned e) (atExit (endedOf 2 code.undo.Kinds.ps code.undo.Kinds.r) κs a (e .state .memory, (tt, (tt, tt))))
   pub read-only : e .state .journal ≡ s .journal
 
 -- no memory is lent: it is what it was
 pub record Dropping (k : ℕ) (s : State) (e : Ended) : Type 0 where
   pub κs : Lfts 1
   pub jrn : Lies
-  pub post : let a : Dens κs drops.drop.Kinds.ps = (lent jrn (s .journal), (s .twin, (k, tt))) in
-      drops.drop.Reads.Post κs a (returned e) (atExit (endedOf 1 drops.drop.Kinds.ps drops.drop.Kinds.r) κs a (e .state .journal, (tt, (tt, tt))))
+  pub post : let a : Dens κs code.drop.Kinds.ps = (lent jrn (s .journal), (s .twin, (k, tt))) in
+      code.drop.Reads.Post κs a (returned e) (atExit (endedOf 1 code.drop.Kinds.ps code.drop.Kinds.r) κs a (e .state .journal, (tt, (tt, tt))))
   pub not-lent : e .state .memory ≡ s .memory
 
 abbrev pub forwards : Call → State → Ended → Type 0
