@@ -14,7 +14,7 @@ use borrow.Author.Tests.{eq-eqb, le-leb, lt-leb, lt-ltb, le-ltb, leb-true}
 use Rattle.answers.specs.declared.Answer.{Answer}
 use Rattle.answers.specs.declared.Answer.the-variants.{Done, Refused}
 use Rattle.answers.specs.declared.Refusal.{Refusal}
-use Rattle.answers.specs.declared.Refusal.the-variants.{MemoryLength, NoRecord, JournalLength, NoRoom}
+use Rattle.answers.specs.declared.Refusal.the-variants.{MemoryLength, NoRecord, JournalLength, TooFewRecords}
 use Rattle.memory.specs.Fits.{Bytes}
 use Rattle.memory.specs.Writes.{listed, stored, reported}
 use Rattle.memory.specs.declared.writes.Write.{Write}
@@ -228,7 +228,7 @@ module _ (s : State) (past : List Snap) (v : Kept s past) (k : ℕ) (h : k ≤ l
     others = rw (moved-rest, used-rest) (drop-append-seam new behind);
   })
 
-drop-barred : (s : State) (past : List Snap) → Kept s past → (k : ℕ) → length past < k → dropAnswer k s ≡ Refused NoRoom
+drop-barred : (s : State) (past : List Snap) → Kept s past → (k : ℕ) → length past < k → dropAnswer k s ≡ Refused TooFewRecords
 unfolding dropAnswer
 drop-barred s past v k h = rw (le-leb (s .twin .bytes) (length (s .journal)) (kept-room s past v), lt-leb k (s .twin .records) (omega (arith, v .count)))
 
@@ -320,10 +320,10 @@ shown s [] v = view-empty s v
 shown s (t ∷ ts) v =
     rw (view-is s t ts v, count-is s t ts v) (machine-is s t ts v, (length-is s t ts v, lead s t ts v .few))
 
-drops : (s : State) (past : List Snap) → Kept s past → (k : ℕ) → dropped k s .answer ≡ need (leb k (length past)) NoRoom Done
+drops : (s : State) (past : List Snap) → Kept s past → (k : ℕ) → dropped k s .answer ≡ need (leb k (length past)) TooFewRecords Done
 drops s past v k = drop-answer k s ∙ go (decLt (length past) k)
   where
-    go : Dec (length past < k) → dropAnswer k s ≡ need (leb k (length past)) NoRoom Done
+    go : Dec (length past < k) → dropAnswer k s ≡ need (leb k (length past)) TooFewRecords Done
     go (yes q) = rw (lt-leb k (length past) q) (drop-barred s past v k q)
     go (no q) = let h : k ≤ length past = omega arith in rw (le-leb k (length past) h) (drop-taken s past v k h)
 

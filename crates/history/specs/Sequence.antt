@@ -16,7 +16,7 @@ use Rattle.memory.specs.Fits.{Bytes}
 use Rattle.memory.specs.Writes.{writesOf}
 use Rattle.answers.specs.declared.Answer.{Answer}
 use Rattle.answers.specs.declared.Answer.the-variants.{Done, Refused}
-use Rattle.answers.specs.declared.Refusal.the-variants.{MemoryLength, NoRecord, NoRoom}
+use Rattle.answers.specs.declared.Refusal.the-variants.{MemoryLength, NoRecord, TooFewRecords}
 use Rattle.machine.specs.Machine.{MachineFits}
 use Rattle.machine.specs.Record.{machineOf}
 use Rattle.machine.specs.declared.Machine.{Machine}
@@ -138,7 +138,7 @@ pub record Shortens (k : ℕ) (s : State) (o : Ended) : Type 0 where
 
 -- Drop is accepted exactly when k calls are held, and else refused by 26
 pub record Drops (k : ℕ) (s : State) (past : List Snap) (o : Ended) : Type 0 where
-  pub answer : o .answer ≡ need (leb k (length past)) NoRoom Done
+  pub answer : o .answer ≡ need (leb k (length past)) TooFewRecords Done
   pub shortens : k ≤ length past → Shortens k s o
 
 -- one record for each call held, of 34 to 70 bytes, and room for them

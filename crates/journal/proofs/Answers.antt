@@ -22,7 +22,7 @@ use Rattle.machine.specs.declared.Settings.{Settings}
 use Rattle.machine.specs.Record.{machineOf}
 use Rattle.calls.specs.Calls.{step, interrupt, reset, planOf}
 use Rattle.calls.specs.declared.Plan.{Plan}
-use Rattle.journal.specs.Record.{waitAt, countOf, entriesOf, readEntries, isRecord, mostStored, entriesAt, recordLength}
+use Rattle.journal.specs.Record.{waitAt, markAt, countOf, entriesOf, readEntries, isRecord, mostStored, entriesAt, recordLength}
 use Rattle.journal.specs.Recorded.{State, inHand, ending, Leaves, need, unless, mostRecords, admitted, savedFor, recordFor, planAnswer, callAnswer, recorded, concluded, called, call, callOf}
 use Rattle.journal.specs.Undos.{lastByte, newestAt, soundAt, newestOf, newestFrom, undoAnswer, putBack, restored, undone}
 use Rattle.journal.specs.declared.CallType.{CallType}
@@ -159,7 +159,7 @@ pub many-entries : (r : List ℕ) → mostStored < countOf r → false ≡ isRec
 unfolding isRecord
 many-entries r h = rw (lt-leb (countOf r) mostStored h)
 
-pub few-entries : (r : List ℕ) (n : ℕ) → countOf r ≤ mostStored → n ≡ recordLength (countOf r) → (eqb (length r) n && leb (waitAt r) 2) ≡ isRecord r
+pub few-entries : (r : List ℕ) (n : ℕ) → countOf r ≤ mostStored → n ≡ recordLength (countOf r) → (eqb (length r) n && (leb (waitAt r) 2 && leb (markAt r) 1)) ≡ isRecord r
 unfolding isRecord
 few-entries r n h e = rw (le-leb (countOf r) mostStored h, e)
 

@@ -11,8 +11,8 @@ use borrow.Author.Tests.{le-leb, eq-eqb}
 use Rattle.machine.specs.declared.Machine.{Machine}
 use Rattle.machine.specs.Machine.{MachineFits}
 use Rattle.machine.specs.Record.{bytes, numberAt, header, machineOf}
-use Rattle.machine.proofs.Header.{wait-small, two-back, header-back}
-use Rattle.journal.specs.Record.{Saved, All, SavedFits, RecordsBack, entries, encode, waitAt, countOf, readEntries, entriesOf, isRecord, mostStored, entryLength, entriesAt, recordLength}
+use Rattle.machine.proofs.Header.{wait-small, mark-small, two-back, header-back}
+use Rattle.journal.specs.Record.{Saved, All, SavedFits, RecordsBack, entries, encode, waitAt, markAt, countOf, readEntries, entriesOf, isRecord, mostStored, entryLength, entriesAt, recordLength}
 
 pub length-entries : (es : List Saved) → length (entries es) ≡ entryLength * length es
 unfolding entries bytes
@@ -55,6 +55,10 @@ wait-at : (m : Machine) (es : List Saved) → waitAt (encode m es) ≤ 2
 unfolding waitAt encode header bytes
 wait-at m es = omega (arith, wait-small (m .wait))
 
+mark-at : (m : Machine) (es : List Saved) → markAt (encode m es) ≤ 1
+unfolding markAt encode header bytes
+mark-at m es = omega (arith, mark-small (m .armed))
+
 pub count-back : (m : Machine) (es : List Saved) → countOf (encode m es) ≡ length es
 unfolding countOf encode header bytes
 count-back m es = refl
@@ -72,6 +76,7 @@ is-record m es few =
       le-leb (length es) mostStored few,
       eq-eqb (recordLength (length es)) (recordLength (length es)) refl,
       le-leb (waitAt (encode m es)) 2 (wait-at m es),
+      le-leb (markAt (encode m es)) 1 (mark-at m es),
     )
 
 pub records-back : RecordsBack

@@ -13,7 +13,7 @@ use lib.Seq.{sets, sets-eq, take-suc, length-take-le, getD-drop, getD-append-add
 use borrow.Author.Tests.{le-leb, lt-leb, lt-ltb, le-ltb, leb-true}
 use Rattle.answers.specs.declared.Answer.the-variants.{Done, Refused}
 use Rattle.answers.specs.declared.Refusal.{Refusal}
-use Rattle.answers.specs.declared.Refusal.the-variants.{JournalLength, NoRoom}
+use Rattle.answers.specs.declared.Refusal.the-variants.{JournalLength, TooFewRecords}
 use Rattle.memory.specs.Writes.{writesOf}
 use Rattle.memory.specs.declared.writes.Writes.{Writes}
 use Rattle.journal.specs.Record.{countAt, entriesAt, mostStored, recordLength}
@@ -150,7 +150,7 @@ module _ (k : ℕ) (s : State) where
   drop-12 h = rw (lt-leb (s .twin .bytes) (length (s .journal)) h)
 
   module _ (fits : s .twin .bytes ≤ length (s .journal)) where
-    pub drop-26 : s .twin .records < k → dropAnswer k s ≡ Refused NoRoom
+    pub drop-26 : s .twin .records < k → dropAnswer k s ≡ Refused TooFewRecords
     unfolding dropAnswer
     drop-26 h = rw (le-leb (s .twin .bytes) (length (s .journal)) fits, lt-leb k (s .twin .records) h)
 

@@ -8,7 +8,7 @@ use lib.ListN.{length, getD, take, drop}
 use lib.Seq.{sets}
 use Rattle.answers.specs.declared.Answer.{Answer}
 use Rattle.answers.specs.declared.Answer.the-variants.{Done}
-use Rattle.answers.specs.declared.Refusal.the-variants.{JournalLength, NoRoom}
+use Rattle.answers.specs.declared.Refusal.the-variants.{JournalLength, TooFewRecords}
 use Rattle.journal.specs.Record.{countAt, mostStored, recordLength}
 use Rattle.journal.specs.Recorded.{State, Ended, ending, need}
 use Rattle.journal.specs.declared.drops.Walked.{Walked}
@@ -41,7 +41,7 @@ walkOf j bytes k = cond (walks k j bytes) (At (reach k j)) Broken
 unfoldable pub dropAnswer : ℕ → State → Answer
 dropAnswer k s =
     need (leb (s .twin .bytes) (length (s .journal))) JournalLength
-    (need (leb k (s .twin .records)) NoRoom
+    (need (leb k (s .twin .records)) TooFewRecords
     (need (walks k (s .journal) (s .twin .bytes)) JournalLength Done))
 
 -- all from a place to the end of the bytes used goes to the front; the bytes past the moved ones stay

@@ -8,7 +8,7 @@ use mathlib.Core.Path.{_≡_}
 use lib.Dec.{leb, eqb}
 use lib.ListN.{length, getD, drop}
 use Rattle.machine.specs.Machine.{MachineFits}
-use Rattle.machine.specs.Record.{Waiting, bytes, numberAt, header, headerLength, machineOf, offset}
+use Rattle.machine.specs.Record.{Waiting, Armed, bytes, numberAt, header, headerLength, machineOf, offset}
 use Rattle.machine.specs.declared.Machine.{Machine}
 
 -- an entry: a place of memory, after mapping, and the byte that it had before the call
@@ -30,7 +30,7 @@ countAt = headerLength
 abbrev pub entriesAt : ℕ
 entriesAt = countAt + 1
 
--- the length of a record with n entries
+-- the length of a record with n entries: 34 to 70
 abbrev pub recordLength : ℕ → ℕ
 recordLength n = entriesAt + n * entryLength + 1
 
@@ -46,6 +46,9 @@ encode m es = header m ++ (length es ∷ (entries es ++ (recordLength (length es
 unfoldable pub waitAt : List ℕ → ℕ
 waitAt r = getD r (offset Waiting) 0
 
+unfoldable pub markAt : List ℕ → ℕ
+markAt r = getD r (offset Armed) 0
+
 unfoldable pub countOf : List ℕ → ℕ
 countOf r = getD r countAt 0
 
@@ -57,8 +60,9 @@ unfoldable pub entriesOf : List ℕ → List Saved
 entriesOf r = readEntries (countOf r) (drop entriesAt r)
 
 -- Whether bytes, as many as the last of them says, are a record: a count of at most twelve, the length that the count asks for, a wait state
+-- and a mark
 unfoldable pub isRecord : List ℕ → Bool
-isRecord r = leb (countOf r) mostStored && (eqb (length r) (recordLength (countOf r)) && leb (waitAt r) 2)
+isRecord r = leb (countOf r) mostStored && (eqb (length r) (recordLength (countOf r)) && (leb (waitAt r) 2 && leb (markAt r) 1))
 
 -- ---- the law: what is read back from a record is what was written, at every count
 

@@ -71,7 +71,7 @@ pub fn drop(journal: &mut [u8], twin: Twin, k: usize) -> Outcome
         return refused(twin, Refusal::JournalLength);
     }
     if k > records {
-        return refused(twin, Refusal::NoRoom);
+        return refused(twin, Refusal::TooFewRecords);
     }
     match walk(journal, bytes, k) {
         Walked::Broken => refused(twin, Refusal::JournalLength),

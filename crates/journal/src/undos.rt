@@ -15,6 +15,7 @@ use super::record::record_length;
 use super::recorded::refused;
 use answers::Answer;
 use answers::Refusal;
+use machine::ARMED;
 use machine::WAIT;
 use memory::Writes;
 
@@ -30,7 +31,7 @@ fn is_record(r: &[u8]) -> bool
     if n > MOST {
         return false;
     }
-    (r.len() == record_length(n)) & (r[WAIT] <= 2)
+    (r.len() == record_length(n)) & ((r[WAIT] <= 2) & (r[ARMED] <= 1))
 }
 
 // The newest record, as a part of the journal; an empty part where no whole record is there.
