@@ -3,3 +3,4 @@ pub mod Stores
 pub mod Chain
 pub mod Theorem
 pub mod History
+pub mod Packed

@@ -9,7 +9,7 @@ use native.Mathlib.Decide.{decLt}
 use native.Mathlib.Omega.{arith}
 use lib.Dec.{leb, ltb, eqb}
 use lib.ListN.{length, take, drop, set, length-set, length-append, length-drop, take-append-drop}
-use lib.Seq.{sets, length-sets, take-append-seam, drop-append-seam, length-take-le}
+use lib.Seq.{sets, sets-eq, length-sets, take-append-seam, drop-append-seam, take-at, drop-at, length-take-le}
 use borrow.Author.Tests.{eq-eqb, le-leb, lt-leb, lt-ltb, le-ltb, leb-true}
 use Rattle.answers.specs.declared.Answer.{Answer}
 use Rattle.answers.specs.declared.Answer.the-variants.{Done, Refused}
@@ -30,12 +30,12 @@ use Rattle.calls.specs.declared.Plan.{Plan}
 use Rattle.calls.proofs.Laws.{few-writes, call-fits}
 use Rattle.journal.specs.Record.{All, Saved, recordLength, mostStored, encode, countOf, entriesOf}
 use Rattle.journal.specs.Recorded.{State, Ended, ending, need, mostRecords, Typed, savedFor, recordFor, callAnswer, recorded, concluded, called, call}
-use Rattle.journal.specs.Undos.{soundAt, newestOf, viewed, undoAnswer, newestIn, putBack, restored, undone}
+use Rattle.journal.specs.Undos.{newestAt, soundAt, newestOf, viewed, undoAnswer, newestIn, putBack, restored, undone}
 use Rattle.journal.specs.Drops.{reach, walks, dropAnswer, moved, shortened, dropped}
 use Rattle.journal.proofs.Answers.{Newest, sound-newest, Taken, call-taken}
 use Rattle.journal.proofs.Laying.{saved-few}
 use Rattle.journal.proofs.Reading.{machine-back, count-back, entries-back, length-encode}
-use Rattle.history.specs.Sequence.{Window, Event, forward, back, forget, host, Legal, Snap, World, push, pop, but, lose, hostWrites, next, run, withoutRecords, Restores, BringsBack, Shows, Shortens, Drops, Counts, Held, Unchanged, Demand3}
+use Rattle.history.specs.Sequence.{Window, Event, forward, back, forget, host, Legal, Snap, World, push, pop, but, lose, hostWrites, next, run, withoutRecords, Restores, BringsBack, Shows, Shortens, Drops, Counts, Held, Appends, Unchanged, Demand3}
 use Rattle.history.proofs.Stores.{length-putBack, undone-writes, same-eq, same-host, window-putBack, bytes-putBack, all-saved-fit}
 use Rattle.history.proofs.Rows.{flat, flat-append, appended, Whole, reach-flat, walks-flat, moved-is, kept-is, flat-least, flat-most, newest-encode, sound-encode}
 use Rattle.history.proofs.Chain.{Leads, Chain, chain-length, chain-same, chain-take, chain-whole, all-drop, Top, top, Kept, kept-room}
@@ -414,6 +414,79 @@ module _ (c : Call) (s : State) (w : Typed s) where
       ending-typed (callAnswer (settingsIn c) plan s) s (recorded (settingsIn c) plan s) (reported (settingsIn c .«ram_top») (listed (plan .writes)))
       (λ e. recorded-typed (settingsIn c) s plan (few-writes c (s .memory) (s .twin .machine)) fit w) w
 
+-- ---- an accepted call's record, at any state
+
+module _ (set : Settings) (s : State) (f : Plan) (few : length (listed (f .writes)) ≤ mostStored) (k : Taken set f s) where
+  es : List Saved
+  es = savedFor (set .«ram_top») (listed (f .writes)) (s .memory)
+
+  r : List ℕ
+  r = encode (s .twin .machine) es
+
+  front : List ℕ
+  front = take (s .twin .bytes) (s .journal)
+
+  past : List ℕ
+  past = drop (s .twin .bytes + length r) (s .journal)
+
+  fits : s .twin .bytes + length r ≤ length (s .journal)
+  unfolding recordFor r es
+  fits = k .space
+
+  seam : length front ≡ s .twin .bytes
+  unfolding front
+  seam = length-take-le (s .twin .bytes) (s .journal) (k .before .within)
+
+  in-parts : sets (s .journal) (s .twin .bytes) r ≡ front ++ (r ++ past)
+  unfolding front past
+  in-parts = sets-eq r (s .journal) (s .twin .bytes) fits ∙ append-assoc front r past
+
+  own-length : s .twin .bytes + length r ≡ length front + recordLength (length es)
+  unfolding r
+  own-length = omega (arith, seam, length-encode (s .twin .machine) es)
+
+  few-saved : length es ≤ mostStored
+  unfolding es
+  few-saved = omega (arith, saved-few (set .«ram_top») (listed (f .writes)) (s .memory), few)
+
+  own-newest : newestAt (sets (s .journal) (s .twin .bytes) r) (s .twin .bytes + length r) ≡ r
+  unfolding r
+  own-newest = newest-encode (sets (s .journal) (s .twin .bytes) r) front past (s .twin .bytes + length r) (s .twin .machine) es in-parts own-length
+
+  own-sound : soundAt (sets (s .journal) (s .twin .bytes) r) (s .twin .bytes + length r) ≡ true
+  unfolding r
+  own-sound = sound-encode (sets (s .journal) (s .twin .bytes) r) front past (s .twin .bytes + length r) (s .twin .machine) es in-parts own-length few-saved
+
+  earlier-stay : take (s .twin .bytes) (recorded set f s .journal) ≡ take (s .twin .bytes) (s .journal)
+  unfolding recorded recordFor r es front
+  earlier-stay = rw in-parts (take-at front (r ++ past) (s .twin .bytes) seam)
+
+  later-stay : drop (recorded set f s .twin .bytes) (recorded set f s .journal) ≡ drop (recorded set f s .twin .bytes) (s .journal)
+  unfolding recorded recordFor r es past
+  later-stay =
+      ap (drop (s .twin .bytes + length r)) (in-parts ∙ sym (append-assoc front r past))
+      ∙ drop-at (front ++ r) past (s .twin .bytes + length r) (length-append front r ∙ ap (λ (n : ℕ). n + length r) seam)
+
+  view-own : viewed (recorded set f s) ≡ recordFor set f s
+  unfolding recorded recordFor newestOf r es
+  view-own =
+      rw (
+        le-leb (s .twin .bytes + length r) (length (sets (s .journal) (s .twin .bytes) r)) (rw length-sets fits),
+        lt-ltb 0 (s .twin .records + 1) (omega arith),
+        own-sound,
+      )
+      own-newest
+
+appends : (c : Call) (s : State) → call c s .answer ≡ Done → Appends c s (call c s)
+unfolding called
+appends c s e =
+    let f = planOf c (s .memory) (s .twin .machine) in
+    let t = settingsIn c in
+    let d : callAnswer t f s ≡ Done = sym (answered (callAnswer t f s) s (recorded t f s) (reported (t .«ram_top») (listed (f .writes)))) ∙ e in
+    let few = few-writes c (s .memory) (s .twin .machine) in
+    let k = call-taken t f s d in
+    rw d (record { earlier = earlier-stay t s f few k; newest = view-own t s f few k; later = later-stay t s f few k })
+
 -- ---- the view, at any state
 
 no-empty : (r : List ℕ) → recordLength 0 ≤ length r → r ≢ []
@@ -530,5 +603,6 @@ demand-3 = record {
   refused-call = called-stays;
   refused-undo = undone-stays;
   refused-drop = dropped-stays;
+  appends = appends;
   view-undo = view-undo;
 }

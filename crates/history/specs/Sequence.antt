@@ -20,9 +20,9 @@ use Rattle.answers.specs.declared.Refusal.the-variants.{MemoryLength, NoRecord,
 use Rattle.machine.specs.Machine.{MachineFits}
 use Rattle.machine.specs.Record.{machineOf}
 use Rattle.machine.specs.declared.Machine.{Machine}
-use Rattle.calls.specs.Calls.{Call}
+use Rattle.calls.specs.Calls.{Call, settingsIn, planOf}
 use Rattle.journal.specs.Record.{All, countOf, mostStored, recordLength}
-use Rattle.journal.specs.Recorded.{State, Ended, need, mostRecords, call}
+use Rattle.journal.specs.Recorded.{State, Ended, need, mostRecords, recordFor, call}
 use Rattle.journal.specs.Undos.{undone, viewed}
 use Rattle.journal.specs.Drops.{dropped}
 
@@ -159,6 +159,13 @@ pub record Held (w : World) : Type 0 where
   pub drops : (k : ℕ) → Drops k (w .now) (w .past) (dropped k (w .now))
   pub counts : Counts (w .now) (w .past)
 
+-- A forward call at s, accepted, that ends as o: its record is the newest and stands behind the bytes used; the bytes before it and past it
+-- stay
+pub record Appends (c : Call) (s : State) (o : Ended) : Type 0 where
+  pub earlier : take (s .twin .bytes) (o .state .journal) ≡ take (s .twin .bytes) (s .journal)
+  pub newest : viewed (o .state) ≡ recordFor (settingsIn c) (planOf c (s .memory) (s .twin .machine)) s
+  pub later : drop (o .state .twin .bytes) (o .state .journal) ≡ drop (o .state .twin .bytes) (s .journal)
+
 -- A refused call changes nothing and reports nothing
 pub record Unchanged (s : State) (o : Ended) : Type 0 where
   pub state : o .state ≡ s
@@ -173,5 +180,6 @@ pub record Demand3 : Type 0 where
   pub refused-call : (c : Call) (s : State) → call c s .answer ≢ Done → Unchanged s (call c s)
   pub refused-undo : (s : State) → undone s .answer ≢ Done → Unchanged s (undone s)
   pub refused-drop : (k : ℕ) (s : State) → dropped k s .answer ≢ Done → Unchanged s (dropped k s)
-  -- at any state: the view is empty exactly where undo, with a whole memory, is refused (by 11 or 12)
+  -- at any state: an accepted call leaves its own record behind the bytes used; the view is empty exactly where undo, with a whole memory, is refused (by 11 or 12)
+  pub appends : (c : Call) (s : State) → call c s .answer ≡ Done → Appends c s (call c s)
   pub view-undo : (s : State) → length (s .memory) ≡ 65536 → (viewed s ≡ []) ↔ (undone s .answer ≢ Done)

@@ -129,9 +129,8 @@ flags-told Manual = refl
 host-back : (t : HostTwin) → isTwin t ≡ true → hostTwin (twinFrom t) ≡ t
 unfolding hostTwin machineFrom
 host-back t h =
-    let p = both _ _ h in
-    let q = both _ _ (p .0) in
-    rw (wait-back (t .wait) (ltb-true _ _ (q .0)), mark-back (t .armed) (ltb-true _ _ (q .1)), eqb-true (t .bytes) 0 (p .1))
+    let q = both _ _ h in
+    rw (wait-back (t .wait) (ltb-true _ _ (q .0)), mark-back (t .armed) (ltb-true _ _ (q .1)))
 
 twin-back : (t : Twin) → twinFrom (hostTwin t) ≡ t
 unfolding hostTwin machineFrom

@@ -67,6 +67,10 @@ pub record Leaves (r : Outcome) (memory journal : List ℕ) (e : Ended) : Type 0
   pub memory-is : memory ≡ e .state .memory
   pub journal-is : journal ≡ e .state .journal
 
+-- a call that is lent no memory: whatever memory is, it is left as the call ends
+abbrev pub LeavesEach : Outcome → List ℕ → (List ℕ → Ended) → Type 0
+LeavesEach r journal e = (memory : List ℕ) → Leaves r memory journal (e memory)
+
 -- `need test x rest`: refused by x where the test fails; `unless a rest`: refused as a is; else the rest
 abbrev pub need : Bool → Refusal → Answer → Answer
 need true x rest = rest

@@ -1,17 +1,16 @@
 // Drop: the oldest records are forgotten, and the rest is moved to the front.
-ghost use Prim.Native.Nat.{ℕ, _+_, _≤_};
+ghost use Prim.Native.Nat.{_+_, _≤_};
 ghost use mathlib.Core.Path.{_≡_};
-ghost use mathlib.Core.List.{List};
 ghost use lib.ListN.{length, take, drop};
 ghost use lib.Seq.{sets};
-ghost use Rattle.journal.specs.Recorded.{inHand, Leaves};
+ghost use Rattle.journal.specs.Recorded.{inHand, LeavesEach};
 ghost use Rattle.journal.specs.Drops.{walkOf, dropped};
+use super::COUNT;
+use super::ENTRIES;
+use super::MOST;
 use super::Outcome;
 use super::Twin;
-use super::record::COUNT;
-use super::record::ENTRIES;
-use super::record::MOST;
-use super::record::record_length;
+use super::record_length;
 use super::recorded::refused;
 use answers::Answer;
 use answers::Refusal;
@@ -63,7 +62,7 @@ fn shift(journal: &mut [u8], at: usize, n: usize)
 
 // The oldest k records are forgotten. No memory is lent: whatever memory the twin has, it stays.
 pub fn drop(journal: &mut [u8], twin: Twin, k: usize) -> Outcome
-    ensures { λ r. ⌜ ((memory : List ℕ) → Leaves r memory (now (journal .exit)) (dropped k (inHand memory (now (journal .entry)) twin))) ⌝ }
+    ensures { λ r. ⌜ LeavesEach r (now (journal .exit)) (λ memory. dropped k (inHand memory (now (journal .entry)) twin)) ⌝ }
 {
     let records = twin.records;
     let bytes = twin.bytes;

@@ -1,24 +1,35 @@
-// The recorded calls. A call's record is written to the unused rest of the journal before its writes are stored.
-ghost use Prim.Native.Nat.{_≤_, _<_};
+// The recorded calls. A call's record is written to the unused rest of the journal before its writes are stored: the machine, the count of
+// its entries, the entries, and its length as the last byte.
+ghost use Prim.Native.Nat.{ℕ, _+_, _*_, _≤_, _<_};
 ghost use mathlib.Core.Path.{_≡_};
-ghost use mathlib.Core.List.{[]};
-ghost use lib.ListN.{length};
-ghost use Rattle.memory.specs.Writes.{writesOf};
+ghost use mathlib.Core.List.{List, [], _++_};
+ghost use lib.ListN.{length, drop};
+ghost use lib.Seq.{sets};
+ghost use Rattle.memory.specs.Map.{landingOf};
+ghost use Rattle.memory.specs.Writes.{listed, writesOf};
+ghost use Rattle.machine.specs.Record.{header, headerLength};
 ghost use Rattle.calls.specs.Calls.{planOf};
-ghost use Rattle.journal.specs.Recorded.{inHand, Typed, Leaves, mostRecords, admitted, planAnswer, concluded, callOf};
+ghost use Rattle.journal.specs.Record.{mostStored, entryLength, entriesAt, recordLength, entries, encode};
+ghost use Rattle.journal.specs.Recorded.{inHand, Typed, Leaves, mostRecords, savedAt, savedFor, admitted, planAnswer, concluded, callOf};
 ghost use Rattle.journal.specs.Recorded.{call as callEnds, stepped, interrupted, wasReset};
+use super::COUNT;
 use super::CallType;
+use super::ENTRIES;
+use super::ENTRY;
+use super::MOST;
 use super::Outcome;
 use super::Twin;
-use super::record::count_entries;
-use super::record::record_length;
-use super::record::write_record;
+use super::record_length;
 use answers::Answer;
 use answers::Refusal;
 use calls::InterruptType;
 use calls::Plan;
+use machine::CYCLES;
+use machine::INSTRUCTIONS;
 use machine::Machine;
 use machine::Settings;
+use memory::Landing;
+use memory::Write;
 use memory::Writes;
 
 pub fn refused(twin: Twin, refusal: Refusal) -> Outcome
@@ -29,6 +40,110 @@ pub fn refused(twin: Twin, refusal: Refusal) -> Outcome
         twin,
         answer: Answer::Refused(refusal),
     }
+}
+
+// Stores a part over the bytes from `at` on.
+fn lay(rest: &mut [u8], at: usize, part: &[u8])
+    requires { ⌜ at + length (now part) ≤ length (now rest) ⌝ }
+    ensures { λ _. ⌜ now (rest .exit) ≡ sets (now (rest .entry)) at (now (part .entry)) ⌝ }
+{
+    let mut i = 0;
+    while i < part.len() {
+        rest[at + i] = part[i];
+        i += 1;
+    }
+}
+
+fn write_header(rest: &mut [u8], machine: Machine)
+    requires { ⌜ headerLength ≤ length (now rest) ⌝ }
+    ensures { λ _. ⌜ now (rest .exit) ≡ sets (now (rest .entry)) 0 (header machine) ⌝ }
+{
+    let front = machine::front_of(machine);
+    let cycles = machine::counter_of(machine.cycles);
+    let instructions = machine::counter_of(machine.instructions);
+    lay(rest, 0, &front);
+    lay(rest, CYCLES, &cycles);
+    lay(rest, INSTRUCTIONS, &instructions);
+}
+
+// How many entries a write has: 1 if it is stored.
+fn entries_for(ram_top: u16, one: Write) -> usize
+    ensures { λ r. ⌜ ((mem : List ℕ) → r ≡ length (savedAt mem (landingOf (one .at) «ram_top» (one .system)))) ⌝ }
+{
+    match memory::lands(one.at, ram_top, one.system) {
+        Landing::Stored(_) => 1,
+        Landing::Device => 0,
+        Landing::Ignored => 0,
+    }
+}
+
+// How many entries a call's writes have: so its record's length is known before a byte of the journal is written.
+fn count_entries(ram_top: u16, writes: Writes) -> usize
+    ensures { λ r. ⌜ (r ≤ mostStored) × ((mem : List ℕ) → r ≡ length (savedFor «ram_top» (listed writes) mem)) ⌝ }
+{
+    let count = writes.count;
+    let list = writes.list;
+    let mut n: usize = 0;
+    let mut i = 0;
+    while i < MOST && i < count {
+        let one = list[i];
+        n += entries_for(ram_top, one);
+        i += 1;
+    }
+    n
+}
+
+// One write's entry, if it is stored, after the n that are there; how many are there then.
+fn save(rest: &mut [u8], n: usize, mem: &[u8], ram_top: u16, one: Write) -> usize
+    requires { ⌜ (n < mostStored) × ((entriesAt + (n + length (savedAt (now mem) (landingOf (one .at) «ram_top» (one .system)))) * entryLength ≤ length (now rest)) × (length (now mem) ≡ 65536)) ⌝ }
+    ensures { λ r. ⌜ (r ≡ n + length (savedAt (now (mem .entry)) (landingOf (one .at) «ram_top» (one .system)))) × (now (rest .exit) ≡ sets (now (rest .entry)) (entriesAt + n * entryLength) (entries (savedAt (now (mem .entry)) (landingOf (one .at) «ram_top» (one .system))))) ⌝ }
+{
+    let at = one.at;
+    match memory::lands(at, ram_top, one.system) {
+        Landing::Stored(p) => {
+            let q = p as usize;
+            let part = [(p / 256) as u8, (p % 256) as u8, mem[q]];
+            lay(rest, ENTRIES + n * ENTRY, &part);
+            n + 1
+        }
+        Landing::Device => n,
+        Landing::Ignored => n,
+    }
+}
+
+// The entries of a call's writes, in order.
+fn save_all(rest: &mut [u8], mem: &[u8], ram_top: u16, writes: Writes)
+    requires { ⌜ (entriesAt + length (savedFor «ram_top» (listed writes) (now mem)) * entryLength ≤ length (now rest)) × (length (now mem) ≡ 65536) ⌝ }
+    ensures { λ _. ⌜ now (rest .exit) ≡ sets (now (rest .entry)) entriesAt (entries (savedFor «ram_top» (listed writes) (now (mem .entry)))) ⌝ }
+{
+    let count = writes.count;
+    let list = writes.list;
+    let mut n: usize = 0;
+    let mut i = 0;
+    while i < MOST && i < count {
+        let one = list[i];
+        n = save(rest, n, mem, ram_top, one);
+        i += 1;
+    }
+}
+
+// A call's record, of n entries, at the front of the unused rest of the journal.
+fn write_record(
+    rest: &mut [u8],
+    mem: &[u8],
+    machine: Machine,
+    ram_top: u16,
+    writes: Writes,
+    n: usize,
+)
+    requires { ⌜ (n ≡ length (savedFor «ram_top» (listed writes) (now mem))) × ((n ≤ mostStored) × ((recordLength n ≤ length (now rest)) × (length (now mem) ≡ 65536))) ⌝ }
+    ensures { λ _. ⌜ now (rest .exit) ≡ encode machine (savedFor «ram_top» (listed writes) (now (mem .entry))) ++ drop (recordLength n) (now (rest .entry)) ⌝ }
+{
+    write_header(rest, machine);
+    rest[COUNT] = n as u8;
+    save_all(rest, mem, ram_top, writes);
+    let last = ENTRIES + n * ENTRY;
+    rest[last] = (last + 1) as u8;
 }
 
 // What is judged before a call's plan: memory, the journal's length, and that one more record can be counted.
@@ -85,7 +200,14 @@ fn conclude(
             let records = twin.records + 1;
             let before = twin.machine;
             let machine = plan.machine;
-            write_record(&mut journal[bytes..], mem, before, settings.ram_top, writes, n);
+            write_record(
+                &mut journal[bytes..],
+                mem,
+                before,
+                settings.ram_top,
+                writes,
+                n,
+            );
             let devices = memory::store_all(mem, settings.ram_top, writes);
             Outcome {
                 devices,

@@ -8,8 +8,8 @@ use Rattle.memory.specs.Writes.{listed}
 use Rattle.journal.specs.Record.{mostStored, recordLength}
 use Rattle.journal.specs.Recorded.{savedFor}
 use Rattle.journal.proofs.Laying.{record-laid}
-use Rattle.journal.proofs.record.write_record.Statement.{statement}
-use Rattle.journal.proofs.record.write_record.Tie as tie
+use Rattle.journal.proofs.recorded.write_record.Statement.{statement}
+use Rattle.journal.proofs.recorded.write_record.Tie as tie
 
 save-all-requires : tie.Need-save-all-requires
 save-all-requires c κs =

@@ -6,8 +6,8 @@ use native.Mathlib.Omega.{arith}
 use native.Mathlib.Numerals.{add-one}
 use lib.ListN.{length, length-set}
 use lib.Seq.{sets-eq, paste, paste-zero, paste-suc, take-length}
-use Rattle.journal.proofs.record.lay.Statement.{statement}
-use Rattle.journal.proofs.record.lay.Tie as tie
+use Rattle.journal.proofs.recorded.lay.Statement.{statement}
+use Rattle.journal.proofs.recorded.lay.Tie as tie
 
 abbrev Inv-loop : tie.InvT-loop
 Inv-loop rest₀ at part i₀ rest i = (i ≤ length part) × ((length rest ≡ length rest₀) × (rest ≡ paste rest₀ at part i))

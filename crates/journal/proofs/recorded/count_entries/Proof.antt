@@ -11,8 +11,8 @@ use Rattle.memory.proofs.Folds.{all-taken}
 use Rattle.journal.specs.Record.{mostStored}
 use Rattle.journal.specs.Recorded.{savedFor}
 use Rattle.journal.proofs.Laying.{saved-twelve, turn-count}
-use Rattle.journal.proofs.record.count_entries.Statement.{statement}
-use Rattle.journal.proofs.record.count_entries.Tie as tie
+use Rattle.journal.proofs.recorded.count_entries.Statement.{statement}
+use Rattle.journal.proofs.recorded.count_entries.Tie as tie
 
 abbrev Inv-loop : tie.InvT-loop
 Inv-loop ram-top count list n₀ i₀ n i =

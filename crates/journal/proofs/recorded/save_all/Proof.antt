@@ -11,8 +11,8 @@ use lib.Seq.{sets}
 use Rattle.journal.specs.Record.{entries, mostStored, entriesAt}
 use Rattle.journal.specs.Recorded.{savedFor}
 use Rattle.journal.proofs.Laying.{saved-twelve, save-fits, turn-count, turn-laid}
-use Rattle.journal.proofs.record.save_all.Statement.{statement}
-use Rattle.journal.proofs.record.save_all.Tie as tie
+use Rattle.journal.proofs.recorded.save_all.Statement.{statement}
+use Rattle.journal.proofs.recorded.save_all.Tie as tie
 
 abbrev Inv-loop : tie.InvT-loop
 Inv-loop rest₀ mem ram-top count list n₀ i₀ rest n i =

@@ -9,8 +9,8 @@ use Rattle.journal.specs.Record.{entries}
 use Rattle.journal.specs.Recorded.{savedAt}
 use Rattle.machine.proofs.Header.{two}
 use borrow.Author.Needs.{needs}
-use Rattle.journal.proofs.record.save.Statement.{statement}
-use Rattle.journal.proofs.record.save.Tie as tie
+use Rattle.journal.proofs.recorded.save.Statement.{statement}
+use Rattle.journal.proofs.recorded.save.Tie as tie
 
 -- the entry is laid where it is stored
 lay-requires : tie.Need-lay-requires

@@ -2,8 +2,8 @@
 -- Assumes nothing.
 use borrow.Author.Needs.{needs}
 use mathlib.Core.Path.{refl, sym, _∙_}
-use Rattle.journal.proofs.record.entries_for.Statement.{statement}
-use Rattle.journal.proofs.record.entries_for.Tie as tie
+use Rattle.journal.proofs.recorded.entries_for.Statement.{statement}
+use Rattle.journal.proofs.recorded.entries_for.Tie as tie
 
 returns : tie.Need-returns
 returns c = λ mem. rw (sym (c .before .before .lands .ensures) ∙ c .enum-told .given .1)

@@ -2,8 +2,8 @@
 -- Assumes nothing.
 use borrow.Author.Needs.{needs}
 use Rattle.journal.proofs.Laying.{header-laid}
-use Rattle.journal.proofs.record.write_header.Statement.{statement}
-use Rattle.journal.proofs.record.write_header.Tie as tie
+use Rattle.journal.proofs.recorded.write_header.Statement.{statement}
+use Rattle.journal.proofs.recorded.write_header.Tie as tie
 
 returns : tie.Need-returns
 returns c =
