@@ -86,13 +86,13 @@ fn unrecorded(mem: &mut Memory, twin: HostTwin) {
         settings(),
         2,
     ));
-    played::number(refused.armed as u64);
+    played::byte(refused.armed);
     let first = played::shown(host_step_unrecorded::doorhawser_step_unrecorded(
         mem,
         held_off,
         settings(),
     ));
-    played::number(first.armed as u64);
+    played::byte(first.armed);
     let ran = host_run::doorhawser_run_unrecorded(mem, first, settings(), 2);
     played::number(ran.left);
     let third = played::shown(ran.last);
