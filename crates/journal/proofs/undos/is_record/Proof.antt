@@ -24,4 +24,4 @@ returns-2 c = few-entries (c .before .before .before .before .before .args .r .n
 pub is-record-spec : {M : Type 1} → statement M
 is-record-spec =
     tie.close
-    (tie.spec (search needs) cast-n returns (search needs) (search needs) returns-2)
+    (tie.spec (search needs) cast-n returns (search needs) (search needs) (search needs) returns-2)
