@@ -6,7 +6,7 @@
 //!
 //! ```no_run
 //! use doorhawser::{Flags, Settings, Twin};
-//! let mut twin = Twin::new(Settings { ram_top: 0x7FFF, flags: Flags::Manual }, 946);
+//! let mut twin = Twin::new(Settings { ram_top: 0x7FFF, flags: Flags::Manual }, 932);
 //! twin.load(b"S105BFFE10002D\nS10510005F5A31\nS9031000EC\n").unwrap();
 //! twin.reset().unwrap();
 //! twin.step().unwrap();
@@ -23,7 +23,7 @@ pub mod raw;
 
 /// Bytes of a twin's memory.
 pub const MEMORY: usize = raw::MEMORY;
-/// Bytes of a record, hence of the journal for each call that can be taken back.
+/// Bytes of the longest record, that of a call that stores twelve bytes; one that stores none has 34.
 pub const RECORD: usize = raw::RECORD;
 
 /// Whose rules set the flags.
@@ -153,7 +153,8 @@ pub struct Twin {
 }
 
 impl Twin {
-    /// A twin with memory all zero, registers and counters as at power on (CC 50, the others 0), and a journal for so many calls.
+    /// A twin with memory all zero, registers and counters as at power on (CC 50, the others 0), and a journal for so many calls,
+    /// whatever they store: [`RECORD`] bytes for each, so that about twice as many calls that store nothing have room.
     pub fn new(settings: Settings, records: usize) -> Twin {
         // Safety: these two calls take nothing.
         let (abi, state) = unsafe { (raw::doorhawser_abi(), raw::doorhawser_start()) };
@@ -207,6 +208,11 @@ impl Twin {
     /// Calls that can be taken back.
     pub fn records(&self) -> u64 {
         self.state.records
+    }
+
+    /// Bytes of the journal that their records use.
+    pub fn journal_used(&self) -> u64 {
+        self.state.bytes
     }
 
     /// Memory as it lies, FFE0-FFFF of the processor's addresses at BFE0-BFFF.
@@ -278,6 +284,13 @@ impl Twin {
         self.ended(o).map(|_| ())
     }
 
+    /// Forgets the oldest so many recorded calls, and frees their room in the journal. Undo then reaches back to the oldest that is kept.
+    pub fn forget(&mut self, calls: u64) -> Result<(), Refused> {
+        // Safety: the journal is the twin's own, with its length, and borrowed for the call alone.
+        let o = unsafe { raw::doorhawser_drop(self.journal.as_mut_ptr(), self.journal.len(), self.state, calls) };
+        self.ended(o).map(|_| ())
+    }
+
     /// One instruction, not recorded.
     pub fn step_unrecorded(&mut self) -> Result<DeviceWrites, Refused> {
         self.unrecorded(raw::doorhawser_step_unrecorded)
@@ -305,10 +318,10 @@ impl Twin {
         Ran { steps, devices, refused: self.ended(r.last).err() }
     }
 
-    /// The newest record's 69 bytes.
+    /// The newest record, 34 to 70 bytes.
     pub fn newest(&self) -> Option<&[u8]> {
         // Safety: the journal is the twin's own, with its length; it is only read.
-        let p = unsafe { raw::doorhawser_newest(self.journal.as_ptr(), self.journal.len(), self.state.records) };
+        let p = unsafe { raw::doorhawser_newest(self.journal.as_ptr(), self.journal.len(), self.state.records, self.state.bytes) };
         if p.count == 0 {
             None
         } else {

@@ -496,9 +496,9 @@ def gen_loop(rng):
     m = Machine(load(pieces), rt, man)
     ops = [4]
     m.op(4)
-    ops += adaptive(rng, m, rng.choice([970, 1000, 1300, 2500]), und=rng.choice([0, 0, .02, .1]))
+    ops += adaptive(rng, m, rng.choice([940, 1300, 1930, 2500, 4000]), und=rng.choice([0, 0, .02, .1]))
     if rng.random() < .5:
-        ops += [5] * rng.choice([3, 500, 945, 946, 947, 1000, 1300]) + [0, 0, 3, 0]
+        ops += [5] * rng.choice([3, 500, 932, 1300, 1919, 1920, 1921, 2500]) + [0, 0, 3, 0]
     return pack(sett, pieces, ops)
 
 

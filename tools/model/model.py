@@ -3,9 +3,7 @@
 program has to print."""
 import sys
 
-JOURNAL_BYTES = 65280     # document 01: 960 records of 68 bytes; document 02 [5] keeps the bytes: 946 records of 69
-RECORD = 69
-JOURNAL_RECORDS = JOURNAL_BYTES // RECORD
+JOURNAL_BYTES = 65280     # document 01: 960 records of 68 bytes; document 02 [5] and [9] keep the bytes
 M64 = (1 << 64) - 1
 A, B, X, Y, U, S, PC, DP, CC = range(9)
 fC, fV, fZ, fN, fI, fH, fF, fE = 1, 2, 4, 8, 16, 32, 64, 128
@@ -302,6 +300,7 @@ class Machine:
         self.cycles = 0
         self.instrs = 0
         self.journal = []
+        self.used = 0          # document 02 [9]: bytes of the journal in use
         self.dev = []          # device writes reported by the last call
         self.stats = stats
 
@@ -344,8 +343,18 @@ class Machine:
             self.mem[p] = o
 
     # ---- journal
+    @staticmethod
+    def record_length(stored):
+        """document 02 [9]: 33 bytes up to the count, three for each entry, and the length"""
+        return 34 + 3 * len(stored)
+
     def record(self, regs, wait, cycles, instrs, stored):
+        """the last thing that can refuse: this call's own record does not fit"""
         assert len(stored) <= 12
+        if self.used + self.record_length(stored) > JOURNAL_BYTES:
+            self.revert(stored)
+            raise Refuse(10)
+        self.used += self.record_length(stored)
         self.journal.append((regs, wait, cycles, instrs, stored, self.armed))
 
     @staticmethod
@@ -358,8 +367,7 @@ class Machine:
         b += bytes([len(stored)])
         for p, o in stored:
             b += p.to_bytes(2, 'big') + bytes([o])
-        b += bytes(RECORD - len(b))
-        return b
+        return b + bytes([len(b) + 1])
 
     # ---- frames
     @staticmethod
@@ -424,6 +432,7 @@ class Machine:
         if not self.journal:
             raise Refuse(11)
         regs, wait, cycles, instrs, stored, armed = self.journal.pop()
+        self.used -= self.record_length(stored)
         self.revert(stored)
         self.r = list(regs)
         self.wait = wait
@@ -432,16 +441,12 @@ class Machine:
         self.instrs = instrs
 
     def reset(self):
-        if len(self.journal) >= JOURNAL_RECORDS:
-            raise Refuse(10)
         self.record(tuple(self.r), self.wait, self.cycles, self.instrs, [])
         self.r = [0, 0, 0, 0, 0, 0, self.rd(0xFFFE) << 8 | self.rd(0xFFFF), 0, 0x50]
         self.wait = 0
         self.armed = False
 
     def interrupt(self, n):
-        if len(self.journal) >= JOURNAL_RECORDS:
-            raise Refuse(10)
         old = tuple(self.r)
         vec, ormask, cmask = {1: (0xFFF8, 0x10, fI), 2: (0xFFF6, 0x50, fF), 3: (0xFFFC, 0x50, 0)}[n]
         if n == 3 and not self.armed and self.stats is not None:
@@ -468,8 +473,6 @@ class Machine:
     def step(self):
         if self.wait:
             raise Refuse(2)
-        if len(self.journal) >= JOURNAL_RECORDS:
-            raise Refuse(10)
         old = tuple(self.r)
         r = list(old)
         pc = r[PC]

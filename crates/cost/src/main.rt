@@ -72,8 +72,8 @@ fn report(twin: Twin) -> bool {
         &[
             (machine.cycles / 256 % 256) as u8,
             (machine.cycles % 256) as u8,
-            (twin.used / 256 % 256) as u8,
-            (twin.used % 256) as u8,
+            (twin.records / 256 % 256) as u8,
+            (twin.records % 256) as u8,
         ],
     )
 }

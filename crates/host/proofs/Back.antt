@@ -9,7 +9,7 @@ use lib.Dec.{ltb, eqb}
 use Rattle.answers.specs.Numbers.{numberOf}
 use Rattle.answers.specs.declared.Answer.the-variants.{Done, Refused}
 use Rattle.answers.specs.declared.Refusal.{Refusal}
-use Rattle.answers.specs.declared.Refusal.the-variants.{MemoryLength, Waiting, Opcode, PastEnd, PostByte, TransferCode, StackTooSmall, ZeroAtVector, JournalFull, NoRecord, JournalLength, DivisionByZero, LeftByte, NoRoom, Malformed, OutputShort, LineShape, Checksum, PastTop, NoEnd, PostByte8F}
+use Rattle.answers.specs.declared.Refusal.the-variants.{MemoryLength, Waiting, Opcode, PastEnd, PostByte, TransferCode, StackTooSmall, ZeroAtVector, JournalFull, NoRecord, JournalLength, DivisionByZero, LeftByte, NoRoom, Malformed, OutputShort, LineShape, Checksum, PastTop, NoEnd, PostByte8F, TooFewRecords}
 use Rattle.registers.specs.declared.Flags.{Flags}
 use Rattle.registers.specs.declared.Flags.the-variants.{Bought, Manual}
 use Rattle.machine.specs.Record.{waitByte, waitOf, markByte, markOf}
@@ -48,6 +48,7 @@ below Checksum = omega arith
 below PastTop = omega arith
 below NoEnd = omega arith
 below PostByte8F = omega arith
+below TooFewRecords = omega arith
 
 pub unnamed-apart : UnnamedApart
 unnamed-apart Done = omega arith
@@ -128,9 +129,8 @@ flags-told Manual = refl
 host-back : (t : HostTwin) → isTwin t ≡ true → hostTwin (twinFrom t) ≡ t
 unfolding hostTwin machineFrom
 host-back t h =
-    let p = both _ _ h in
-    let q = both _ _ (p .0) in
-    rw (wait-back (t .wait) (ltb-true _ _ (q .0)), mark-back (t .armed) (ltb-true _ _ (q .1)), eqb-true (t .bytes) 0 (p .1))
+    let q = both _ _ h in
+    rw (wait-back (t .wait) (ltb-true _ _ (q .0)), mark-back (t .armed) (ltb-true _ _ (q .1)))
 
 twin-back : (t : Twin) → twinFrom (hostTwin t) ≡ t
 unfolding hostTwin machineFrom

@@ -41,15 +41,15 @@ machineFrom t =
     }
 
 abbrev pub twinFrom : HostTwin → Twin
-twinFrom t = record { machine = machineFrom t; used = t .records }
+twinFrom t = record { machine = machineFrom t; records = t .records; bytes = t .bytes }
 
 unfoldable pub hostTwin : Twin → HostTwin
 hostTwin t =
     record {
       cycles = t .machine .cycles;
       instructions = t .machine .instructions;
-      records = t .used;
-      bytes = 0;
+      records = t .records;
+      bytes = t .bytes;
       x = t .machine .regs .x;
       y = t .machine .regs .y;
       u = t .machine .regs .u;
@@ -82,9 +82,9 @@ hostOutcome o =
       answer = numberOfAnswer (o .answer);
     }
 
--- a call that is not recorded keeps the count of records
-abbrev pub keeping : ℕ → Report → Outcome
-keeping records r = record { devices = r .devices; twin = record { machine = r .machine; used = records }; answer = r .answer }
+-- a call that is not recorded keeps both counts
+abbrev pub keeping : HostTwin → Report → Outcome
+keeping t r = record { devices = r .devices; twin = record { machine = r .machine; records = t .records; bytes = t .bytes }; answer = r .answer }
 
 -- where the numbers name nothing: the twin as it was given, no device write, and the host's own number
 unfoldable pub unnamed : HostTwin → HostOutcome

@@ -30,14 +30,14 @@ pub struct HostSettings {
     pub spare: u8,
 }
 
-// A machine and how many records of its journal are used: 48 bytes, no gap, the registers in the order of `Set`. `wait` is 0
-// running, 1 CWAI, 2 SYNC; `armed` is 1 once S is loaded, else 0; `bytes` is 0.
+// A machine, how many records its journal holds and how many bytes they use: 48 bytes, no gap, the registers in the order of `Set`. `wait`
+// is 0 running, 1 CWAI, 2 SYNC; `armed` is 1 once S is loaded, else 0.
 #[repr(C)]
 pub struct HostTwin {
     pub cycles: u64,
     pub instructions: u64,
     pub records: usize,
-    pub bytes: u64,
+    pub bytes: usize,
     pub x: u16,
     pub y: u16,
     pub u: u16,
@@ -136,7 +136,7 @@ pub fn interrupt_type_of(which: u8) -> InterruptType
 pub fn is_twin(t: HostTwin) -> bool
     ensures { λ r. ⌜ r ≡ isTwin t ⌝ }
 {
-    (t.wait < 3) & (t.armed < 2) & (t.bytes == 0)
+    (t.wait < 3) & (t.armed < 2)
 }
 
 // The flag setting is named, and the spare field is 0.
@@ -187,7 +187,8 @@ pub fn twin_of(t: HostTwin) -> Twin
 {
     Twin {
         machine: machine_of(t),
-        used: t.records,
+        records: t.records,
+        bytes: t.bytes,
     }
 }
 
@@ -201,8 +202,8 @@ pub fn host_twin(t: Twin) -> HostTwin
     HostTwin {
         cycles: machine.cycles,
         instructions: machine.instructions,
-        records: t.used,
-        bytes: 0,
+        records: t.records,
+        bytes: t.bytes,
         x: regs.x,
         y: regs.y,
         u: regs.u,
@@ -267,9 +268,9 @@ pub fn outcome_of(o: Outcome) -> HostOutcome
     }
 }
 
-// A call that is not recorded keeps the count of records.
-pub fn report_of(records: usize, report: Report) -> HostOutcome
-    ensures { λ r. ⌜ r ≡ hostOutcome (keeping records report) ⌝ }
+// A call that is not recorded keeps both counts.
+pub fn report_of(t: HostTwin, report: Report) -> HostOutcome
+    ensures { λ r. ⌜ r ≡ hostOutcome (keeping t report) ⌝ }
 {
     let devices = report.devices;
     let machine = report.machine;
@@ -278,7 +279,8 @@ pub fn report_of(records: usize, report: Report) -> HostOutcome
         devices,
         twin: Twin {
             machine,
-            used: records,
+            records: t.records,
+            bytes: t.bytes,
         },
         answer,
     })

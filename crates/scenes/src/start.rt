@@ -50,7 +50,7 @@ fn put_one(mem: &mut [u8], at: u16, byte: u8) {
 
 // Bytes of the line.
 fn put(mem: &mut [u8], at: u16, line: &Line, from: usize, count: usize)
-    requires { ⌜ from + 2 * count ≤ 117 ⌝ }
+    requires { ⌜ from + 2 * count ≤ 134 ⌝ }
 {
     let mut place = at;
     let mut i = 0;
