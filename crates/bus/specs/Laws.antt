@@ -1,0 +1,53 @@
+-- Laws of the two counts: what the bytes at the counted addresses decide, and the ceilings.
+-- Assumes nothing.
+use Prim.Native.Nat.{ℕ, _+_, _≤_, _<_}
+use mathlib.Core.List.{List, [], _∷_}
+use mathlib.Core.Path.{_≡_}
+use lib.ListN.{length}
+use Rattle.answers.specs.declared.Answer.the-variants.{Done, Refused}
+use Rattle.answers.specs.declared.Refusal.{Refusal}
+use Rattle.memory.specs.Fits.{Bytes}
+use Rattle.memory.specs.Map.{byteAt}
+use Rattle.machine.specs.declared.Machine.{Machine}
+use Rattle.machine.specs.declared.Settings.{Settings}
+use Rattle.calls.specs.Calls.{Call, step, interrupt, planOf}
+use Rattle.calls.specs.declared.InterruptType.{InterruptType}
+use Rattle.bus.specs.Counts.{readsOf, readCount, writeCount}
+
+-- ---- counts mean accesses
+
+-- a read at each of the addresses gives the same byte in both memories: they have the same byte at each address's place
+abbrev pub AgreeAt : List ℕ → List ℕ → List ℕ → Type 0
+AgreeAt mem other [] = Unit {0}
+AgreeAt mem other (at ∷ rest) = (byteAt other at ≡ byteAt mem at) × AgreeAt mem other rest
+
+-- a call that is accepted depends on no byte but those that it counts: with any other memory that agrees at their addresses it has the same
+-- answer, machine and writes
+abbrev pub CountsMeanAccesses : Type 0
+CountsMeanAccesses =
+    (c : Call) (mem other : List ℕ) (m : Machine)
+    → Bytes mem → m .regs .pc < 65536 → length other ≡ 65536 → planOf c mem m .answer ≡ Done
+    → AgreeAt mem other (readsOf c mem m) → planOf c other m ≡ planOf c mem m
+
+-- ---- the ceilings
+
+-- of a step
+pub record StepCeilings (mem : List ℕ) (m : Machine) (s : Settings) : Type 0 where
+  pub reads : readCount (step s) mem m ≤ 14
+  pub writes : writeCount (step s) mem m ≤ 12
+  pub together : readCount (step s) mem m + writeCount (step s) mem m ≤ 17
+
+abbrev pub StepsBounded : Type 0
+StepsBounded = (mem : List ℕ) (m : Machine) (s : Settings) → Bytes mem → m .regs .pc < 65536 → StepCeilings mem m s
+
+-- of an interrupt
+abbrev pub InterruptsBounded : Type 0
+InterruptsBounded =
+    (mem : List ℕ) (m : Machine) (s : Settings) (i : InterruptType)
+    → readCount (interrupt s i) mem m + writeCount (interrupt s i) mem m ≤ 15
+
+-- a refused call counts neither
+abbrev pub RefusedCounts : Type 0
+RefusedCounts =
+    (c : Call) (mem : List ℕ) (m : Machine) (x : Refusal)
+    → planOf c mem m .answer ≡ Refused x → (readCount c mem m ≡ 0) × (writeCount c mem m ≡ 0)
