@@ -1,2 +1,5 @@
 pub mod Agreement
 pub mod Decoding
+pub mod Operations
+pub mod Entries
+pub mod Accesses
