@@ -72,7 +72,7 @@ indexedMost Relative16 = 0
 abbrev pub beyond : Mode → ℕ → ℕ
 beyond mode n = cond (isImmediate mode) 0 n
 
-pub fetchedMost : Op → ℕ
+unfoldable pub fetchedMost : Op → ℕ
 fetchedMost (Registers op) = 0
 fetchedMost (Memory (OnMemory op)) = 0
 fetchedMost (Memory (Store8 acc)) = 0
@@ -87,7 +87,7 @@ fetchedMost (Memory Sync) = 0
 fetchedMost (Memory (Push own)) = 0
 fetchedMost (Memory (Pull own)) = 12
 
-pub writtenMost : Op → ℕ
+unfoldable pub writtenMost : Op → ℕ
 writtenMost (Registers op) = 0
 writtenMost (Memory (OnMemory op)) = 1
 writtenMost (Memory (Store8 acc)) = 1

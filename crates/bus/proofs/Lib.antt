@@ -3,3 +3,4 @@ pub mod Decoding
 pub mod Operations
 pub mod Entries
 pub mod Accesses
+pub mod Ceilings
