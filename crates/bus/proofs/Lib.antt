@@ -4,3 +4,4 @@ pub mod Operations
 pub mod Entries
 pub mod Accesses
 pub mod Ceilings
+pub mod Rows

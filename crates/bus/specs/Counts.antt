@@ -17,7 +17,7 @@ use Rattle.machine.specs.declared.Wait.the-variants.{Running, Cwai, Sync}
 use Rattle.vectors.specs.Table.{addressOf}
 use Rattle.vectors.specs.declared.table.Vector.{Vector}
 use Rattle.vectors.specs.declared.table.Vector.the-variants.{Reset}
-use Rattle.calls.specs.Steps.{Reached, At, NotReached, reached}
+use Rattle.calls.specs.Steps.{Reached, At, NotReached, reached, planned}
 use Rattle.calls.specs.Interrupts.{vectorOf, isMasked}
 use Rattle.calls.specs.Calls.{Call, step, interrupt, reset, planOf}
 use Rattle.bus.specs.Reads.{bytesFrom, vectorReads, servedReads, instructionReads}
@@ -55,3 +55,13 @@ readCount c mem m = length (readsOf c mem m)
 -- every byte of the list of writes: stored, ignored or a device's
 abbrev pub writeCount : Call → List ℕ → Machine → ℕ
 writeCount c mem m = length (listed (planOf c mem m .writes))
+
+-- reads and writes of a call
+abbrev pub countsOf : Call → List ℕ → Machine → ℕ × ℕ
+countsOf c mem m = (readCount c mem m, writeCount c mem m)
+
+-- and of a step once an instruction is reached
+abbrev pub countsAt : List ℕ → Machine → Settings → Reached → ℕ × ℕ
+countsAt mem m s a =
+    let p = planned mem m s a in
+    (length (ifAccepted (p .answer) (reachedReads mem s (m .regs) a)), length (listed (p .writes)))

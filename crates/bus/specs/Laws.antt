@@ -10,9 +10,11 @@ use Rattle.memory.specs.Fits.{Bytes}
 use Rattle.memory.specs.Map.{byteAt}
 use Rattle.machine.specs.declared.Machine.{Machine}
 use Rattle.machine.specs.declared.Settings.{Settings}
+use Rattle.machine.specs.declared.Wait.the-variants.{Running}
+use Rattle.calls.specs.Steps.{decodedTo}
 use Rattle.calls.specs.Calls.{Call, step, interrupt, planOf}
 use Rattle.calls.specs.declared.InterruptType.{InterruptType}
-use Rattle.bus.specs.Counts.{readsOf, readCount, writeCount}
+use Rattle.bus.specs.Counts.{readsOf, readCount, writeCount, countsOf, countsAt}
 
 -- ---- counts mean accesses
 
@@ -28,6 +30,12 @@ CountsMeanAccesses =
     (c : Call) (mem other : List ℕ) (m : Machine)
     → Bytes mem → m .regs .pc < 65536 → length other ≡ 65536 → planOf c mem m .answer ≡ Done
     → AgreeAt mem other (readsOf c mem m) → planOf c other m ≡ planOf c mem m
+
+-- a step's counts are those of the instruction that it reaches, for any memory of 65,536 bytes and a machine that runs
+abbrev pub StepCounts : Type 0
+StepCounts =
+    (mem : List ℕ) (m : Machine) (s : Settings) → length mem ≡ 65536 → m .wait ≡ Running
+    → countsOf (step s) mem m ≡ countsAt mem m s (decodedTo mem (m .regs))
 
 -- ---- the ceilings
 

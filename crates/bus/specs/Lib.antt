@@ -1,3 +1,4 @@
 pub mod Reads
 pub mod Counts
 pub mod Laws
+pub mod Rows
