@@ -6,9 +6,8 @@ use mathlib.Core.List.{List, [], _++_}
 use mathlib.Core.Path.{_≡_, refl, sym, ap, subst, _∙_}
 use native.Mathlib.Omega.{arith}
 use borrow.Author.Tests.{eq-eqb, eqb-true, leb-true}
-use lib.Dec.{T, eqb, leb}
+use lib.Dec.{eqb, leb}
 use lib.ListN.{length}
-use Rattle.answers.specs.declared.Answer.{Answer}
 use Rattle.answers.specs.declared.Answer.the-variants.{Done, Refused}
 use Rattle.answers.specs.declared.Refusal.{Refusal}
 use Rattle.answers.specs.declared.Refusal.the-variants.{MemoryLength, PastEnd}
@@ -17,7 +16,6 @@ use Rattle.registers.specs.declared.Set.{Set}
 use Rattle.memory.specs.Fits.{Bytes}
 use Rattle.memory.specs.Map.{wordAt}
 use Rattle.machine.specs.Effect.{changes}
-use Rattle.machine.specs.declared.Effect.{Effect}
 use Rattle.machine.specs.declared.Machine.{Machine}
 use Rattle.machine.specs.declared.Settings.{Settings}
 use Rattle.machine.specs.declared.Wait.{Wait}
@@ -27,8 +25,8 @@ use Rattle.opcodes.specs.declared.Page.{Page}
 use Rattle.opcodes.specs.declared.Place.the-variants.{Instruction as InManual}
 use Rattle.decode.specs.Decode.{decodedAt}
 use Rattle.decode.specs.Laws.{SizedAt, offsetBytesOf, DecodedFits}
-use Rattle.decode.specs.Operand.{operandBytes, operandAt}
-use Rattle.decode.specs.Origin.{Origin, OriginOf}
+use Rattle.decode.specs.Operand.{operandBytes}
+use Rattle.decode.specs.Origin.{OriginOf}
 use Rattle.decode.specs.declared.instruction.Decoded.{Decoded}
 use Rattle.decode.specs.declared.instruction.Decoded.the-variants.{Instruction as Taken, Refused as NotDecoded}
 use Rattle.decode.specs.declared.instruction.Instruction.{Instruction}
@@ -37,30 +35,27 @@ use Rattle.decode.specs.declared.operand.Operand.the-variants.{Inherent as Noth
 use Rattle.decode.proofs.Laws.{decode-fits}
 use Rattle.decode.proofs.Origin.{decode-origin}
 use Rattle.decode.proofs.Sizes.{entry-sizes}
-use Rattle.addressing.specs.Address.{effectiveOf, advanced, resolvedOf}
-use Rattle.addressing.specs.declared.Addressed.{Addressed}
+use Rattle.addressing.specs.Address.{effectiveOf, resolvedOf}
 use Rattle.addressing.specs.declared.Resolved.{Resolved}
 use Rattle.addressing.specs.declared.Resolved.the-variants.{At as AtAddressed, Refused as NoAddress}
 use Rattle.stack.specs.Frames.{framed}
 use Rattle.vectors.specs.Table.{addressOf, isEntire}
 use Rattle.vectors.specs.declared.table.Vector.{Vector}
 use Rattle.vectors.specs.declared.table.Vector.the-variants.{Reset}
-use Rattle.evaluate.specs.Evaluate.{evaluateOf}
-use Rattle.calls.specs.Cycles.{cyclesOf}
 use Rattle.calls.specs.Plans.{refusedWith, accepted, withRegisters}
-use Rattle.calls.specs.Steps.{Reached, At, NotReached, addressed, ofDecoded, decodedTo, unlessWaiting, reached, finished, planned, stepPlan}
+use Rattle.calls.specs.Steps.{Reached, At, NotReached, addressed, ofDecoded, decodedTo, unlessWaiting, reached, planned, stepPlan}
 use Rattle.calls.specs.Interrupts.{vectorOf, isMasked, taken, afterMasked, takenBy, interruptPlan}
 use Rattle.calls.specs.Resets.{resetTo, resetPlan}
 use Rattle.calls.specs.Calls.{Call, step, interrupt, reset, planOf}
 use Rattle.calls.specs.declared.InterruptType.{InterruptType}
 use Rattle.calls.specs.declared.Plan.{Plan}
 use Rattle.bus.specs.Reads.{programReads, pointerReads, operandTaken, operandReads, fetchedBy, instructionReads, bytesFrom}
-use Rattle.bus.specs.Counts.{reachedReads, takenReads, readsBy, ifAccepted, readsOf}
+use Rattle.bus.specs.Counts.{reachedReads, takenReads, readsBy, readsOf}
 use Rattle.bus.specs.Laws.{AgreeAt, CountsMeanAccesses}
 use Rattle.bus.proofs.Agreement.{Same, agree-left, agree-right, agree-within, within-agree, word-agrees}
 use Rattle.bus.proofs.Decoding.{decode-agrees, resolve-agrees}
-use Rattle.bus.proofs.Operations.{Alike, operation-agrees, cycles-agree, vector-agrees}
-use Rattle.bus.proofs.Entries.{isImmediate, EntrySo, PlaceSo, OperandSo, ReadSo, each-entry, operand-so}
+use Rattle.bus.proofs.Operations.{Alike, operation-agrees, cycles-agree, vector-agrees, vector-reads-agree}
+use Rattle.bus.proofs.Entries.{EntrySo, PlaceSo, OperandSo, ReadSo, each-entry, operand-so}
 
 -- a refusal is no 0
 not-done : {A : Type 0} {x : Refusal} → Refused x ≡ Done → A
@@ -185,11 +180,17 @@ module _ (mem other : List ℕ) (m : Machine) (b : Bytes mem) (p : m .regs .pc <
         → Alike mem other s r ea (i .entry .op)
     operation h s j k = operation-agrees mem other s r ea (l ∙ sym (c .sized)) (i .entry .op) (operand-bytes h j) k
 
-  step-agrees : (s : Settings) → stepPlan mem m s .answer ≡ Done → AgreeAt mem other (reachedReads mem s (m .regs) (reached mem m)) → stepPlan other m s ≡ stepPlan mem m s
+  -- what two calls have in common, before the counts' test of the answer
+  record Both (c : Call) : Type 0 where
+    plan : planOf c other m ≡ planOf c mem m
+    reads : readsBy c other m ≡ readsBy c mem m
+
+  step-agrees : (s : Settings) → stepPlan mem m s .answer ≡ Done → AgreeAt mem other (readsBy (step s) mem m) → Both (step s)
   unfolding stepPlan instructionReads
-  step-agrees s d h = go (reached mem m) refl d h
+  step-agrees s d h = let (e, f) = go (reached mem m) refl d h in record { plan = e; reads = f }
     where
-      go : (a : Reached) → reached mem m ≡ a → planned mem m s a .answer ≡ Done → AgreeAt mem other (reachedReads mem s (m .regs) a) → planned other m s (reached other m) ≡ planned mem m s a
+      go : (a : Reached) → reached mem m ≡ a → planned mem m s a .answer ≡ Done → AgreeAt mem other (reachedReads mem s (m .regs) a)
+          → (planned other m s (reached other m) ≡ planned mem m s a) × (reachedReads other s (m .regs) (reached other m) ≡ reachedReads mem s (m .regs) a)
       go (At i r ea) e q k =
           let c = came mem m i r ea e in
           let pr = programReads (m .regs .pc) (i .next) in
@@ -200,42 +201,60 @@ module _ (mem other : List ℕ) (m : Machine) (b : Bytes mem) (p : m .regs .pc <
           let k2 = agree-right mem other pr (po ++ (op ++ fe)) k in
           let k3 = agree-right mem other po (op ++ fe) k2 in
           let o = operation i r ea c k1 s (agree-left mem other op fe k3) (agree-right mem other op fe k3) in
-          rw (same-reached i r ea c k1 (agree-left mem other po (op ++ fe) k2), cycles-agree mem other s r ea i o, o .effect)
+          let z = same-reached i r ea c k1 (agree-left mem other po (op ++ fe) k2) in
+          (rw (z, cycles-agree mem other s r ea i o, o .effect), rw (z, o .fetched))
       go (NotReached x) e q k = not-done q
 
   -- ---- interrupts and reset
 
-  taken-agrees : length mem ≡ 65536 → (s : Settings) (v : Vector) (w : Wait) → AgreeAt mem other (takenReads w mem s (m .regs) v) → taken w other s (m .regs) v ≡ taken w mem s (m .regs) v
-  taken-agrees z s v Running h = vector-agrees mem other s (m .regs) (framed (m .regs) (isEntire v)) v (l ∙ sym z) h
-  taken-agrees z s v Sync h = vector-agrees mem other s (m .regs) (framed (m .regs) (isEntire v)) v (l ∙ sym z) h
-  taken-agrees z s v Cwai h = vector-agrees mem other s (m .regs) (changes (m .regs)) v (l ∙ sym z) h
+  module _ (z : length mem ≡ 65536) (s : Settings) (v : Vector) where
+    taken-agrees : (w : Wait) → AgreeAt mem other (takenReads w mem s (m .regs) v) → taken w other s (m .regs) v ≡ taken w mem s (m .regs) v
+    taken-agrees Running h = vector-agrees mem other s (m .regs) (framed (m .regs) (isEntire v)) v (l ∙ sym z) h
+    taken-agrees Sync h = vector-agrees mem other s (m .regs) (framed (m .regs) (isEntire v)) v (l ∙ sym z) h
+    taken-agrees Cwai h = vector-agrees mem other s (m .regs) (changes (m .regs)) v (l ∙ sym z) h
 
-  interrupt-agrees : (s : Settings) (i : InterruptType) → interruptPlan mem m s i .answer ≡ Done → AgreeAt mem other (readsBy (interrupt s i) mem m) → interruptPlan other m s i ≡ interruptPlan mem m s i
+    taken-reads-agree : (w : Wait) → AgreeAt mem other (takenReads w mem s (m .regs) v) → takenReads w other s (m .regs) v ≡ takenReads w mem s (m .regs) v
+    taken-reads-agree Running h = vector-reads-agree mem other s (framed (m .regs) (isEntire v)) v (l ∙ sym z) h
+    taken-reads-agree Sync h = vector-reads-agree mem other s (framed (m .regs) (isEntire v)) v (l ∙ sym z) h
+    taken-reads-agree Cwai h = vector-reads-agree mem other s (changes (m .regs)) v (l ∙ sym z) h
+
+  interrupt-agrees : (s : Settings) (i : InterruptType) → interruptPlan mem m s i .answer ≡ Done → AgreeAt mem other (readsBy (interrupt s i) mem m) → Both (interrupt s i)
   unfolding interruptPlan
-  interrupt-agrees s i d h = rw (eq-eqb (length other) 65536 l) (go (eqb (length mem) 65536) refl (isMasked i (m .regs .cc)) refl d h)
+  interrupt-agrees s i d h =
+      let (e, f) = go (eqb (length mem) 65536) refl (isMasked i (m .regs .cc)) d h in
+      record { plan = rw (eq-eqb (length other) 65536 l) e; reads = f }
     where
-      still : Plan
-      still = accepted (withRegisters m (m .regs) (afterMasked (m .wait)))
-
-      go : (t : Bool) → eqb (length mem) 65536 ≡ t → (u : Bool) → isMasked i (m .regs .cc) ≡ u
+      go : (t : Bool) → eqb (length mem) 65536 ≡ t → (u : Bool)
           → cond t (cond u (accepted (withRegisters m (m .regs) (afterMasked (m .wait)))) (takenBy m (taken (m .wait) mem s (m .regs) (vectorOf i)))) (refusedWith m MemoryLength) .answer ≡ Done
           → AgreeAt mem other (cond u [] (takenReads (m .wait) mem s (m .regs) (vectorOf i)))
-          → cond u (accepted (withRegisters m (m .regs) (afterMasked (m .wait)))) (takenBy m (taken (m .wait) other s (m .regs) (vectorOf i)))
-          ≡ cond t (cond u (accepted (withRegisters m (m .regs) (afterMasked (m .wait)))) (takenBy m (taken (m .wait) mem s (m .regs) (vectorOf i)))) (refusedWith m MemoryLength)
-      go true e true f q k = refl
-      go true e false f q k = ap (takenBy m) (taken-agrees (eqb-true (length mem) 65536 e) s (vectorOf i) (m .wait) k)
-      go false e u f q k = not-done q
+          → (cond u (accepted (withRegisters m (m .regs) (afterMasked (m .wait)))) (takenBy m (taken (m .wait) other s (m .regs) (vectorOf i)))
+          ≡ cond t (cond u (accepted (withRegisters m (m .regs) (afterMasked (m .wait)))) (takenBy m (taken (m .wait) mem s (m .regs) (vectorOf i)))) (refusedWith m MemoryLength))
+          × (cond u [] (takenReads (m .wait) other s (m .regs) (vectorOf i)) ≡ cond u [] (takenReads (m .wait) mem s (m .regs) (vectorOf i)))
+      go true e true q k = (refl, refl)
+      go true e false q k =
+          let z = eqb-true (length mem) 65536 e in
+          (ap (takenBy m) (taken-agrees z s (vectorOf i) (m .wait) k), taken-reads-agree z s (vectorOf i) (m .wait) k)
+      go false e u q k = not-done q
 
-  reset-agrees : resetPlan mem m .answer ≡ Done → AgreeAt mem other (bytesFrom (addressOf Reset) 2) → resetPlan other m ≡ resetPlan mem m
+  reset-agrees : (s : Settings) → resetPlan mem m .answer ≡ Done → AgreeAt mem other (readsBy (reset s) mem m) → Both (reset s)
   unfolding resetPlan
-  reset-agrees d h = rw (eq-eqb (length other) 65536 l) (go (eqb (length mem) 65536) d)
+  reset-agrees s d h = record { plan = rw (eq-eqb (length other) 65536 l) (go (eqb (length mem) 65536) d); reads = refl }
     where
       go : (t : Bool) → cond t (resetTo m (wordAt mem (addressOf Reset))) (refusedWith m MemoryLength) .answer ≡ Done
           → resetTo m (wordAt other (addressOf Reset)) ≡ cond t (resetTo m (wordAt mem (addressOf Reset))) (refusedWith m MemoryLength)
       go true q = ap (resetTo m) (word-agrees mem other (addressOf Reset) h)
       go false q = not-done q
 
+  -- ---- each call
+
+  call-agrees : (c : Call) → planOf c mem m .answer ≡ Done → AgreeAt mem other (readsBy c mem m) → Both c
+  call-agrees (step t) = step-agrees t
+  call-agrees (interrupt t i) = interrupt-agrees t i
+  call-agrees (reset t) = reset-agrees t
+
 pub counts-mean-accesses : CountsMeanAccesses
-counts-mean-accesses (step t) mem other m b p l d h = step-agrees mem other m b p l t d (rw (accepted-reads (step t) mem m d) at h)
-counts-mean-accesses (interrupt t i) mem other m b p l d h = interrupt-agrees mem other m b p l t i d (rw (accepted-reads (interrupt t i) mem m d) at h)
-counts-mean-accesses (reset t) mem other m b p l d h = reset-agrees mem other m b p l d (rw (accepted-reads (reset t) mem m d) at h)
+counts-mean-accesses c mem other m b p l d h =
+    let e = accepted-reads c mem m d in
+    let k = call-agrees mem other m b p l c d (rw e at h) in
+    let q : planOf c other m .answer ≡ Done = ap (λ (p : Plan). p .answer) (k .plan) ∙ d in
+    record { plan = k .plan; reads = accepted-reads c other m q ∙ (k .reads ∙ sym e) }

@@ -3,7 +3,7 @@
 use Prim.Native.Nat.{ℕ, _+_, _-_, _≤_, _<_}
 use mathlib.Core.Bool.{Bool, true, false, cond}
 use mathlib.Core.List.{List, [], _++_}
-use mathlib.Core.Path.{_≡_, refl, sym, ap, subst, _∙_}
+use mathlib.Core.Path.{_≡_, refl, ap, _∙_}
 use native.Mathlib.Omega.{arith}
 use lib.Dec.{eqb, lit≤}
 use lib.ListN.{length, length-append}
@@ -18,8 +18,7 @@ use Rattle.registers.specs.declared.CCBit.the-variants.{E}
 use Rattle.registers.specs.declared.Set.{Set}
 use Rattle.memory.specs.Fits.{Bytes}
 use Rattle.memory.specs.Map.{byteAt, wordAt}
-use Rattle.memory.specs.Writes.{writesOf, listed, stored}
-use Rattle.memory.specs.declared.writes.Writes.{Writes}
+use Rattle.memory.specs.Writes.{listed, stored}
 use Rattle.memory.proofs.Folds.{listed-back}
 use Rattle.machine.specs.Effect.{changes}
 use Rattle.machine.specs.declared.Effect.{Effect}
@@ -27,11 +26,9 @@ use Rattle.machine.specs.declared.Machine.{Machine}
 use Rattle.machine.specs.declared.Settings.{Settings}
 use Rattle.machine.specs.declared.Wait.{Wait}
 use Rattle.machine.specs.declared.Wait.the-variants.{Running, Cwai as InCwai, Sync as InSync}
-use Rattle.opcodes.specs.declared.MemoryOp.{MemoryOp}
 use Rattle.opcodes.specs.declared.MemoryOp.the-variants.{OnMemory, Store8, Store16, Bsr, Jsr, Rts, Rti, Swi, Cwai, Sync, Push, Pull}
 use Rattle.opcodes.specs.declared.Op.{Op}
 use Rattle.opcodes.specs.declared.Op.the-variants.{Registers, Memory}
-use Rattle.decode.specs.Laws.{offsetBytesOf}
 use Rattle.decode.specs.declared.instruction.Instruction.{Instruction}
 use Rattle.stack.specs.Frames.{stackedBy, framed}
 use Rattle.stack.specs.Pushing.{bytesPushed}
@@ -40,8 +37,8 @@ use Rattle.vectors.specs.Table.{addressOf, isEntire, softwareVector}
 use Rattle.vectors.specs.declared.table.Vector.{Vector}
 use Rattle.vectors.specs.declared.table.Vector.the-variants.{Reset}
 use Rattle.evaluate.specs.Evaluate.{evaluateOf}
-use Rattle.evaluate.specs.Writes.{madeBy, bytesMade, frameWrites}
-use Rattle.evaluate.proofs.Writes.{no-write-lost, no-frame-lost}
+use Rattle.evaluate.specs.Writes.{bytesMade}
+use Rattle.evaluate.proofs.Writes.{no-write-lost}
 use Rattle.calls.specs.Cycles.{cyclesOf}
 use Rattle.calls.specs.Plans.{refusedWith, accepted, withRegisters}
 use Rattle.calls.specs.Steps.{Reached, At, NotReached, reached, finishedAs, finished, planned, stepPlan}
@@ -50,11 +47,11 @@ use Rattle.calls.specs.Resets.{resetTo, resetPlan}
 use Rattle.calls.specs.Calls.{Call, step, interrupt, reset, planOf}
 use Rattle.calls.specs.declared.InterruptType.{InterruptType}
 use Rattle.calls.specs.declared.Plan.{Plan}
-use Rattle.calls.proofs.Laws.{refused-call, few-writes}
+use Rattle.calls.proofs.Laws.{few-writes}
 use Rattle.bus.specs.Reads.{bytesFrom, programReads, pointerReads, operandTaken, operandReads, vectorReads, fetchedBy, instructionReads}
-use Rattle.bus.specs.Counts.{reachedReads, takenReads, readsBy, ifAccepted, readsOf, readCount, writeCount}
-use Rattle.bus.specs.Laws.{StepCeilings, StepsBounded, InterruptsBounded, RefusedCounts}
-use Rattle.bus.proofs.Accesses.{Came, came, Known, known, accepted-reads}
+use Rattle.bus.specs.Counts.{reachedReads, takenReads, ifAccepted, readsOf, readCount, writeCount}
+use Rattle.bus.specs.Laws.{StepsBounded, InterruptsBounded, RefusedCounts}
+use Rattle.bus.proofs.Accesses.{Came, came, known}
 use Rattle.bus.proofs.Entries.{length-bytes, fetchedMost, writtenMost, readMost}
 
 -- ---- the most that an operation reads besides its operand, and that it writes
@@ -170,8 +167,17 @@ module _ (mem : List ℕ) (m : Machine) (s : Settings) (b : Bytes mem) (p : m .r
       let po = pointerReads (i .operand) (m .regs) (i .next) in
       let op = operandReads (i .operand) (operandTaken (i .entry .op)) ea in
       let fe = fetchedBy (i .entry .op) mem s r ea in
-      omega (arith, length-append pr (po ++ (op ++ fe)), length-append po (op ++ fe), length-append op fe, length-bytes (i .next - m .regs .pc) (m .regs .pc),
-          k .length, k .operand .indexed (m .regs) (i .next), k .operand .taken (operandTaken (i .entry .op)) ea, fetched-most mem s r ea (i .entry .op))
+      omega (
+        arith,
+        length-append pr (po ++ (op ++ fe)),
+        length-append po (op ++ fe),
+        length-append op fe,
+        length-bytes (i .next - m .regs .pc) (m .regs .pc),
+        k .length,
+        k .operand .indexed (m .regs) (i .next),
+        k .operand .taken (operandTaken (i .entry .op)) ea,
+        fetched-most mem s r ea (i .entry .op),
+      )
 
   finished-within : (i : Instruction) (r : Set) (ea : ℕ) → Came mem m i r ea → (a : Answer) → evaluateOf (i .entry .op) s mem r ea .answer ≡ a
       → Within (length (ifAccepted (finishedAs a m (cyclesOf i mem r ea) (evaluateOf (i .entry .op) s mem r ea) .answer) (instructionReads i mem s (m .regs) r ea)))

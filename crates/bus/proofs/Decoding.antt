@@ -1,6 +1,6 @@
 -- Decoding and the address: two memories that agree at the program's bytes decode to the same instruction, and with the pointer's to the same address.
 -- Assumes nothing.
-use Prim.Native.Nat.{ℕ, zero, suc, _+_, _*_, _-_, _%_, _≤_, _<_}
+use Prim.Native.Nat.{ℕ, zero, suc, _+_, _%_, _≤_, _<_}
 use mathlib.Core.Bool.{Bool, true, false, cond}
 use mathlib.Core.List.{List, []}
 use mathlib.Core.Path.{_≡_, refl, sym, ap, subst, _∙_}
@@ -9,12 +9,9 @@ use native.Mathlib.Omega.{arith}
 use borrow.Author.Tests.{lt-ltb, le-ltb}
 use lib.Dec.{eqb, leb}
 use lib.ListN.{length}
-use Rattle.answers.specs.declared.Refusal.the-variants.{MemoryLength, PastEnd}
+use Rattle.answers.specs.declared.Refusal.the-variants.{PastEnd}
 use Rattle.registers.specs.declared.Set.{Set}
 use Rattle.memory.specs.Map.{byteAt, lowAt}
-use Rattle.machine.specs.declared.Machine.{Machine}
-use Rattle.machine.specs.declared.Wait.{Wait}
-use Rattle.machine.specs.declared.Wait.the-variants.{Running, Cwai, Sync}
 use Rattle.opcodes.specs.Manual.{entryOf}
 use Rattle.opcodes.specs.declared.Entry.{Entry}
 use Rattle.opcodes.specs.declared.Mode.{Mode}
@@ -27,7 +24,6 @@ use Rattle.decode.specs.Decode.{secondByte, located, withOperand, decodedAs, fr
 use Rattle.decode.specs.Laws.{offsetBytesOf}
 use Rattle.decode.specs.Operand.{operandNumber, reading, withForm, afterPostByte, operandBytes, operandOf, operandAt}
 use Rattle.decode.specs.PostByte.{isIndirect, formOf, offsetBytes}
-use Rattle.decode.specs.declared.instruction.Decoded.{Decoded}
 use Rattle.decode.specs.declared.instruction.Decoded.the-variants.{Instruction as Taken, Refused as NotDecoded}
 use Rattle.decode.specs.declared.instruction.Instruction.{Instruction}
 use Rattle.decode.specs.declared.operand.Operand.{Operand}

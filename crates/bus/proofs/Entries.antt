@@ -14,7 +14,6 @@ use Rattle.memory.specs.Map.{byteAt, lowAt}
 use Rattle.opcodes.specs.Manual.{entryOf}
 use Rattle.opcodes.specs.Rows.{values}
 use Rattle.opcodes.specs.declared.Entry.{Entry}
-use Rattle.opcodes.specs.declared.MemoryOp.{MemoryOp}
 use Rattle.opcodes.specs.declared.MemoryOp.the-variants.{OnMemory, Store8, Store16, Bsr, Jsr, Rts, Rti, Swi, Cwai, Sync, Push, Pull}
 use Rattle.opcodes.specs.declared.Mode.{Mode}
 use Rattle.opcodes.specs.declared.Mode.the-variants.{Inherent, Immediate8, Immediate16, Direct, Indexed, Extended, Relative8, Relative16}

@@ -1,22 +1,22 @@
 -- An operation depends on its operand, on the bytes that it pulls and on its vector alone: by families, a clause for each operation.
 -- Assumes nothing.
-use Prim.Native.Nat.{ℕ, zero, suc, _+_, _%_}
+use Prim.Native.Nat.{ℕ, suc, _+_, _%_}
 use mathlib.Core.Bool.{Bool, true, false, cond}
-use mathlib.Core.List.{List, [], _∷_, _++_, reverse}
-use mathlib.Core.Path.{_≡_, refl, sym, ap, _∙_}
+use mathlib.Core.List.{List, [], _∷_, reverse}
+use mathlib.Core.Path.{_≡_, refl, ap, _∙_}
 use native.Mathlib.Omega.{arith}
 use lib.Dec.{eqb}
 use lib.ListN.{length}
 use Rattle.registers.specs.ConditionCodes.{bitAt, coded, flag}
 use Rattle.registers.specs.Names.{registerSize, stackWord}
-use Rattle.registers.specs.RegisterSet.{wordOf, written}
+use Rattle.registers.specs.RegisterSet.{wordOf}
 use Rattle.registers.specs.declared.CCBit.the-variants.{E}
 use Rattle.registers.specs.declared.Name.{Name}
 use Rattle.registers.specs.declared.Name.the-variants.{A, B, D, X, Y, U, S, PC, DP, CC}
 use Rattle.registers.specs.declared.Set.{Set}
 use Rattle.registers.specs.declared.Stack.{Stack}
 use Rattle.registers.specs.declared.Stack.the-variants.{S as onS, U as onU}
-use Rattle.memory.specs.Map.{byteAt, lowAt, wordAt, valueAt}
+use Rattle.memory.specs.Map.{byteAt, wordAt, valueAt}
 use Rattle.memory.specs.Writes.{listed, stored}
 use Rattle.machine.specs.declared.Effect.{Effect}
 use Rattle.machine.specs.declared.Settings.{Settings}
@@ -31,16 +31,15 @@ use Rattle.decode.specs.declared.instruction.Instruction.{Instruction}
 use Rattle.operations.specs.Change.{changedOf}
 use Rattle.operations.specs.EightBit.{onMemory}
 use Rattle.operations.specs.Words.{load16, compare16, addD, subtractD}
-use Rattle.operations.specs.declared.Changed.{Changed}
-use Rattle.stack.specs.Frames.{stackedBy}
+use Rattle.stack.specs.Frames.{stackedBy, framed}
 use Rattle.stack.specs.Pulling.{pulledTo, pulls, pulled, returnedFromInterrupt}
 use Rattle.stack.specs.Pushing.{order, chosen, bytesPushed}
 use Rattle.stack.proofs.Filling.{size, named-size}
 use Rattle.vectors.specs.Service.{vectored}
-use Rattle.vectors.specs.Table.{addressOf}
+use Rattle.vectors.specs.Table.{addressOf, isEntire, softwareVector}
 use Rattle.vectors.specs.declared.table.Vector.{Vector}
 use Rattle.evaluate.specs.Evaluate.{effectOf, evaluateOf}
-use Rattle.calls.specs.Cycles.{memoryExtra, operationExtra, operandExtra, cyclesOf}
+use Rattle.calls.specs.Cycles.{operationExtra, operandExtra, cyclesOf}
 use Rattle.bus.specs.Reads.{bytesFrom, operandTaken, vectorReads, fetchedBy}
 use Rattle.bus.specs.Laws.{AgreeAt}
 use Rattle.bus.proofs.Agreement.{agree-left, agree-right, byte-agrees, word-agrees, stored-agrees, stored-word-agrees}
@@ -138,8 +137,16 @@ module _ (mem other : List ℕ) where
       let top = s .«ram_top» in
       let ws = listed (frame .writes) in
       let pc = wordAt (stored top ws mem) (addressOf v) in
-      rw (stored-word-agrees mem other top ws l (addressOf v) (agree-left mem other (bytesFrom (addressOf v) 2) (bytesFrom pc 1) h),
-          stored-agrees mem other top ws l pc (byte-agrees mem other pc (agree-right mem other (bytesFrom (addressOf v) 2) (bytesFrom pc 1) h)))
+      rw (
+        stored-word-agrees mem other top ws l (addressOf v) (agree-left mem other (bytesFrom (addressOf v) 2) (bytesFrom pc 1) h),
+        stored-agrees mem other top ws l pc (byte-agrees mem other pc (agree-right mem other (bytesFrom (addressOf v) 2) (bytesFrom pc 1) h)),
+      )
+
+  pub vector-reads-agree : (s : Settings) (frame : Effect) (v : Vector) → length other ≡ length mem → AgreeAt mem other (vectorReads mem s frame v) → vectorReads other s frame v ≡ vectorReads mem s frame v
+  vector-reads-agree s frame v l h =
+      let ws = listed (frame .writes) in
+      let pc = wordAt (stored (s .«ram_top») ws mem) (addressOf v) in
+      rw (stored-word-agrees mem other (s .«ram_top») ws l (addressOf v) (agree-left mem other (bytesFrom (addressOf v) 2) (bytesFrom pc 1) h))
 
   -- ---- every operation
 
@@ -167,34 +174,39 @@ module _ (mem other : List ℕ) where
     change-agrees Exg h = rw (byte-agrees mem other ea h)
     change-agrees Tfr h = rw (byte-agrees mem other ea h)
 
-    -- the operation and its cycles
+    -- the operation, its cycles and what it reads besides its operand
     pub record Alike (op : Op) : Type 0 where
       pub effect : evaluateOf op s other r ea ≡ evaluateOf op s mem r ea
       pub extra : (mode : Mode) → operationExtra op mode other r ea ≡ operationExtra op mode mem r ea
+      pub fetched : fetchedBy op other s r ea ≡ fetchedBy op mem s r ea
 
     memory-agrees : length other ≡ length mem → (op : MemoryOp) → AgreeAt mem other (bytesFrom ea (operandTaken (Memory op))) → AgreeAt mem other (fetchedBy (Memory op) mem s r ea) → Alike (Memory op)
     unfolding onMemory
-    memory-agrees l (OnMemory op) h k = record { effect = rw (byte-agrees mem other ea h); extra = λ mode. refl }
-    memory-agrees l (Store8 acc) h k = record { effect = refl; extra = λ mode. refl }
-    memory-agrees l (Store16 word) h k = record { effect = refl; extra = λ mode. refl }
-    memory-agrees l Bsr h k = record { effect = refl; extra = λ mode. refl }
-    memory-agrees l Jsr h k = record { effect = refl; extra = λ mode. refl }
-    memory-agrees l Rts h k = record { effect = rw (pull-agrees r onS 0x80 k); extra = λ mode. refl }
+    memory-agrees l (OnMemory op) h k = record { effect = rw (byte-agrees mem other ea h); extra = λ mode. refl; fetched = refl }
+    memory-agrees l (Store8 acc) h k = record { effect = refl; extra = λ mode. refl; fetched = refl }
+    memory-agrees l (Store16 word) h k = record { effect = refl; extra = λ mode. refl; fetched = refl }
+    memory-agrees l Bsr h k = record { effect = refl; extra = λ mode. refl; fetched = refl }
+    memory-agrees l Jsr h k = record { effect = refl; extra = λ mode. refl; fetched = refl }
+    memory-agrees l Rts h k = record { effect = rw (pull-agrees r onS 0x80 k); extra = λ mode. refl; fetched = refl }
     memory-agrees l Rti h k = record {
       effect = rw (return-agrees r k);
       extra = λ mode. rw (codes-agree (r .s) (flag E (coded (byteAt mem (r .s)))) k);
+      fetched = rw (codes-agree (r .s) (flag E (coded (byteAt mem (r .s)))) k);
     }
-    memory-agrees l (Swi which) h k = record { effect = vector-agrees s r _ _ l k; extra = λ mode. refl }
-    memory-agrees l Cwai h k = record { effect = rw (byte-agrees mem other ea h); extra = λ mode. refl }
-    memory-agrees l Sync h k = record { effect = refl; extra = λ mode. refl }
-    memory-agrees l (Push own) h k = record { effect = rw (byte-agrees mem other ea h); extra = λ mode. rw (byte-agrees mem other ea h) }
+    memory-agrees l (Swi which) h k =
+        let v = softwareVector which in
+        record { effect = vector-agrees s r (framed r (isEntire v)) v l k; extra = λ mode. refl; fetched = vector-reads-agree s (framed r (isEntire v)) v l k }
+    memory-agrees l Cwai h k = record { effect = rw (byte-agrees mem other ea h); extra = λ mode. refl; fetched = refl }
+    memory-agrees l Sync h k = record { effect = refl; extra = λ mode. refl; fetched = refl }
+    memory-agrees l (Push own) h k = record { effect = rw (byte-agrees mem other ea h); extra = λ mode. rw (byte-agrees mem other ea h); fetched = refl }
     memory-agrees l (Pull own) h k = record {
       effect = rw (byte-agrees mem other ea h) (rw (pull-agrees r own (byteAt mem ea) k));
       extra = λ mode. rw (byte-agrees mem other ea h);
+      fetched = rw (byte-agrees mem other ea h);
     }
 
     pub operation-agrees : length other ≡ length mem → (op : Op) → AgreeAt mem other (bytesFrom ea (operandTaken op)) → AgreeAt mem other (fetchedBy op mem s r ea) → Alike op
-    operation-agrees l (Registers op) h k = record { effect = ap (effectOf r) (change-agrees op h); extra = λ mode. refl }
+    operation-agrees l (Registers op) h k = record { effect = ap (effectOf r) (change-agrees op h); extra = λ mode. refl; fetched = refl }
     operation-agrees l (Memory op) h k = memory-agrees l op h k
 
     pub cycles-agree : (i : Instruction) → Alike (i .entry .op) → cyclesOf i other r ea ≡ cyclesOf i mem r ea

@@ -3,7 +3,7 @@
 use mathlib.Core.Path.{refl}
 use borrow.Author.Tests.{eq-eqb}
 use lib.ListN.{length}
-use Rattle.registers.specs.ConditionCodes.{bitAt, coded}
+use Rattle.registers.specs.ConditionCodes.{bitAt}
 use Rattle.memory.specs.Map.{placeOf, byteAt, wordAt, valueAt, landingOf}
 use Rattle.memory.specs.Writes.{stored, twelve, added}
 use Rattle.opcodes.specs.Manual.{entryOf}

@@ -23,13 +23,17 @@ abbrev pub AgreeAt : List ℕ → List ℕ → List ℕ → Type 0
 AgreeAt mem other [] = Unit {0}
 AgreeAt mem other (at ∷ rest) = (byteAt other at ≡ byteAt mem at) × AgreeAt mem other rest
 
--- a call that is accepted depends on no byte but those that it counts: with any other memory that agrees at their addresses it has the same
--- answer, machine and writes
+-- the call does the same on both memories: answer, machine and writes, and the addresses that it reads
+pub record SameCall (c : Call) (mem other : List ℕ) (m : Machine) : Type 0 where
+  pub plan : planOf c other m ≡ planOf c mem m
+  pub reads : readsOf c other m ≡ readsOf c mem m
+
+-- a call that is accepted depends on no byte but those that it counts: on any other memory that agrees at their addresses it does the same
 abbrev pub CountsMeanAccesses : Type 0
 CountsMeanAccesses =
     (c : Call) (mem other : List ℕ) (m : Machine)
     → Bytes mem → m .regs .pc < 65536 → length other ≡ 65536 → planOf c mem m .answer ≡ Done
-    → AgreeAt mem other (readsOf c mem m) → planOf c other m ≡ planOf c mem m
+    → AgreeAt mem other (readsOf c mem m) → SameCall c mem other m
 
 -- a step's counts are those of the instruction that it reaches, for any memory of 65,536 bytes and a machine that runs
 abbrev pub StepCounts : Type 0
