@@ -16,6 +16,7 @@ use Rattle.registers.specs.declared.Set.{Set}
 use Rattle.memory.specs.Fits.{Bytes}
 use Rattle.memory.specs.Map.{wordAt}
 use Rattle.machine.specs.Effect.{changes}
+use Rattle.machine.specs.Machine.{withRegisters}
 use Rattle.machine.specs.declared.Machine.{Machine}
 use Rattle.machine.specs.declared.Settings.{Settings}
 use Rattle.machine.specs.declared.Wait.{Wait}
@@ -42,9 +43,9 @@ use Rattle.stack.specs.Frames.{framed}
 use Rattle.vectors.specs.Table.{addressOf, isEntire}
 use Rattle.vectors.specs.declared.table.Vector.{Vector}
 use Rattle.vectors.specs.declared.table.Vector.the-variants.{Reset}
-use Rattle.calls.specs.Plans.{refusedWith, accepted, withRegisters}
+use Rattle.calls.specs.Plans.{refusedWith, accepted}
 use Rattle.calls.specs.Steps.{Reached, At, NotReached, addressed, ofDecoded, decodedTo, unlessWaiting, reached, planned, stepPlan}
-use Rattle.calls.specs.Interrupts.{vectorOf, isMasked, taken, afterMasked, takenBy, interruptPlan}
+use Rattle.calls.specs.Interrupts.{vectorOf, isHeldOff, taken, afterHeldOff, takenBy, interruptPlan}
 use Rattle.calls.specs.Resets.{resetTo, resetPlan}
 use Rattle.calls.specs.Calls.{Call, step, interrupt, reset, planOf}
 use Rattle.calls.specs.declared.InterruptType.{InterruptType}
@@ -202,7 +203,7 @@ module _ (mem other : List ℕ) (m : Machine) (b : Bytes mem) (p : m .regs .pc <
           let k3 = agree-right mem other po (op ++ fe) k2 in
           let o = operation i r ea c k1 s (agree-left mem other op fe k3) (agree-right mem other op fe k3) in
           let z = same-reached i r ea c k1 (agree-left mem other po (op ++ fe) k2) in
-          (rw (z, cycles-agree mem other s r ea i o, o .effect), rw (z, o .fetched))
+          (rw (z, cycles-agree mem other s r ea i o, o .arming, o .effect), rw (z, o .fetched))
       go (NotReached x) e q k = not-done q
 
   -- ---- interrupts and reset
@@ -221,14 +222,14 @@ module _ (mem other : List ℕ) (m : Machine) (b : Bytes mem) (p : m .regs .pc <
   interrupt-agrees : (s : Settings) (i : InterruptType) → interruptPlan mem m s i .answer ≡ Done → AgreeAt mem other (readsBy (interrupt s i) mem m) → Both (interrupt s i)
   unfolding interruptPlan
   interrupt-agrees s i d h =
-      let (e, f) = go (eqb (length mem) 65536) refl (isMasked i (m .regs .cc)) d h in
+      let (e, f) = go (eqb (length mem) 65536) refl (isHeldOff i m) d h in
       record { plan = rw (eq-eqb (length other) 65536 l) e; reads = f }
     where
       go : (t : Bool) → eqb (length mem) 65536 ≡ t → (u : Bool)
-          → cond t (cond u (accepted (withRegisters m (m .regs) (afterMasked (m .wait)))) (takenBy m (taken (m .wait) mem s (m .regs) (vectorOf i)))) (refusedWith m MemoryLength) .answer ≡ Done
+          → cond t (cond u (accepted (withRegisters m (m .regs) (afterHeldOff (m .wait)))) (takenBy m (taken (m .wait) mem s (m .regs) (vectorOf i)))) (refusedWith m MemoryLength) .answer ≡ Done
           → AgreeAt mem other (cond u [] (takenReads (m .wait) mem s (m .regs) (vectorOf i)))
-          → (cond u (accepted (withRegisters m (m .regs) (afterMasked (m .wait)))) (takenBy m (taken (m .wait) other s (m .regs) (vectorOf i)))
-          ≡ cond t (cond u (accepted (withRegisters m (m .regs) (afterMasked (m .wait)))) (takenBy m (taken (m .wait) mem s (m .regs) (vectorOf i)))) (refusedWith m MemoryLength))
+          → (cond u (accepted (withRegisters m (m .regs) (afterHeldOff (m .wait)))) (takenBy m (taken (m .wait) other s (m .regs) (vectorOf i)))
+          ≡ cond t (cond u (accepted (withRegisters m (m .regs) (afterHeldOff (m .wait)))) (takenBy m (taken (m .wait) mem s (m .regs) (vectorOf i)))) (refusedWith m MemoryLength))
           × (cond u [] (takenReads (m .wait) other s (m .regs) (vectorOf i)) ≡ cond u [] (takenReads (m .wait) mem s (m .regs) (vectorOf i)))
       go true e true q k = (refl, refl)
       go true e false q k =

@@ -21,6 +21,7 @@ use Rattle.memory.specs.Map.{byteAt, wordAt}
 use Rattle.memory.specs.Writes.{listed, stored}
 use Rattle.memory.proofs.Folds.{listed-back}
 use Rattle.machine.specs.Effect.{changes}
+use Rattle.machine.specs.Machine.{withRegisters}
 use Rattle.machine.specs.declared.Effect.{Effect}
 use Rattle.machine.specs.declared.Machine.{Machine}
 use Rattle.machine.specs.declared.Settings.{Settings}
@@ -36,13 +37,14 @@ use Rattle.stack.proofs.Laws.{none-dropped}
 use Rattle.vectors.specs.Table.{addressOf, isEntire, softwareVector}
 use Rattle.vectors.specs.declared.table.Vector.{Vector}
 use Rattle.vectors.specs.declared.table.Vector.the-variants.{Reset}
+use Rattle.evaluate.specs.Arming.{arms}
 use Rattle.evaluate.specs.Evaluate.{evaluateOf}
 use Rattle.evaluate.specs.Writes.{bytesMade}
 use Rattle.evaluate.proofs.Writes.{no-write-lost}
-use Rattle.calls.specs.Cycles.{cyclesOf}
-use Rattle.calls.specs.Plans.{refusedWith, accepted, withRegisters}
+use Rattle.cycles.specs.Cycles.{cyclesOf}
+use Rattle.calls.specs.Plans.{refusedWith, accepted}
 use Rattle.calls.specs.Steps.{Reached, At, NotReached, reached, finishedAs, finished, planned, stepPlan}
-use Rattle.calls.specs.Interrupts.{vectorOf, isMasked, taken, afterMasked, ofEffect, takenBy, interruptPlan}
+use Rattle.calls.specs.Interrupts.{vectorOf, isHeldOff, taken, afterHeldOff, ofEffect, takenBy, interruptPlan}
 use Rattle.calls.specs.Resets.{resetTo, resetPlan}
 use Rattle.calls.specs.Calls.{Call, step, interrupt, reset, planOf}
 use Rattle.calls.specs.declared.InterruptType.{InterruptType}
@@ -118,9 +120,9 @@ module _ (m : Machine) where
   none : (y : Refusal) → NoWrites (refusedWith m y)
   none y x e = ap length (listed-back [])
 
-  finished-none : (cycles : ℕ) (e : Effect) (a : Answer) → NoWrites (finishedAs a m cycles e)
-  finished-none cycles e Done x d = not-refused d
-  finished-none cycles e (Refused y) x d = none y x d
+  finished-none : (cycles : ℕ) (armed : Bool) (e : Effect) (a : Answer) → NoWrites (finishedAs a m cycles armed e)
+  finished-none cycles armed e Done x d = not-refused d
+  finished-none cycles armed e (Refused y) x d = none y x d
 
   taken-none : (e : Effect) (a : Answer) → NoWrites (ofEffect m e a)
   taken-none e Done x d = not-refused d
@@ -129,16 +131,16 @@ module _ (m : Machine) where
   module _ (mem : List ℕ) (s : Settings) where
     planned-none : (a : Reached) → NoWrites (planned mem m s a)
     unfolding finished
-    planned-none (At i r ea) = finished-none (cyclesOf i mem r ea) (evaluateOf (i .entry .op) s mem r ea) (evaluateOf (i .entry .op) s mem r ea .answer)
+    planned-none (At i r ea) = finished-none (cyclesOf i mem r ea) (arms (i .entry .op) (byteAt mem ea)) (evaluateOf (i .entry .op) s mem r ea) (evaluateOf (i .entry .op) s mem r ea .answer)
     planned-none (NotReached y) = none y
 
   module _ (mem : List ℕ) where
     call-none : (c : Call) → NoWrites (planOf c mem m)
     unfolding stepPlan interruptPlan resetPlan
     call-none (step t) = planned-none mem t (reached mem m)
-    call-none (interrupt t i) = go (eqb (length mem) 65536) (isMasked i (m .regs .cc)) (taken (m .wait) mem t (m .regs) (vectorOf i))
+    call-none (interrupt t i) = go (eqb (length mem) 65536) (isHeldOff i m) (taken (m .wait) mem t (m .regs) (vectorOf i))
       where
-        go : (l k : Bool) (e : Effect) → NoWrites (cond l (cond k (accepted (withRegisters m (m .regs) (afterMasked (m .wait)))) (takenBy m e)) (refusedWith m MemoryLength))
+        go : (l k : Bool) (e : Effect) → NoWrites (cond l (cond k (accepted (withRegisters m (m .regs) (afterHeldOff (m .wait)))) (takenBy m e)) (refusedWith m MemoryLength))
         go true true e x d = not-refused d
         go true false e x d = taken-none e (e .answer) x d
         go false k e x d = none MemoryLength x d
@@ -180,8 +182,8 @@ module _ (mem : List ℕ) (m : Machine) (s : Settings) (b : Bytes mem) (p : m .r
       )
 
   finished-within : (i : Instruction) (r : Set) (ea : ℕ) → Came mem m i r ea → (a : Answer) → evaluateOf (i .entry .op) s mem r ea .answer ≡ a
-      → Within (length (ifAccepted (finishedAs a m (cyclesOf i mem r ea) (evaluateOf (i .entry .op) s mem r ea) .answer) (instructionReads i mem s (m .regs) r ea)))
-      (length (listed (finishedAs a m (cyclesOf i mem r ea) (evaluateOf (i .entry .op) s mem r ea) .writes)))
+      → Within (length (ifAccepted (finishedAs a m (cyclesOf i mem r ea) (arms (i .entry .op) (byteAt mem ea)) (evaluateOf (i .entry .op) s mem r ea) .answer) (instructionReads i mem s (m .regs) r ea)))
+      (length (listed (finishedAs a m (cyclesOf i mem r ea) (arms (i .entry .op) (byteAt mem ea)) (evaluateOf (i .entry .op) s mem r ea) .writes)))
   finished-within i r ea c Done d =
       let k = known mem (m .regs .pc) i b p (c .decoded) .entry in
       let n = reads-most i r ea c in
@@ -212,7 +214,7 @@ module _ (mem : List ℕ) (m : Machine) (s : Settings) where
 
   interrupt-within : (i : InterruptType) → readCount (interrupt s i) mem m ≤ 3
   unfolding readsOf
-  interrupt-within i = go (interruptPlan mem m s i .answer) (isMasked i (m .regs .cc))
+  interrupt-within i = go (interruptPlan mem m s i .answer) (isHeldOff i m)
     where
       go : (a : Answer) (k : Bool) → length (ifAccepted a (cond k [] (takenReads (m .wait) mem s (m .regs) (vectorOf i)))) ≤ 3
       go Done true = lit≤ tt

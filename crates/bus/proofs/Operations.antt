@@ -38,8 +38,9 @@ use Rattle.stack.proofs.Filling.{size, named-size}
 use Rattle.vectors.specs.Service.{vectored}
 use Rattle.vectors.specs.Table.{addressOf, isEntire, softwareVector}
 use Rattle.vectors.specs.declared.table.Vector.{Vector}
+use Rattle.evaluate.specs.Arming.{registersArm, arms}
 use Rattle.evaluate.specs.Evaluate.{effectOf, evaluateOf}
-use Rattle.calls.specs.Cycles.{operationExtra, operandExtra, cyclesOf}
+use Rattle.cycles.specs.Cycles.{operationExtra, operandExtra, cyclesOf}
 use Rattle.bus.specs.Reads.{bytesFrom, operandTaken, vectorReads, fetchedBy}
 use Rattle.bus.specs.Laws.{AgreeAt}
 use Rattle.bus.proofs.Agreement.{agree-left, agree-right, byte-agrees, word-agrees, stored-agrees, stored-word-agrees}
@@ -174,39 +175,64 @@ module _ (mem other : List ℕ) where
     change-agrees Exg h = rw (byte-agrees mem other ea h)
     change-agrees Tfr h = rw (byte-agrees mem other ea h)
 
-    -- the operation, its cycles and what it reads besides its operand
+    change-arms : (op : RegisterOp) → AgreeAt mem other (bytesFrom ea (operandTaken (Registers op))) → registersArm op (byteAt other ea) ≡ registersArm op (byteAt mem ea)
+    change-arms (Alu op acc) h = refl
+    change-arms (OnAcc op acc) h = refl
+    change-arms (TestAcc acc) h = refl
+    change-arms TestMemory h = refl
+    change-arms Addd h = refl
+    change-arms Subd h = refl
+    change-arms (Load16 word) h = refl
+    change-arms (Cmp16 word) h = refl
+    change-arms (Lea index) h = refl
+    change-arms (Branch c) h = refl
+    change-arms Jmp h = refl
+    change-arms Nop h = refl
+    change-arms Daa h = refl
+    change-arms Sex h = refl
+    change-arms Mul h = refl
+    change-arms Abx h = refl
+    change-arms Andcc h = refl
+    change-arms Orcc h = refl
+    change-arms Exg h = rw (byte-agrees mem other ea h)
+    change-arms Tfr h = rw (byte-agrees mem other ea h)
+
+    -- the operation, its cycles, whether it arms NMI, and what it reads besides its operand
     pub record Alike (op : Op) : Type 0 where
       pub effect : evaluateOf op s other r ea ≡ evaluateOf op s mem r ea
       pub extra : (mode : Mode) → operationExtra op mode other r ea ≡ operationExtra op mode mem r ea
+      pub arming : arms op (byteAt other ea) ≡ arms op (byteAt mem ea)
       pub fetched : fetchedBy op other s r ea ≡ fetchedBy op mem s r ea
 
     memory-agrees : length other ≡ length mem → (op : MemoryOp) → AgreeAt mem other (bytesFrom ea (operandTaken (Memory op))) → AgreeAt mem other (fetchedBy (Memory op) mem s r ea) → Alike (Memory op)
     unfolding onMemory
-    memory-agrees l (OnMemory op) h k = record { effect = rw (byte-agrees mem other ea h); extra = λ mode. refl; fetched = refl }
-    memory-agrees l (Store8 acc) h k = record { effect = refl; extra = λ mode. refl; fetched = refl }
-    memory-agrees l (Store16 word) h k = record { effect = refl; extra = λ mode. refl; fetched = refl }
-    memory-agrees l Bsr h k = record { effect = refl; extra = λ mode. refl; fetched = refl }
-    memory-agrees l Jsr h k = record { effect = refl; extra = λ mode. refl; fetched = refl }
-    memory-agrees l Rts h k = record { effect = rw (pull-agrees r onS 0x80 k); extra = λ mode. refl; fetched = refl }
+    memory-agrees l (OnMemory op) h k = record { effect = rw (byte-agrees mem other ea h); extra = λ mode. refl; arming = refl; fetched = refl }
+    memory-agrees l (Store8 acc) h k = record { effect = refl; extra = λ mode. refl; arming = refl; fetched = refl }
+    memory-agrees l (Store16 word) h k = record { effect = refl; extra = λ mode. refl; arming = refl; fetched = refl }
+    memory-agrees l Bsr h k = record { effect = refl; extra = λ mode. refl; arming = refl; fetched = refl }
+    memory-agrees l Jsr h k = record { effect = refl; extra = λ mode. refl; arming = refl; fetched = refl }
+    memory-agrees l Rts h k = record { effect = rw (pull-agrees r onS 0x80 k); extra = λ mode. refl; arming = refl; fetched = refl }
     memory-agrees l Rti h k = record {
       effect = rw (return-agrees r k);
       extra = λ mode. rw (codes-agree (r .s) (flag E (coded (byteAt mem (r .s)))) k);
+      arming = refl;
       fetched = rw (codes-agree (r .s) (flag E (coded (byteAt mem (r .s)))) k);
     }
     memory-agrees l (Swi which) h k =
         let v = softwareVector which in
-        record { effect = vector-agrees s r (framed r (isEntire v)) v l k; extra = λ mode. refl; fetched = vector-reads-agree s (framed r (isEntire v)) v l k }
-    memory-agrees l Cwai h k = record { effect = rw (byte-agrees mem other ea h); extra = λ mode. refl; fetched = refl }
-    memory-agrees l Sync h k = record { effect = refl; extra = λ mode. refl; fetched = refl }
-    memory-agrees l (Push own) h k = record { effect = rw (byte-agrees mem other ea h); extra = λ mode. rw (byte-agrees mem other ea h); fetched = refl }
+        record { effect = vector-agrees s r (framed r (isEntire v)) v l k; extra = λ mode. refl; arming = refl; fetched = vector-reads-agree s (framed r (isEntire v)) v l k }
+    memory-agrees l Cwai h k = record { effect = rw (byte-agrees mem other ea h); extra = λ mode. refl; arming = refl; fetched = refl }
+    memory-agrees l Sync h k = record { effect = refl; extra = λ mode. refl; arming = refl; fetched = refl }
+    memory-agrees l (Push own) h k = record { effect = rw (byte-agrees mem other ea h); extra = λ mode. rw (byte-agrees mem other ea h); arming = refl; fetched = refl }
     memory-agrees l (Pull own) h k = record {
       effect = rw (byte-agrees mem other ea h) (rw (pull-agrees r own (byteAt mem ea) k));
       extra = λ mode. rw (byte-agrees mem other ea h);
+      arming = rw (byte-agrees mem other ea h);
       fetched = rw (byte-agrees mem other ea h);
     }
 
     pub operation-agrees : length other ≡ length mem → (op : Op) → AgreeAt mem other (bytesFrom ea (operandTaken op)) → AgreeAt mem other (fetchedBy op mem s r ea) → Alike op
-    operation-agrees l (Registers op) h k = record { effect = ap (effectOf r) (change-agrees op h); extra = λ mode. refl; fetched = refl }
+    operation-agrees l (Registers op) h k = record { effect = ap (effectOf r) (change-agrees op h); extra = λ mode. refl; arming = change-arms op h; fetched = refl }
     operation-agrees l (Memory op) h k = memory-agrees l op h k
 
     pub cycles-agree : (i : Instruction) → Alike (i .entry .op) → cyclesOf i other r ea ≡ cyclesOf i mem r ea

@@ -18,7 +18,7 @@ use Rattle.vectors.specs.Table.{addressOf}
 use Rattle.vectors.specs.declared.table.Vector.{Vector}
 use Rattle.vectors.specs.declared.table.Vector.the-variants.{Reset}
 use Rattle.calls.specs.Steps.{Reached, At, NotReached, reached, planned}
-use Rattle.calls.specs.Interrupts.{vectorOf, isMasked}
+use Rattle.calls.specs.Interrupts.{vectorOf, isHeldOff}
 use Rattle.calls.specs.Calls.{Call, step, interrupt, reset, planOf}
 use Rattle.bus.specs.Reads.{bytesFrom, vectorReads, servedReads, instructionReads}
 
@@ -33,10 +33,10 @@ takenReads Running mem s r v = servedReads mem s r v
 takenReads Sync mem s r v = servedReads mem s r v
 takenReads Cwai mem s r v = vectorReads mem s (changes r) v
 
--- what a call reads if it is accepted. A masked interrupt reads nothing, a reset its vector
+-- what a call reads if it is accepted. An interrupt that is held off reads nothing, a reset its vector
 abbrev pub readsBy : Call → List ℕ → Machine → List ℕ
 readsBy (step t) mem m = reachedReads mem t (m .regs) (reached mem m)
-readsBy (interrupt t i) mem m = cond (isMasked i (m .regs .cc)) [] (takenReads (m .wait) mem t (m .regs) (vectorOf i))
+readsBy (interrupt t i) mem m = cond (isHeldOff i m) [] (takenReads (m .wait) mem t (m .regs) (vectorOf i))
 readsBy (reset t) mem m = bytesFrom (addressOf Reset) 2
 
 abbrev pub ifAccepted : Answer → List ℕ → List ℕ

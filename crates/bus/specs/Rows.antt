@@ -3,6 +3,7 @@
 -- Assumes nothing.
 use Prim.Native.Nat.{ℕ, _+_, _-_}
 use Prim.Native.String.{String}
+use mathlib.Core.Bool.{Bool, true, false}
 use mathlib.Core.List.{List, [], _∷_, _++_, map}
 use mathlib.Core.Path.{_≡_}
 use lib.ListN.{length, replicate}
@@ -22,8 +23,8 @@ use Rattle.bus.specs.Counts.{countsAt, countsOf}
 pub data Worked : Type 0 where
   -- an instruction, its bytes and those after it
   executed : String → List ℕ → ℕ → ℕ → ℕ → ℕ → Worked
-  -- another call, in a wait state, with a CC
-  offered : String → Call → Wait → ℕ → ℕ → ℕ → Worked
+  -- another call, in a wait state, armed or not, with a CC
+  offered : String → Call → Wait → Bool → ℕ → ℕ → ℕ → Worked
 
 abbrev settings : Settings
 settings = settingsOf 0x7FFF Manual
@@ -123,26 +124,29 @@ worked =
     ∷ executed "LDA, post-byte 8F" (0xA6 ∷ 0x8F ∷ []) 0 0 0 0
     ∷ executed "TFR D,A" (0x1F ∷ 0x08 ∷ []) 0 0 0 0
     -- other calls
-    ∷ offered "step in SYNC, refused" (step settings) Sync 0x50 0 0
-    ∷ offered "IRQ" (interrupt settings Irq) Running 0x40 3 12
-    ∷ offered "IRQ in SYNC" (interrupt settings Irq) Sync 0x40 3 12
-    ∷ offered "IRQ in CWAI" (interrupt settings Irq) Cwai 0x40 3 0
-    ∷ offered "IRQ masked" (interrupt settings Irq) Running 0x10 0 0
-    ∷ offered "IRQ masked in SYNC" (interrupt settings Irq) Sync 0x10 0 0
-    ∷ offered "IRQ masked in CWAI" (interrupt settings Irq) Cwai 0x10 0 0
-    ∷ offered "FIRQ" (interrupt settings Firq) Running 0x10 3 3
-    ∷ offered "FIRQ in CWAI" (interrupt settings Firq) Cwai 0x10 3 0
-    ∷ offered "FIRQ masked" (interrupt settings Firq) Running 0x40 0 0
-    ∷ offered "NMI" (interrupt settings Nmi) Running 0x50 3 12
-    ∷ offered "NMI in CWAI" (interrupt settings Nmi) Cwai 0x50 3 0
-    ∷ offered "reset" (reset settings) Running 0x50 2 0
-    ∷ offered "reset in CWAI" (reset settings) Cwai 0x50 2 0
+    ∷ offered "step in SYNC, refused" (step settings) Sync true 0x50 0 0
+    ∷ offered "IRQ" (interrupt settings Irq) Running true 0x40 3 12
+    ∷ offered "IRQ in SYNC" (interrupt settings Irq) Sync true 0x40 3 12
+    ∷ offered "IRQ in CWAI" (interrupt settings Irq) Cwai true 0x40 3 0
+    ∷ offered "IRQ masked" (interrupt settings Irq) Running true 0x10 0 0
+    ∷ offered "IRQ masked in SYNC" (interrupt settings Irq) Sync true 0x10 0 0
+    ∷ offered "IRQ masked in CWAI" (interrupt settings Irq) Cwai true 0x10 0 0
+    ∷ offered "FIRQ" (interrupt settings Firq) Running true 0x10 3 3
+    ∷ offered "FIRQ in CWAI" (interrupt settings Firq) Cwai true 0x10 3 0
+    ∷ offered "FIRQ masked" (interrupt settings Firq) Running true 0x40 0 0
+    ∷ offered "NMI" (interrupt settings Nmi) Running true 0x50 3 12
+    ∷ offered "NMI in CWAI" (interrupt settings Nmi) Cwai true 0x50 3 0
+    ∷ offered "NMI unarmed" (interrupt settings Nmi) Running false 0x50 0 0
+    ∷ offered "NMI unarmed in SYNC" (interrupt settings Nmi) Sync false 0x50 0 0
+    ∷ offered "NMI unarmed in CWAI" (interrupt settings Nmi) Cwai false 0x50 0 0
+    ∷ offered "reset" (reset settings) Running true 0x50 2 0
+    ∷ offered "reset in CWAI" (reset settings) Cwai true 0x50 2 0
     ∷ []
 
 -- X, Y, U and S are 0010, so that up to 16 bytes can be pushed. PC is 0000, and so is every vector: it leads to the byte at 0000
-abbrev machineIn : Wait → ℕ → Machine
-machineIn w cc =
-    record { cycles = 0; instructions = 0; regs = record { x = 0x10; y = 0x10; u = 0x10; s = 0x10; pc = 0; a = 0; b = 0; dp = 0; cc = coded cc }; wait = w }
+abbrev machineIn : Wait → Bool → ℕ → Machine
+machineIn w armed cc =
+    record { cycles = 0; instructions = 0; regs = record { x = 0x10; y = 0x10; u = 0x10; s = 0x10; pc = 0; a = 0; b = 0; dp = 0; cc = coded cc }; wait = w; armed = armed }
 
 -- some bytes from 0000 on, and then zeros
 abbrev memoryFrom : List ℕ → List ℕ
@@ -151,20 +155,20 @@ memoryFrom bytes = bytes ++ replicate (65536 - length bytes) 0
 -- what the definition counts. Of an instruction by what is reached in a memory of its bytes alone, where a byte past them reads as 0: a step
 -- is that, once it has judged 1 and 2 (StepCounts, in Laws.antt)
 abbrev pub byDefinition : Worked → ℕ × ℕ
-byDefinition (executed text bytes p q d w) = countsAt bytes (machineIn Running 0x50) settings (decodedTo bytes (machineIn Running 0x50 .regs))
-byDefinition (offered text call wait codes d w) = countsOf call (memoryFrom (0x12 ∷ [])) (machineIn wait codes)
+byDefinition (executed text bytes p q d w) = countsAt bytes (machineIn Running true 0x50) settings (decodedTo bytes (machineIn Running true 0x50 .regs))
+byDefinition (offered text call wait armed codes d w) = countsOf call (memoryFrom (0x12 ∷ [])) (machineIn wait armed codes)
 
 -- what was counted by hand
 abbrev pub byHand : Worked → ℕ × ℕ
 byHand (executed text bytes p q d w) = (p + q + d, w)
-byHand (offered text call wait codes d w) = (d, w)
+byHand (offered text call wait armed codes d w) = (d, w)
 
 abbrev pub EachWorked : Type 0
 EachWorked = map byDefinition worked ≡ map byHand worked
 
 -- the ceilings are reached: by PULS and PSHS of everything, SWI2 and IRQ
 pub record CeilingsReached : Type 0 where
-  pub reads : countsOf (step settings) (memoryFrom (0x35 ∷ 0xFF ∷ [])) (machineIn Running 0x50) ≡ (14, 0)
-  pub writes : countsOf (step settings) (memoryFrom (0x34 ∷ 0xFF ∷ [])) (machineIn Running 0x50) ≡ (2, 12)
-  pub together : countsOf (step settings) (memoryFrom (0x10 ∷ 0x3F ∷ [])) (machineIn Running 0x50) ≡ (5, 12)
-  pub interrupt : countsOf (interrupt settings Irq) (memoryFrom (0x12 ∷ [])) (machineIn Running 0x40) ≡ (3, 12)
+  pub reads : countsOf (step settings) (memoryFrom (0x35 ∷ 0xFF ∷ [])) (machineIn Running true 0x50) ≡ (14, 0)
+  pub writes : countsOf (step settings) (memoryFrom (0x34 ∷ 0xFF ∷ [])) (machineIn Running true 0x50) ≡ (2, 12)
+  pub together : countsOf (step settings) (memoryFrom (0x10 ∷ 0x3F ∷ [])) (machineIn Running true 0x50) ≡ (5, 12)
+  pub interrupt : countsOf (interrupt settings Irq) (memoryFrom (0x12 ∷ [])) (machineIn Running true 0x40) ≡ (3, 12)
