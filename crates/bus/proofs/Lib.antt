@@ -1,7 +1,1 @@
-pub mod Agreement
-pub mod Decoding
-pub mod Operations
 pub mod Entries
-pub mod Accesses
-pub mod Ceilings
-pub mod Rows

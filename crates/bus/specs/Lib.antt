@@ -1,4 +1,1 @@
 pub mod Reads
-pub mod Counts
-pub mod Laws
-pub mod Rows

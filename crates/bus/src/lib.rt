@@ -1,2 +1,1 @@
-// Which bytes a call reads and how many it writes: specs/Reads.antt and specs/Counts.antt have the definition, specs/Laws.antt what holds of it.
-// It stands above the crates that the laws speak of, and has no code of its own.
+// Which bytes an instruction reads: specs/Reads.antt has their addresses, a clause for each operation. It has no code of its own.

@@ -21,10 +21,10 @@ use Rattle.vectors.specs.Waits.{waiting}
 use Rattle.calls.specs.Steps.{decodedTo, reached, finished, stepPlan}
 use Rattle.calls.specs.Interrupts.{interruptPlan}
 use Rattle.calls.specs.Resets.{resetPlan}
 use Rattle.bus.specs.Reads.{bytesFrom, instructionReads}
-use Rattle.bus.specs.Counts.{readsOf}
-use Rattle.bus.specs.Laws.{StepCounts}
-use Rattle.bus.specs.Rows.{EachWorked, CeilingsReached}
+use Rattle.traffic.specs.Counts.{readsOf}
+use Rattle.traffic.specs.Laws.{StepCounts}
+use Rattle.traffic.specs.Rows.{EachWorked, CeilingsReached}
 
 pub step-counts : StepCounts
 unfolding readsOf stepPlan reached

@@ -50,11 +50,11 @@ use Rattle.calls.specs.Calls.{Call, step, interrupt, reset, planOf}
 use Rattle.calls.specs.declared.InterruptType.{InterruptType}
 use Rattle.calls.specs.declared.Plan.{Plan}
 use Rattle.calls.proofs.Laws.{few-writes}
 use Rattle.bus.specs.Reads.{bytesFrom, programReads, pointerReads, operandTaken, operandReads, vectorReads, fetchedBy, instructionReads}
-use Rattle.bus.specs.Counts.{reachedReads, takenReads, ifAccepted, readsOf, readCount, writeCount}
-use Rattle.bus.specs.Laws.{StepsBounded, InterruptsBounded, RefusedCounts}
-use Rattle.bus.proofs.Accesses.{Came, came, known}
+use Rattle.traffic.specs.Counts.{reachedReads, takenReads, ifAccepted, readsOf, readCount, writeCount}
+use Rattle.traffic.specs.Laws.{StepsBounded, InterruptsBounded, RefusedCounts}
+use Rattle.traffic.proofs.Accesses.{Came, came, known}
 use Rattle.bus.proofs.Entries.{length-bytes, fetchedMost, writtenMost, readMost}
 
 -- ---- the most that an operation reads besides its operand, and that it writes
 
@@ -202,7 +202,7 @@ module _ (mem : List ℕ) (m : Machine) (s : Settings) (b : Bytes mem) (p : m .r
 pub steps-bounded : StepsBounded
 steps-bounded mem m s b p =
     let w = step-within mem m s b p in
-    record { reads = w .fourteen; writes = few-writes (step s) mem m; together = w .seventeen }
+    record { reads = omega (arith, w .fourteen); writes = few-writes (step s) mem m; together = omega (arith, w .seventeen) }
 
 -- ---- an interrupt
 

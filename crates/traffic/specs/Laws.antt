@@ -14,7 +14,7 @@ use Rattle.machine.specs.declared.Wait.the-variants.{Running}
 use Rattle.calls.specs.Steps.{decodedTo}
 use Rattle.calls.specs.Calls.{Call, step, interrupt, planOf}
 use Rattle.calls.specs.declared.InterruptType.{InterruptType}
-use Rattle.bus.specs.Counts.{readsOf, readCount, writeCount, countsOf, countsAt}
+use Rattle.traffic.specs.Counts.{readsOf, readCount, writeCount, countsOf, countsAt}
 
 -- ---- counts mean accesses
 

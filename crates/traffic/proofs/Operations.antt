@@ -41,9 +41,9 @@ use Rattle.vectors.specs.declared.table.Vector.{Vector}
 use Rattle.evaluate.specs.Arming.{registersArm, arms}
 use Rattle.evaluate.specs.Evaluate.{effectOf, evaluateOf}
 use Rattle.cycles.specs.Cycles.{operationExtra, operandExtra, cyclesOf}
 use Rattle.bus.specs.Reads.{bytesFrom, operandTaken, vectorReads, fetchedBy}
-use Rattle.bus.specs.Laws.{AgreeAt}
-use Rattle.bus.proofs.Agreement.{agree-left, agree-right, byte-agrees, word-agrees, stored-agrees, stored-word-agrees}
+use Rattle.traffic.specs.Laws.{AgreeAt}
+use Rattle.traffic.proofs.Agreement.{agree-left, agree-right, byte-agrees, word-agrees, stored-agrees, stored-word-agrees}
 
 -- ---- pulls
 

@@ -17,7 +17,7 @@ use Rattle.machine.specs.declared.Wait.the-variants.{Running, Cwai, Sync}
 use Rattle.calls.specs.Steps.{decodedTo}
 use Rattle.calls.specs.Calls.{Call, step, interrupt, reset}
 use Rattle.calls.specs.declared.InterruptType.the-variants.{Irq, Firq, Nmi}
-use Rattle.bus.specs.Counts.{countsAt, countsOf}
+use Rattle.traffic.specs.Counts.{countsAt, countsOf}
 
 -- program bytes, the pointer's, then the operand's, the pulled or the vector's with the byte that it leads to; and bytes written
 pub data Worked : Type 0 where

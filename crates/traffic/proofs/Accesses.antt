@@ -50,13 +50,13 @@ use Rattle.calls.specs.Resets.{resetTo, resetPlan}
 use Rattle.calls.specs.Calls.{Call, step, interrupt, reset, planOf}
 use Rattle.calls.specs.declared.InterruptType.{InterruptType}
 use Rattle.calls.specs.declared.Plan.{Plan}
 use Rattle.bus.specs.Reads.{programReads, pointerReads, operandTaken, operandReads, fetchedBy, instructionReads, bytesFrom}
-use Rattle.bus.specs.Counts.{reachedReads, takenReads, readsBy, readsOf}
-use Rattle.bus.specs.Laws.{AgreeAt, CountsMeanAccesses}
-use Rattle.bus.proofs.Agreement.{Same, agree-left, agree-right, agree-within, within-agree, word-agrees}
-use Rattle.bus.proofs.Decoding.{decode-agrees, resolve-agrees}
-use Rattle.bus.proofs.Operations.{Alike, operation-agrees, cycles-agree, vector-agrees, vector-reads-agree}
+use Rattle.traffic.specs.Counts.{reachedReads, takenReads, readsBy, readsOf}
+use Rattle.traffic.specs.Laws.{AgreeAt, CountsMeanAccesses}
+use Rattle.traffic.proofs.Agreement.{Same, agree-left, agree-right, agree-within, within-agree, word-agrees}
+use Rattle.traffic.proofs.Decoding.{decode-agrees, resolve-agrees}
+use Rattle.traffic.proofs.Operations.{Alike, operation-agrees, cycles-agree, vector-agrees, vector-reads-agree}
 use Rattle.bus.proofs.Entries.{EntrySo, PlaceSo, OperandSo, ReadSo, each-entry, operand-so}
 
 -- a refusal is no 0
 not-done : {A : Type 0} {x : Refusal} → Refused x ≡ Done → A

@@ -36,9 +36,9 @@ use Rattle.decode.specs.declared.postbyte.PostByte.the-variants.{Form as Formed
 use Rattle.decode.proofs.Sound.{SoundRead, operand-sound}
 use Rattle.addressing.specs.Address.{atAddress, throughPointer, indexedBefore, indexedAddress, effectiveOf, advanced, resolvedOf}
 use Rattle.addressing.specs.declared.Addressed.{Addressed}
 use Rattle.bus.specs.Reads.{bytesFrom, pointerReads}
-use Rattle.bus.specs.Laws.{AgreeAt}
-use Rattle.bus.proofs.Agreement.{Same, word-agrees}
+use Rattle.traffic.specs.Laws.{AgreeAt}
+use Rattle.traffic.proofs.Agreement.{Same, word-agrees}
 
 -- two constructors are never equal
 no-operand : {A : Type 0} {x : _} {o : Operand} {next : ℕ} → NotRead x ≡ Read o next → A

@@ -10,8 +10,8 @@ use Rattle.memory.specs.Map.{placeOf, byteAt, lowAt, wordAt}
 use Rattle.memory.specs.Writes.{stored}
 use Rattle.memory.specs.declared.writes.Write.{Write}
 use Rattle.memory.proofs.Folds.{afterAll, read-stored}
 use Rattle.bus.specs.Reads.{bytesFrom}
-use Rattle.bus.specs.Laws.{AgreeAt}
+use Rattle.traffic.specs.Laws.{AgreeAt}
 
 module _ (mem other : List ℕ) where
   pub agree-left : (l k : List ℕ) → AgreeAt mem other (l ++ k) → AgreeAt mem other l
