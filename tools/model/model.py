@@ -303,10 +303,13 @@ class Machine:
         self.instrs = 0
         self.journal = []
         self.dev = []          # device writes reported by the last call
+        self.taken = []        # document 02 [11]: the addresses read by the last call, a byte each
+        self.laid = 0          # and how many bytes it wrote, stored or not
         self.stats = stats
 
     # ---- memory
     def rd(self, a):
+        self.taken.append(a)
         return self.mem[a - 0x4000 if a >= 0xFFE0 else a]
 
     def rdw(self, a):
@@ -328,6 +331,7 @@ class Machine:
         stored = []
         dev = []
         mem = self.mem
+        self.laid += len(writes)
         for a, v in writes:
             p = self.place(a, system)
             if p is None:
@@ -404,6 +408,8 @@ class Machine:
     # ---- calls
     def op(self, n):
         self.dev = []
+        self.taken = []
+        self.laid = 0
         try:
             if n == 0:
                 self.step()
@@ -416,6 +422,8 @@ class Machine:
             ans = 0
         except Refuse as e:
             ans = e.code
+            self.taken = []    # a refused call reports neither
+            self.laid = 0
         if self.stats is not None:
             self.stats.note_op(n, ans)
         return ans
