@@ -304,7 +304,7 @@ class Machine:
         self.journal = []
         self.dev = []          # device writes reported by the last call
         self.taken = []        # document 02 [11]: the addresses read by the last call, a byte each
-        self.laid = 0          # and how many bytes it wrote, stored or not
+        self.laid = []         # and the bytes that it wrote, with their addresses, stored or not
         self.stats = stats
 
     # ---- memory
@@ -331,7 +331,7 @@ class Machine:
         stored = []
         dev = []
         mem = self.mem
-        self.laid += len(writes)
+        self.laid += writes
         for a, v in writes:
             p = self.place(a, system)
             if p is None:
@@ -409,7 +409,7 @@ class Machine:
     def op(self, n):
         self.dev = []
         self.taken = []
-        self.laid = 0
+        self.laid = []
         try:
             if n == 0:
                 self.step()
@@ -423,7 +423,7 @@ class Machine:
         except Refuse as e:
             ans = e.code
             self.taken = []    # a refused call reports neither
-            self.laid = 0
+            self.laid = []
         if self.stats is not None:
             self.stats.note_op(n, ans)
         return ans
