@@ -4,7 +4,7 @@
 use Prim.Native.Nat.{ℕ, zero, suc, _+_, _≤_, _<_}
 use mathlib.Core.Bool.{Bool, true, false, cond, _&&_}
 use mathlib.Core.List.{List, []}
-use mathlib.Core.Path.{_≡_, refl, sym, ap}
+use mathlib.Core.Path.{_≡_, refl, ap}
 use native.Mathlib.Omega.{arith}
 use lib.Dec.{T, leb, leb→le, lit≤}
 use lib.ListN.{length}
@@ -46,7 +46,7 @@ length-bytes (suc n) at = ap suc (length-bytes n (lowAt at))
 
 -- ---- the most of a mode and of an operation
 
-pub isImmediate : Mode → Bool
+abbrev pub isImmediate : Mode → Bool
 isImmediate Inherent = false
 isImmediate Immediate8 = true
 isImmediate Immediate16 = true
@@ -101,6 +101,16 @@ writtenMost (Memory Sync) = 0
 writtenMost (Memory (Push own)) = 12
 writtenMost (Memory (Pull own)) = 0
 
+pub taken-most : (mode : Mode) (n ea : ℕ) → length (operandReads mode n ea) ≤ beyond mode n
+taken-most Immediate8 n ea = omega arith
+taken-most Immediate16 n ea = omega arith
+taken-most Direct n ea = omega (arith, length-bytes n ea)
+taken-most Indexed n ea = omega (arith, length-bytes n ea)
+taken-most Extended n ea = omega (arith, length-bytes n ea)
+taken-most Inherent n ea = omega (arith, length-bytes n ea)
+taken-most Relative8 n ea = omega (arith, length-bytes n ea)
+taken-most Relative16 n ea = omega (arith, length-bytes n ea)
+
 -- ---- the opcode table
 
 abbrev pub readMost : Entry → ℕ
@@ -123,7 +133,7 @@ right (InManual e) = wide e && (leb (readMost e) 14 && leb (readMost e + written
 right None = true
 
 all-right : (page : Page) → values (λ (code : ℕ). right (entryOf page code)) 0 256 ≡ values (λ (code : ℕ). true) 0 256
-unfolding right wide entryOf isImmediate indexedMost fetchedMost writtenMost
+unfolding right wide entryOf indexedMost fetchedMost writtenMost
 all-right Plain = refl
 all-right Ten = refl
 all-right Eleven = refl
@@ -156,8 +166,7 @@ each-entry page code l = so (entryOf page code) (alike (λ (code : ℕ). right (
 
 pub record OperandSo (mode : Mode) (at : ℕ) (o : Operand) (next : ℕ) : Type 0 where
   pub indexed : (r : Set) (to : ℕ) → offsetBytesOf o + length (pointerReads o r to) ≤ indexedMost mode
-  pub taken : (n ea : ℕ) → length (operandReads o n ea) ≤ beyond mode n
-  pub immediate : (a : ℕ) → o ≡ ByValue a → (a ≡ at) × ((next ≡ at + operandBytes mode) × T (isImmediate mode))
+  pub immediate : T (isImmediate mode) → (o ≡ ByValue at) × (next ≡ at + operandBytes mode)
 
 abbrev pub ReadSo : Mode → ℕ → OperandRead → Type 0
 ReadSo mode at (Read o next) = OperandSo mode at o next
@@ -179,17 +188,10 @@ form-most Program8 = lit≤ tt
 form-most Program16 = lit≤ tt
 form-most Address = lit≤ tt
 
-not-a-value : {A : Type 0} {ix : Index} {a : ℕ} → ByIndex ix ≡ ByValue a → A
-not-a-value e = let z : _≡_ {A = ℕ} 0 1 = cc in absurd (omega arith)
-
 module _ (mem : List ℕ) (at : ℕ) where
   by-index : (ix : Index) (next : ℕ) → OperandSo Indexed at (ByIndex ix) next
-  unfolding indexedMost isImmediate
-  by-index ix next = record {
-    indexed = λ r to. go (isIndirect (ix .post)) (indexedBefore r ix to .ea);
-    taken = λ n ea. omega (arith, length-bytes n ea);
-    immediate = λ a e. not-a-value e;
-  }
+  unfolding indexedMost
+  by-index ix next = record { indexed = λ r to. go (isIndirect (ix .post)) (indexedBefore r ix to .ea); immediate = λ t. absurd t }
     where
       go : (t : Bool) (ea : ℕ) → offsetBytes (ix .form) + length (cond t (bytesFrom ea 2) []) ≤ 4
       go true ea = omega (arith, form-most (ix .form), length-bytes 2 ea)
@@ -210,30 +212,20 @@ module _ (mem : List ℕ) (at : ℕ) where
   after-post (NoForm x) post from = tt
 
   -- an immediate operand stands at its own address
-  value-so : (mode : Mode) (n : ℕ) → T (isImmediate mode) → operandBytes mode ≡ n → OperandSo mode at (ByValue at) (at + n)
-  value-so mode n t e = record {
-    indexed = λ r to. omega arith;
-    taken = λ k ea. omega arith;
-    immediate = λ a q. let d : at ≡ a = cc in (sym d, (rw e, t));
-  }
+  value-so : (mode : Mode) (n : ℕ) → operandBytes mode ≡ n → OperandSo mode at (ByValue at) (at + n)
+  value-so mode n e = record { indexed = λ r to. omega arith; immediate = λ t. (refl, rw e) }
 
   -- one that is neither immediate nor indexed
-  plain-so : (mode : Mode) (o : Operand) (next : ℕ) → isImmediate mode ≡ false
-      → ((r : Set) (to : ℕ) → offsetBytesOf o + length (pointerReads o r to) ≡ 0) → ((n ea : ℕ) → length (operandReads o n ea) ≡ n)
-      → ((a : ℕ) → o ≡ ByValue a → ⊥) → OperandSo mode at o next
-  plain-so mode o next e f g h = record {
-    indexed = λ r to. omega (arith, f r to);
-    taken = λ n ea. rw e (omega (arith, g n ea));
-    immediate = λ a q. absurd (h a q);
-  }
+  plain-so : (mode : Mode) (o : Operand) (next : ℕ) → isImmediate mode ≡ false → ((r : Set) (to : ℕ) → offsetBytesOf o + length (pointerReads o r to) ≡ 0) → OperandSo mode at o next
+  plain-so mode o next e f = record { indexed = λ r to. omega (arith, f r to); immediate = λ t. absurd (rw e at t) }
 
   pub operand-so : (mode : Mode) → ReadSo mode at (operandAt mode mem at)
-  unfolding operandAt indexedMost isImmediate
-  operand-so Inherent = plain-so Inherent Nothing at refl (λ r to. refl) (λ n ea. length-bytes n ea) (λ a q. let z : _≡_ {A = ℕ} 0 1 = cc in omega arith)
-  operand-so Immediate8 = tested Immediate8 (leb (at + 1) 0x10000) (Read (ByValue at) (at + 1)) (value-so Immediate8 1 tt refl)
-  operand-so Immediate16 = tested Immediate16 (leb (at + 2) 0x10000) (Read (ByValue at) (at + 2)) (value-so Immediate16 2 tt refl)
-  operand-so Direct = tested Direct (leb (at + 1) 0x10000) (Read (InPage (operandNumber 1 mem at)) (at + 1)) (plain-so Direct _ _ refl (λ r to. refl) (λ n ea. length-bytes n ea) (λ a q. let z : _≡_ {A = ℕ} 0 1 = cc in omega arith))
+  unfolding operandAt indexedMost
+  operand-so Inherent = plain-so Inherent Nothing at refl (λ r to. refl)
+  operand-so Immediate8 = tested Immediate8 (leb (at + 1) 0x10000) (Read (ByValue at) (at + 1)) (value-so Immediate8 1 refl)
+  operand-so Immediate16 = tested Immediate16 (leb (at + 2) 0x10000) (Read (ByValue at) (at + 2)) (value-so Immediate16 2 refl)
+  operand-so Direct = tested Direct (leb (at + 1) 0x10000) (Read (InPage (operandNumber 1 mem at)) (at + 1)) (plain-so Direct _ _ refl (λ r to. refl))
   operand-so Indexed = tested Indexed (leb (at + 1) 0x10000) _ (after-post (formOf (byteAt mem at)) (byteAt mem at) (at + 1))
-  operand-so Extended = tested Extended (leb (at + 2) 0x10000) (Read (AtAddress (operandNumber 2 mem at)) (at + 2)) (plain-so Extended _ _ refl (λ r to. refl) (λ n ea. length-bytes n ea) (λ a q. let z : _≡_ {A = ℕ} 0 1 = cc in omega arith))
-  operand-so Relative8 = tested Relative8 (leb (at + 1) 0x10000) (Read (ByOffset (signedByte (operandNumber 1 mem at))) (at + 1)) (plain-so Relative8 _ _ refl (λ r to. refl) (λ n ea. length-bytes n ea) (λ a q. let z : _≡_ {A = ℕ} 0 1 = cc in omega arith))
-  operand-so Relative16 = tested Relative16 (leb (at + 2) 0x10000) (Read (ByOffset (operandNumber 2 mem at)) (at + 2)) (plain-so Relative16 _ _ refl (λ r to. refl) (λ n ea. length-bytes n ea) (λ a q. let z : _≡_ {A = ℕ} 0 1 = cc in omega arith))
+  operand-so Extended = tested Extended (leb (at + 2) 0x10000) (Read (AtAddress (operandNumber 2 mem at)) (at + 2)) (plain-so Extended _ _ refl (λ r to. refl))
+  operand-so Relative8 = tested Relative8 (leb (at + 1) 0x10000) (Read (ByOffset (signedByte (operandNumber 1 mem at))) (at + 1)) (plain-so Relative8 _ _ refl (λ r to. refl))
+  operand-so Relative16 = tested Relative16 (leb (at + 2) 0x10000) (Read (ByOffset (operandNumber 2 mem at)) (at + 2)) (plain-so Relative16 _ _ refl (λ r to. refl))

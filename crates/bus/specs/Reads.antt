@@ -16,6 +16,8 @@ use Rattle.machine.specs.declared.Effect.{Effect}
 use Rattle.machine.specs.declared.Settings.{Settings}
 use Rattle.opcodes.specs.declared.MemoryOp.{MemoryOp}
 use Rattle.opcodes.specs.declared.MemoryOp.the-variants.{OnMemory, Store8, Store16, Bsr, Jsr, Rts, Rti, Swi, Cwai, Sync, Push, Pull}
+use Rattle.opcodes.specs.declared.Mode.{Mode}
+use Rattle.opcodes.specs.declared.Mode.the-variants.{Inherent, Immediate8, Immediate16, Direct, Indexed, Extended, Relative8, Relative16}
 use Rattle.opcodes.specs.declared.Op.{Op}
 use Rattle.opcodes.specs.declared.Op.the-variants.{Registers, Memory}
 use Rattle.opcodes.specs.declared.RegisterOp.{RegisterOp}
@@ -102,13 +104,15 @@ operandTaken (Registers op) = registersTake op
 operandTaken (Memory op) = memoryTakes op
 
 -- n bytes at the effective address; an immediate operand was read as a part of the program, and is not read again
-abbrev pub operandReads : Operand → ℕ → ℕ → List ℕ
-operandReads (ByValue at) n ea = []
-operandReads (InPage low) n ea = bytesFrom ea n
-operandReads (ByIndex ix) n ea = bytesFrom ea n
-operandReads (AtAddress at) n ea = bytesFrom ea n
-operandReads Nothing n ea = bytesFrom ea n
-operandReads (ByOffset offset) n ea = bytesFrom ea n
+abbrev pub operandReads : Mode → ℕ → ℕ → List ℕ
+operandReads Immediate8 n ea = []
+operandReads Immediate16 n ea = []
+operandReads Direct n ea = bytesFrom ea n
+operandReads Indexed n ea = bytesFrom ea n
+operandReads Extended n ea = bytesFrom ea n
+operandReads Inherent n ea = bytesFrom ea n
+operandReads Relative8 n ea = bytesFrom ea n
+operandReads Relative16 n ea = bytesFrom ea n
 
 -- ---- stacks and vectors
 
@@ -150,5 +154,5 @@ unfoldable pub instructionReads : Instruction → List ℕ → Settings → Set 
 instructionReads i mem s was r ea =
     programReads (was .pc) (i .next)
     ++ (pointerReads (i .operand) was (i .next)
-    ++ (operandReads (i .operand) (operandTaken (i .entry .op)) ea
+    ++ (operandReads (i .entry .mode) (operandTaken (i .entry .op)) ea
     ++ fetchedBy (i .entry .op) mem s r ea))

@@ -6,7 +6,7 @@ use mathlib.Core.List.{List, [], _++_}
 use mathlib.Core.Path.{_≡_, refl, sym, ap, subst, _∙_}
 use native.Mathlib.Omega.{arith}
 use borrow.Author.Tests.{eq-eqb, eqb-true, leb-true}
-use lib.Dec.{eqb, leb}
+use lib.Dec.{T, eqb, leb}
 use lib.ListN.{length}
 use Rattle.answers.specs.declared.Answer.the-variants.{Done, Refused}
 use Rattle.answers.specs.declared.Refusal.{Refusal}
@@ -22,6 +22,8 @@ use Rattle.machine.specs.declared.Settings.{Settings}
 use Rattle.machine.specs.declared.Wait.{Wait}
 use Rattle.machine.specs.declared.Wait.the-variants.{Running, Cwai, Sync}
 use Rattle.opcodes.specs.declared.Entry.{Entry}
+use Rattle.opcodes.specs.declared.Mode.{Mode}
+use Rattle.opcodes.specs.declared.Mode.the-variants.{Inherent, Immediate8, Immediate16, Direct, Indexed, Extended, Relative8, Relative16}
 use Rattle.opcodes.specs.declared.Page.{Page}
 use Rattle.opcodes.specs.declared.Place.the-variants.{Instruction as InManual}
 use Rattle.decode.specs.Decode.{decodedAt}
@@ -31,8 +33,6 @@ use Rattle.decode.specs.Origin.{OriginOf}
 use Rattle.decode.specs.declared.instruction.Decoded.{Decoded}
 use Rattle.decode.specs.declared.instruction.Decoded.the-variants.{Instruction as Taken, Refused as NotDecoded}
 use Rattle.decode.specs.declared.instruction.Instruction.{Instruction}
-use Rattle.decode.specs.declared.operand.Operand.{Operand}
-use Rattle.decode.specs.declared.operand.Operand.the-variants.{Inherent as Nothing, Immediate as ByValue, Direct as InPage, Indexed as ByIndex, Extended as AtAddress, Relative as ByOffset}
 use Rattle.decode.proofs.Laws.{decode-fits}
 use Rattle.decode.proofs.Origin.{decode-origin}
 use Rattle.decode.proofs.Sizes.{entry-sizes}
@@ -56,7 +56,7 @@ use Rattle.traffic.specs.Laws.{AgreeAt, CountsMeanAccesses}
 use Rattle.traffic.proofs.Agreement.{Same, agree-left, agree-right, agree-within, within-agree, word-agrees}
 use Rattle.traffic.proofs.Decoding.{decode-agrees, resolve-agrees}
 use Rattle.traffic.proofs.Operations.{Alike, operation-agrees, cycles-agree, vector-agrees, vector-reads-agree}
-use Rattle.bus.proofs.Entries.{EntrySo, PlaceSo, OperandSo, ReadSo, each-entry, operand-so}
+use Rattle.bus.proofs.Entries.{isImmediate, EntrySo, PlaceSo, OperandSo, ReadSo, each-entry, operand-so}
 
 -- a refusal is no 0
 not-done : {A : Type 0} {x : Refusal} → Refused x ≡ Done → A
@@ -156,28 +156,33 @@ module _ (mem other : List ℕ) (m : Machine) (b : Bytes mem) (p : m .regs .pc <
         (c .resolved)
 
     -- an immediate operand lies among the program's bytes
-    operand-bytes : AgreeAt mem other (programReads (m .regs .pc) (i .next)) → AgreeAt mem other (operandReads (i .operand) (operandTaken (i .entry .op)) ea)
+    operand-bytes : AgreeAt mem other (programReads (m .regs .pc) (i .next)) → AgreeAt mem other (operandReads (i .entry .mode) (operandTaken (i .entry .op)) ea)
         → AgreeAt mem other (bytesFrom ea (operandTaken (i .entry .op)))
-    operand-bytes h k = go (i .operand) refl k
+    operand-bytes h k = go (i .entry .mode) refl k
       where
-        go : (o : Operand) → i .operand ≡ o → AgreeAt mem other (operandReads o (operandTaken (i .entry .op)) ea) → AgreeAt mem other (bytesFrom ea (operandTaken (i .entry .op)))
-        go (ByValue at) e j =
+        immediate : T (isImmediate (i .entry .mode)) → AgreeAt mem other (bytesFrom ea (operandTaken (i .entry .op)))
+        immediate t =
             let k = known mem (m .regs .pc) i b p (c .decoded) in
-            let (a, (n, t)) = k .operand .immediate at e in
+            let (e, n) = k .operand .immediate t in
             let w = k .entry .immediate t in
             let z : offsetBytesOf (i .operand) ≡ 0 = rw e in
-            let f : at ≡ ea = rw e at (c .address) in
+            let f : k .after ≡ ea = rw e at (c .address) in
             let g = c .next in
             within-agree mem other (operandTaken (i .entry .op)) ea (i .next) (omega (arith, k .sized, k .length)) (omega arith)
             (λ x q. program h x (omega (arith, k .sized, k .length)))
-        go (InPage low) e j = j
-        go (ByIndex ix) e j = j
-        go (AtAddress at) e j = j
-        go Nothing e j = j
-        go (ByOffset offset) e j = j
+
+        go : (mode : Mode) → i .entry .mode ≡ mode → AgreeAt mem other (operandReads mode (operandTaken (i .entry .op)) ea) → AgreeAt mem other (bytesFrom ea (operandTaken (i .entry .op)))
+        go Immediate8 e j = immediate (rw e tt)
+        go Immediate16 e j = immediate (rw e tt)
+        go Direct e j = j
+        go Indexed e j = j
+        go Extended e j = j
+        go Inherent e j = j
+        go Relative8 e j = j
+        go Relative16 e j = j
 
     operation : AgreeAt mem other (programReads (m .regs .pc) (i .next)) → (s : Settings)
-        → AgreeAt mem other (operandReads (i .operand) (operandTaken (i .entry .op)) ea) → AgreeAt mem other (fetchedBy (i .entry .op) mem s r ea)
+        → AgreeAt mem other (operandReads (i .entry .mode) (operandTaken (i .entry .op)) ea) → AgreeAt mem other (fetchedBy (i .entry .op) mem s r ea)
         → Alike mem other s r ea (i .entry .op)
     operation h s j k = operation-agrees mem other s r ea (l ∙ sym (c .sized)) (i .entry .op) (operand-bytes h j) k
 
@@ -196,7 +201,7 @@ module _ (mem other : List ℕ) (m : Machine) (b : Bytes mem) (p : m .regs .pc <
           let c = came mem m i r ea e in
           let pr = programReads (m .regs .pc) (i .next) in
           let po = pointerReads (i .operand) (m .regs) (i .next) in
-          let op = operandReads (i .operand) (operandTaken (i .entry .op)) ea in
+          let op = operandReads (i .entry .mode) (operandTaken (i .entry .op)) ea in
           let fe = fetchedBy (i .entry .op) mem s r ea in
           let k1 = agree-left mem other pr (po ++ (op ++ fe)) k in
           let k2 = agree-right mem other pr (po ++ (op ++ fe)) k in

@@ -54,7 +54,7 @@ use Rattle.bus.specs.Reads.{bytesFrom, programReads, pointerReads, operandTaken
 use Rattle.traffic.specs.Counts.{reachedReads, takenReads, ifAccepted, readsOf, readCount, writeCount}
 use Rattle.traffic.specs.Laws.{StepsBounded, InterruptsBounded, RefusedCounts}
 use Rattle.traffic.proofs.Accesses.{Came, came, known}
-use Rattle.bus.proofs.Entries.{length-bytes, fetchedMost, writtenMost, readMost}
+use Rattle.bus.proofs.Entries.{length-bytes, taken-most, fetchedMost, writtenMost, readMost}
 
 -- ---- the most that an operation reads besides its operand, and that it writes
 
@@ -167,7 +167,7 @@ module _ (mem : List ℕ) (m : Machine) (s : Settings) (b : Bytes mem) (p : m .r
       let k = known mem (m .regs .pc) i b p (c .decoded) in
       let pr = programReads (m .regs .pc) (i .next) in
       let po = pointerReads (i .operand) (m .regs) (i .next) in
-      let op = operandReads (i .operand) (operandTaken (i .entry .op)) ea in
+      let op = operandReads (i .entry .mode) (operandTaken (i .entry .op)) ea in
       let fe = fetchedBy (i .entry .op) mem s r ea in
       omega (
         arith,
@@ -177,7 +177,7 @@ module _ (mem : List ℕ) (m : Machine) (s : Settings) (b : Bytes mem) (p : m .r
         length-bytes (i .next - m .regs .pc) (m .regs .pc),
         k .length,
         k .operand .indexed (m .regs) (i .next),
-        k .operand .taken (operandTaken (i .entry .op)) ea,
+        taken-most (i .entry .mode) (operandTaken (i .entry .op)) ea,
         fetched-most mem s r ea (i .entry .op),
       )
 
