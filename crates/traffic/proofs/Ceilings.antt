@@ -3,7 +3,7 @@
 use Prim.Native.Nat.{ℕ, _+_, _-_, _≤_, _<_}
 use mathlib.Core.Bool.{Bool, true, false, cond}
 use mathlib.Core.List.{List, [], _++_}
-use mathlib.Core.Path.{_≡_, refl, ap, _∙_}
+use mathlib.Core.Path.{_≡_, refl, ap}
 use native.Mathlib.Omega.{arith}
 use lib.Dec.{eqb, lit≤}
 use lib.ListN.{length, length-append}
@@ -18,7 +18,7 @@ use Rattle.registers.specs.declared.CCBit.the-variants.{E}
 use Rattle.registers.specs.declared.Set.{Set}
 use Rattle.memory.specs.Fits.{Bytes}
 use Rattle.memory.specs.Map.{byteAt, wordAt}
-use Rattle.memory.specs.Writes.{listed, stored}
+use Rattle.memory.specs.Writes.{listed}
 use Rattle.memory.proofs.Folds.{listed-back}
 use Rattle.machine.specs.Effect.{changes}
 use Rattle.machine.specs.Machine.{withRegisters}
@@ -50,18 +50,14 @@ use Rattle.calls.specs.Calls.{Call, step, interrupt, reset, planOf}
 use Rattle.calls.specs.declared.InterruptType.{InterruptType}
 use Rattle.calls.specs.declared.Plan.{Plan}
 use Rattle.calls.proofs.Laws.{few-writes}
-use Rattle.bus.specs.Reads.{bytesFrom, programReads, pointerReads, operandTaken, operandReads, vectorReads, fetchedBy, instructionReads}
+use Rattle.bus.specs.Reads.{programReads, pointerReads, operandTaken, operandReads, fetchedBy, instructionReads}
 use Rattle.traffic.specs.Counts.{reachedReads, takenReads, ifAccepted, readsOf, readCount, writeCount}
 use Rattle.traffic.specs.Laws.{StepsBounded, InterruptsBounded, RefusedCounts}
 use Rattle.traffic.proofs.Accesses.{Came, came, known}
+use Rattle.bus.proofs.Sums.{vector-length}
 use Rattle.bus.proofs.Entries.{length-bytes, taken-most, fetchedMost, writtenMost, readMost}
 
 -- ---- the most that an operation reads besides its operand, and that it writes
-
-vector-length : (mem : List ℕ) (s : Settings) (frame : Effect) (v : Vector) → length (vectorReads mem s frame v) ≡ 3
-vector-length mem s frame v =
-    let pc = wordAt (stored (s .«ram_top») (listed (frame .writes)) mem) (addressOf v) in
-    length-append (bytesFrom (addressOf v) 2) (bytesFrom pc 1) ∙ rw (length-bytes 2 (addressOf v), length-bytes 1 pc)
 
 frame-most : (t : Bool) → bytesPushed (stackedBy t) ≤ 12
 frame-most t = none-dropped .few (stackedBy t)
