@@ -302,10 +302,13 @@ class Machine:
         self.journal = []
         self.used = 0          # document 02 [9]: bytes of the journal in use
         self.dev = []          # device writes reported by the last call
+        self.taken = []        # document 02 [11]: the addresses read by the last call, a byte each
+        self.laid = []         # and the bytes that it wrote, with their addresses, stored or not
         self.stats = stats
 
     # ---- memory
     def rd(self, a):
+        self.taken.append(a)
         return self.mem[a - 0x4000 if a >= 0xFFE0 else a]
 
     def rdw(self, a):
@@ -327,6 +330,7 @@ class Machine:
         stored = []
         dev = []
         mem = self.mem
+        self.laid += writes
         for a, v in writes:
             p = self.place(a, system)
             if p is None:
@@ -412,6 +416,8 @@ class Machine:
     # ---- calls
     def op(self, n):
         self.dev = []
+        self.taken = []
+        self.laid = []
         try:
             if n == 0:
                 self.step()
@@ -424,6 +430,8 @@ class Machine:
             ans = 0
         except Refuse as e:
             ans = e.code
+            self.taken = []    # a refused call reports neither
+            self.laid = []
         if self.stats is not None:
             self.stats.note_op(n, ans)
         return ans

@@ -1,0 +1,6 @@
+pub mod Agreement
+pub mod Decoding
+pub mod Operations
+pub mod Accesses
+pub mod Ceilings
+pub mod Rows
