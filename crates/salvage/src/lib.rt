@@ -1,0 +1,6 @@
+// What is sound of a torn S-record file (document 02, request [14]): the lines that the reader accepts, up to and with the first good S9.
+mod lines;
+mod mended;
+
+pub use mended::Salvaged;
+pub use mended::salvage;
