@@ -3,4 +3,8 @@ pub mod Walk
 pub mod Tallies
 pub mod Laying
 pub mod Calls
+pub mod Short
 pub mod Laws
+pub mod Telling
+pub mod Mending
+pub mod Unique

@@ -62,7 +62,10 @@ pub fn next(file: &[u8], at: Cursor) -> Turn
     }
     match srecord::line_of(&file[from..end]) {
         Line::Header => pass(at, end, Fate::Keep, false),
-        Line::Data { address: _, count: _ } => pass(at, end, Fate::Keep, false),
+        Line::Data {
+            address: _,
+            count: _,
+        } => pass(at, end, Fate::Keep, false),
         Line::End(_) => pass(at, end, Fate::Keep, true),
         Line::Bad(refusal) => pass(at, end, Fate::Drop(refusal), false),
     }
