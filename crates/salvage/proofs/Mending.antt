@@ -6,7 +6,7 @@ use mathlib.Core.Path.{_≡_, refl, sym, ap, _∙_}
 use mathlib.Core.Bool.{Bool, true, false, cond, _||_}
 use mathlib.Core.List.{List, [], _∷_, _++_}
 use lib.Dec.{leb, ltb}
-use lib.ListN.{length, length-append, length-replicate}
+use lib.ListN.{length, replicate, length-append, length-replicate}
 use lib.Seq.{sets}
 use borrow.Author.Tests.{le-leb, lt-leb, ltb-false}
 use Rattle.answers.specs.Numbers.{numberOf}
@@ -67,6 +67,10 @@ module _ (file out report : List ℕ) where
     told a new k e m = printed-by s o new a (s .bytes) k answer-is output-is e refl (m .0) (m .1)
 
 -- ---- it fits
+
+-- the length of an array that is too long to be counted
+pub counted : (n : ℕ) → n ≡ length {A = ℕ} (replicate n 0)
+counted n = sym (length-replicate n 0)
 
 told-short : (ss : List Sifted) → length (gathered droppedText ss) ≤ 50 * length (gathered droppedNumber ss)
 unfolding gathered
