@@ -37,9 +37,9 @@ fn salvage_into(file: &[u8], out: &mut [u8], list: &mut [u8]) {
     print(b"\n");
 }
 
-fn salvage_in(file: &[u8], out: &mut [u8; ROOM], list: &mut [u8; ROOM], n: usize, m: usize) {
-    if n <= ROOM {
-        if m <= ROOM {
+fn salvage_in(file: &[u8], out: &mut [u8], list: &mut [u8], n: usize, m: usize) {
+    if n <= out.len() {
+        if m <= list.len() {
             salvage_into(file, &mut out[..n], &mut list[..m]);
         }
     }
