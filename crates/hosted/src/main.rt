@@ -124,6 +124,18 @@ fn save(mem: &Memory) {
     played::number(written.count as u64);
 }
 
+// A torn file: a line, and one that is cut.
+fn salvage() {
+    let mut out = [0u8; 26];
+    let mut list = [0u8; 8];
+    let salvaged = host_calls::doorhawser_salvage(b"S10510005F5A31\nS1051002", &mut out, &mut list);
+    played::number(salvaged.answer);
+    played::number(salvaged.bytes as u64);
+    played::number(salvaged.numbers as u64);
+    played::number(salvaged.added);
+    played::number(list[7] as u64);
+}
+
 fn main() {
     let mut mem = [0u8; 0x10000];
     let mut journal = [0u8; 340];
@@ -134,6 +146,7 @@ fn main() {
     let none = back(&mut mem, &journal, ended);
     newest(&journal, none);
     save(&mem);
+    salvage();
     unrecorded(&mut mem, none);
     unnamed(&mut mem, &mut journal, none);
 }

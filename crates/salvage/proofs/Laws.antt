@@ -22,8 +22,8 @@ use Rattle.srecord.proofs.Back.{first-cut}
 use Rattle.salvage.specs.Lines.{fateOf, isEnd, hasEnd, sift, sifted, gathered}
 use Rattle.salvage.specs.Mended.{keptText, endLine, endIf, keptOf, isAdded, mended, numberIfDropped, droppedNumber, droppedNumbers}
 use Rattle.salvage.specs.Laws.{lineIfKept, keptLine, keptLines, Parted, over, keeps, lists, LinesParted, LinesWritten, Rising, NumbersRise, AlwaysReads, SoundBack, SoundAsIs}
-use Rattle.salvage.specs.declared.lines.Fate.{Fate}
-use Rattle.salvage.specs.declared.lines.Fate.the-variants.{Keep, Drop}
+use Rattle.salvage.specs.declared.Fate.{Fate}
+use Rattle.salvage.specs.declared.Fate.the-variants.{Keep, Drop}
 
 -- ---- the lines are parted
 

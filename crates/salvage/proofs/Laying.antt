@@ -12,9 +12,9 @@ use Rattle.machine.specs.Record.{bytes as lowBytes, counter}
 use Rattle.srecord.proofs.Laying.{sets-two}
 use Rattle.salvage.specs.Lines.{gathered, sifted}
 use Rattle.salvage.specs.Mended.{keptText, droppedNumber, keptOf, droppedNumbers, inBytes, listing}
-use Rattle.salvage.specs.declared.lines.Fate.the-variants.{Keep, Drop}
-use Rattle.salvage.specs.declared.lines.Cursor.{Cursor}
-use Rattle.salvage.specs.declared.lines.Turn.{Turn}
+use Rattle.salvage.specs.declared.Fate.the-variants.{Keep, Drop}
+use Rattle.salvage.specs.declared.Cursor.{Cursor}
+use Rattle.salvage.specs.declared.Turn.{Turn}
 use Rattle.salvage.proofs.Walk.{rest, Turned, line-length, kept-text, kept-number, dropped-text, dropped-number, none}
 
 pub record Laid (file out₀ list₀ : List ℕ) (at : Cursor) (bytes listed : ℕ) (out list : List ℕ) : Type 0 where

@@ -18,8 +18,8 @@ use Rattle.text.specs.Lines.{alone}
 use Rattle.salvage.specs.Lines.{Sifted, sifted, gathered}
 use Rattle.salvage.specs.Mended.{isAdded, mended, droppedNumber, droppedNumbers, listing, isShort, salvagedNot, salvagedOf, outputMended}
 use Rattle.salvage.specs.Printed.{longest, droppedText, addedIf, reportOf, noNumbers, mendAnswer, outputPrinted, errorText, printedOf, PrintedFits, MendFits}
-use Rattle.salvage.specs.declared.lines.Fate.{Fate}
-use Rattle.salvage.specs.declared.lines.Fate.the-variants.{Keep, Drop}
+use Rattle.salvage.specs.declared.Fate.{Fate}
+use Rattle.salvage.specs.declared.Fate.the-variants.{Keep, Drop}
 use Rattle.salvage.specs.declared.mended.Salvaged.{Salvaged}
 use Rattle.salvage.specs.declared.printed.Printed.{Printed}
 use Rattle.salvage.proofs.Laying.{eight-each}

@@ -10,9 +10,9 @@ use Rattle.answers.specs.declared.Refusal.{Refusal}
 use Rattle.srecord.specs.File.{linesOf}
 use Rattle.salvage.specs.Lines.{hasEnd, gathered, sifted}
 use Rattle.salvage.specs.Mended.{keptText, droppedNumber, keptOf, droppedNumbers, tallyOf}
-use Rattle.salvage.specs.declared.lines.Fate.the-variants.{Keep, Drop}
-use Rattle.salvage.specs.declared.lines.Cursor.{Cursor}
-use Rattle.salvage.specs.declared.lines.Turn.{Turn}
+use Rattle.salvage.specs.declared.Fate.the-variants.{Keep, Drop}
+use Rattle.salvage.specs.declared.Cursor.{Cursor}
+use Rattle.salvage.specs.declared.Turn.{Turn}
 use Rattle.salvage.specs.declared.mended.Tally.{Tally}
 use Rattle.salvage.proofs.Walk.{rest, ends, Turned, line-length, kept-text, kept-number, dropped-text, dropped-number, none, no-end}
 

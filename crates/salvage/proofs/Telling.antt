@@ -14,15 +14,15 @@ use Rattle.srecord.specs.Layout.{pairs, lineText}
 use Rattle.srecord.specs.File.{linesOf}
 use Rattle.srecord.proofs.Laying.{sets-two}
 use Rattle.text.specs.Lines.{decimal, alone, textOf, said}
-use Rattle.text.specs.declared.lines.Text.{Text}
+use Rattle.text.specs.declared.Text.{Text}
 use Rattle.text.proofs.Decimals.{at-most-twenty}
 use Rattle.text.proofs.Texts.{text-is-whole, alone-fits}
 use Rattle.salvage.specs.Lines.{hasEnd, gathered, sifted}
 use Rattle.salvage.specs.Mended.{isAdded}
 use Rattle.salvage.specs.Printed.{droppedLine, droppedText, addedIf, reportOf}
-use Rattle.salvage.specs.declared.lines.Fate.the-variants.{Keep, Drop}
-use Rattle.salvage.specs.declared.lines.Cursor.{Cursor}
-use Rattle.salvage.specs.declared.lines.Turn.{Turn}
+use Rattle.salvage.specs.declared.Fate.the-variants.{Keep, Drop}
+use Rattle.salvage.specs.declared.Cursor.{Cursor}
+use Rattle.salvage.specs.declared.Turn.{Turn}
 use Rattle.salvage.proofs.Walk.{rest, ends, Turned, gathers, none, no-end}
 
 -- ---- texts that are whole

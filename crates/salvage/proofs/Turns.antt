@@ -10,9 +10,9 @@ use Rattle.srecord.specs.File.{lineEnd}
 use Rattle.srecord.specs.declared.line.Line.{Line}
 use Rattle.srecord.specs.declared.line.Line.the-variants.{Header, Data, End, Bad}
 use Rattle.salvage.specs.Lines.{fateOf, isEnd, passing, lineAt, turnOf}
-use Rattle.salvage.specs.declared.lines.Fate.{Fate}
-use Rattle.salvage.specs.declared.lines.Fate.the-variants.{Keep, Drop}
-use Rattle.salvage.specs.declared.lines.Cursor.{Cursor}
+use Rattle.salvage.specs.declared.Fate.{Fate}
+use Rattle.salvage.specs.declared.Fate.the-variants.{Keep, Drop}
+use Rattle.salvage.specs.declared.Cursor.{Cursor}
 use Rattle.answers.specs.declared.Refusal.the-variants.{LineShape}
 
 abbrev fateBy : Line → Fate

@@ -13,10 +13,10 @@ use Rattle.srecord.specs.File.{linesOf, lineEnd}
 use Rattle.srecord.proofs.Lines.{line-fits, next-text}
 use Rattle.salvage.specs.Lines.{fateOf, isEnd, hasEnd, Sifted, sift, gathered, lineAt, turnOf}
 use Rattle.salvage.specs.Mended.{keptText, droppedNumber}
-use Rattle.salvage.specs.declared.lines.Fate.{Fate}
-use Rattle.salvage.specs.declared.lines.Fate.the-variants.{Keep, Drop}
-use Rattle.salvage.specs.declared.lines.Cursor.{Cursor}
-use Rattle.salvage.specs.declared.lines.Turn.{Turn}
+use Rattle.salvage.specs.declared.Fate.{Fate}
+use Rattle.salvage.specs.declared.Fate.the-variants.{Keep, Drop}
+use Rattle.salvage.specs.declared.Cursor.{Cursor}
+use Rattle.salvage.specs.declared.Turn.{Turn}
 
 -- the lines from a cursor on
 abbrev pub rest : List ℕ → Cursor → List Sifted

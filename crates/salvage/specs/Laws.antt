@@ -12,8 +12,8 @@ use Rattle.answers.specs.declared.Refusal.the-variants.{OutputShort}
 use Rattle.srecord.specs.File.{linesOf, loadedOf}
 use Rattle.salvage.specs.Lines.{Sifted, sifted, gathered}
 use Rattle.salvage.specs.Mended.{endLine, isAdded, mended, droppedNumbers, listing, salvagedOf, outputMended, listFilled}
-use Rattle.salvage.specs.declared.lines.Fate.{Fate}
-use Rattle.salvage.specs.declared.lines.Fate.the-variants.{Keep, Drop}
+use Rattle.salvage.specs.declared.Fate.{Fate}
+use Rattle.salvage.specs.declared.Fate.the-variants.{Keep, Drop}
 
 -- ---- the lines
 

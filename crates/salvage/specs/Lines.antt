@@ -7,10 +7,10 @@ use lib.ListN.{take, drop}
 use Rattle.answers.specs.declared.Refusal.the-variants.{LineShape}
 use Rattle.srecord.specs.Line.{Meaning, heading, piece, start, refused, lineOf}
 use Rattle.srecord.specs.File.{linesOf, lineEnd}
-use Rattle.salvage.specs.declared.lines.Fate.{Fate}
-use Rattle.salvage.specs.declared.lines.Fate.the-variants.{Keep, Drop}
-use Rattle.salvage.specs.declared.lines.Cursor.{Cursor}
-use Rattle.salvage.specs.declared.lines.Turn.{Turn}
+use Rattle.salvage.specs.declared.Fate.{Fate}
+use Rattle.salvage.specs.declared.Fate.the-variants.{Keep, Drop}
+use Rattle.salvage.specs.declared.Cursor.{Cursor}
+use Rattle.salvage.specs.declared.Turn.{Turn}
 
 -- a line that the reader accepts is kept, up to and with the first good S9; `ended` says whether that one stands before the line
 abbrev pub fateOf : Bool → Meaning → Fate

@@ -13,8 +13,8 @@ use Rattle.machine.specs.Record.{bytes}
 use Rattle.srecord.specs.Layout.{kind9, lineText}
 use Rattle.srecord.specs.File.{linesOf}
 use Rattle.salvage.specs.Lines.{Sifted, sifted, gathered, hasEnd}
-use Rattle.salvage.specs.declared.lines.Fate.{Fate}
-use Rattle.salvage.specs.declared.lines.Fate.the-variants.{Keep, Drop}
+use Rattle.salvage.specs.declared.Fate.{Fate}
+use Rattle.salvage.specs.declared.Fate.the-variants.{Keep, Drop}
 use Rattle.salvage.specs.declared.mended.Salvaged.{Salvaged}
 use Rattle.salvage.specs.declared.mended.Tally.{Tally}
 

@@ -15,8 +15,8 @@ use Rattle.registers.specs.ConditionCodes.{ascii}
 use Rattle.text.specs.Lines.{decimal, alone}
 use Rattle.salvage.specs.Lines.{Sifted, sifted, gathered}
 use Rattle.salvage.specs.Mended.{endLine, isAdded, salvagedNot, salvagedOf, outputMended}
-use Rattle.salvage.specs.declared.lines.Fate.{Fate}
-use Rattle.salvage.specs.declared.lines.Fate.the-variants.{Keep, Drop}
+use Rattle.salvage.specs.declared.Fate.{Fate}
+use Rattle.salvage.specs.declared.Fate.the-variants.{Keep, Drop}
 use Rattle.salvage.specs.declared.mended.Salvaged.{Salvaged}
 use Rattle.salvage.specs.declared.printed.Printed.{Printed}
 

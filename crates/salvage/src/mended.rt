@@ -5,9 +5,9 @@ ghost use Prim.Native.Nat.{_≤_};
 ghost use lib.ListN.{length};
 ghost use lib.Seq.{sets};
 ghost use Rattle.salvage.specs.Mended.{endIf, keptOf, listing, tallyOf, salvagedNot, salvagedOf, outputMended, listFilled};
-use super::lines::Fate;
-use super::lines::first;
-use super::lines::next;
+use super::Fate;
+use super::first;
+use super::next;
 use answers::Answer;
 use answers::Refusal;
 

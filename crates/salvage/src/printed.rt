@@ -7,10 +7,10 @@ ghost use lib.Seq.{sets};
 ghost use Rattle.text.specs.Lines.{alone};
 ghost use Rattle.answers.specs.Numbers.{numberOf};
 ghost use Rattle.salvage.specs.Printed.{longest, droppedLine, addedIf, reportOf, noNumbers, printedOf, outputPrinted, errorText, mendAnswer};
-use super::lines::Fate;
-use super::lines::first;
-use super::lines::next;
+use super::Fate;
+use super::first;
 use super::mended::salvage;
+use super::next;
 use answers::Answer;
 use answers::Refusal;
 

@@ -8,8 +8,8 @@ use lib.ListN.{length}
 use denote.Ref.{now}
 use Rattle.srecord.proofs.Lines.{line-fits}
 use Rattle.salvage.proofs.Turns.{after-end, by-answer}
-use Rattle.salvage.proofs.lines.next.Statement.{statement}
-use Rattle.salvage.proofs.lines.next.Tie as tie
+use Rattle.salvage.proofs.next.Statement.{statement}
+use Rattle.salvage.proofs.next.Tie as tie
 
 fits : (c : tie.After-line-end) → (c .before .before .args .at .from < c .line-end .result) × (c .line-end .result ≤ length (now (c .before .before .args .file)))
 fits c = rw (c .line-end .ensures) (line-fits (now (c .before .before .args .file)) (c .before .before .args .at .from) (c .before .before .pre .0))
