@@ -43,8 +43,10 @@ module _ (file : List ℕ) (found : Tally) (f : found ≡ tallyOf file) where
         length-append (keptOf file) (endIf (isAdded file)) ∙ omega arith
 
     module _ (out list : List ℕ) where
-      refuses : isShort file out list ≡ true
-          → (salvagedNot OutputShort ≡ salvagedOf file out list) × ((out ≡ outputMended file out list) × (list ≡ listFilled file out list))
+      abbrev Unwritten : Type 0
+      Unwritten = (salvagedNot OutputShort ≡ salvagedOf file out list) × ((out ≡ outputMended file out list) × (list ≡ listFilled file out list))
+
+      refuses : isShort file out list ≡ true → Unwritten
       unfolding salvagedOf outputMended listFilled
       refuses e = rw e (refl, (refl, refl))
 
@@ -56,12 +58,10 @@ module _ (file : List ℕ) (found : Tally) (f : found ≡ tallyOf file) where
       unfolding isShort
       short-list h = let n = numbers-same in rw (lt-ltb (length list) (length (listing file)) (omega arith)) (or-true (ltb (length out) (length (mended file))))
 
-      pub no-room : length out < found .bytes + more
-          → (salvagedNot OutputShort ≡ salvagedOf file out list) × ((out ≡ outputMended file out list) × (list ≡ listFilled file out list))
+      pub no-room : length out < found .bytes + more → Unwritten
       no-room h = refuses (short-out h)
 
-      pub no-list : length list < 8 * found .numbers
-          → (salvagedNot OutputShort ≡ salvagedOf file out list) × ((out ≡ outputMended file out list) × (list ≡ listFilled file out list))
+      pub no-list : length list < 8 * found .numbers → Unwritten
       no-list h = refuses (short-list h)
 
       long : found .bytes + more ≤ length out → 8 * found .numbers ≤ length list → isShort file out list ≡ false

@@ -28,10 +28,15 @@ use Rattle.salvage.proofs.Telling.{alone-short, added-short, line-fits}
 -- ---- by the answer
 
 module _ (file out report : List ℕ) where
+  -- the result, the output and the report at exit
+  abbrev Prints : ℕ → ℕ → List ℕ → List ℕ → Type 0
+  Prints t k o new =
+      (_≡_ {A = Printed} (record { text = t; report = k }) (printedOf file out))
+      × ((o ≡ outputPrinted file out) × (new ≡ sets report 0 (errorText (mendAnswer file out .answer) file)))
+
   printed-by : (s : Salvaged) (o new : List ℕ) (a : Answer) (t k : ℕ) → s ≡ mendAnswer file out → o ≡ outputPrinted file out → s .answer ≡ a → t ≡ s .bytes
       → k ≡ length (errorText a file) → new ≡ sets report 0 (errorText a file)
-      → (_≡_ {A = Printed} (record { text = t; report = k }) (printedOf file out))
-      × ((o ≡ outputPrinted file out) × (new ≡ sets report 0 (errorText (mendAnswer file out .answer) file)))
+      → Prints t k o new
   unfolding printedOf
   printed-by s o new a t k p h q b m n =
       let e : mendAnswer file out .answer ≡ a = ap (λ (x : Salvaged). x .answer) (sym p) ∙ q in
@@ -48,8 +53,7 @@ module _ (file out report : List ℕ) where
     output-long = rw (lt-leb (length file) longest h)
 
     pub too-long : (new : List ℕ) (k : ℕ) → (k ≡ length (alone (numberOf Malformed))) × (new ≡ sets report 0 (alone (numberOf Malformed)))
-        → (_≡_ {A = Printed} (record { text = 0; report = k }) (printedOf file out))
-        × ((out ≡ outputPrinted file out) × (new ≡ sets report 0 (errorText (mendAnswer file out .answer) file)))
+        → Prints 0 k out new
     too-long new k p = printed-by (salvagedNot Malformed) out new (Refused Malformed) 0 k answer-long output-long refl refl (p .0) (p .1)
 
   module _ (h : length file ≤ longest) (list : List ℕ) (l : list ≡ noNumbers) (s : Salvaged) (o : List ℕ) (p : s ≡ salvagedOf file out list) (q : o ≡ outputMended file out list) where
@@ -62,8 +66,7 @@ module _ (file out report : List ℕ) where
     output-is = q ∙ rw (l, le-leb (length file) longest h)
 
     pub told : (a : Answer) (new : List ℕ) (k : ℕ) → s .answer ≡ a → (k ≡ length (errorText a file)) × (new ≡ sets report 0 (errorText a file))
-        → (_≡_ {A = Printed} (record { text = s .bytes; report = k }) (printedOf file out))
-        × ((o ≡ outputPrinted file out) × (new ≡ sets report 0 (errorText (mendAnswer file out .answer) file)))
+        → Prints (s .bytes) k o new
     told a new k e m = printed-by s o new a (s .bytes) k answer-is output-is e refl (m .0) (m .1)
 
 -- ---- it fits

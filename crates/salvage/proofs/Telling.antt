@@ -14,7 +14,7 @@ use Rattle.srecord.specs.Layout.{pairs, lineText}
 use Rattle.srecord.specs.File.{linesOf}
 use Rattle.srecord.proofs.Laying.{sets-two}
 use Rattle.text.specs.Lines.{decimal, alone, textOf, said}
-use Rattle.text.specs.declared.Text.{Text}
+use Rattle.text.specs.declared.lines.Text.{Text}
 use Rattle.text.proofs.Decimals.{at-most-twenty}
 use Rattle.text.proofs.Texts.{text-is-whole, alone-fits}
 use Rattle.salvage.specs.Lines.{hasEnd, gathered, sifted}
