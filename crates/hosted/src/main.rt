@@ -124,6 +124,10 @@ fn save(mem: &Memory) {
     played::number(written.count as u64);
 }
 
+fn wide(b: u8) -> u64 {
+    b as u64
+}
+
 // A torn file: a line, and one that is cut.
 fn salvage() {
     let mut out = [0u8; 26];
@@ -133,7 +137,7 @@ fn salvage() {
     played::number(salvaged.bytes as u64);
     played::number(salvaged.numbers as u64);
     played::number(salvaged.added);
-    played::number(list[7] as u64);
+    played::number(wide(list[7]));
 }
 
 fn main() {
