@@ -10,7 +10,7 @@ use lib.ListN.{length, length-append}
 use lib.Seq.{sets}
 use borrow.Author.Tests.{lt-ltb, le-ltb}
 use Rattle.answers.specs.declared.Answer.the-variants.{Done}
-use Rattle.answers.specs.declared.Refusal.the-variants.{OutputShort}
+use Rattle.answers.specs.declared.Refusal.the-variants.{SalvageShort}
 use Rattle.srecord.proofs.Laying.{sets-two}
 use Rattle.salvage.specs.Mended.{keptOf, endIf, isAdded, mended, droppedNumbers, listing, tallyOf, isShort, salvagedNot, salvagedOf, outputMended, listFilled}
 use Rattle.salvage.specs.declared.mended.Salvaged.{Salvaged}
@@ -44,7 +44,7 @@ module _ (file : List ℕ) (found : Tally) (f : found ≡ tallyOf file) where
 
     module _ (out list : List ℕ) where
       abbrev Unwritten : Type 0
-      Unwritten = (salvagedNot OutputShort ≡ salvagedOf file out list) × ((out ≡ outputMended file out list) × (list ≡ listFilled file out list))
+      Unwritten = (salvagedNot SalvageShort ≡ salvagedOf file out list) × ((out ≡ outputMended file out list) × (list ≡ listFilled file out list))
 
       refuses : isShort file out list ≡ true → Unwritten
       unfolding salvagedOf outputMended listFilled

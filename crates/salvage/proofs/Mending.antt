@@ -13,7 +13,7 @@ use Rattle.answers.specs.Numbers.{numberOf}
 use Rattle.answers.specs.declared.Answer.{Answer}
 use Rattle.answers.specs.declared.Answer.the-variants.{Done, Refused}
 use Rattle.answers.specs.declared.Refusal.{Refusal}
-use Rattle.answers.specs.declared.Refusal.the-variants.{OutputShort, Malformed}
+use Rattle.answers.specs.declared.Refusal.the-variants.{SalvageShort, Malformed}
 use Rattle.text.specs.Lines.{alone}
 use Rattle.salvage.specs.Lines.{Sifted, sifted, gathered}
 use Rattle.salvage.specs.Mended.{isAdded, mended, droppedNumber, droppedNumbers, listing, isShort, salvagedNot, salvagedOf, outputMended}
@@ -109,7 +109,7 @@ module _ (file out : List ℕ) where
 
   answer-fits : (b : Bool) → isShort file out noNumbers ≡ b → (salvagedOf file out noNumbers .bytes ≤ length out) × (length (errorText (salvagedOf file out noNumbers .answer) file) ≤ 50 * 0x8000 + 17)
   unfolding salvagedOf
-  answer-fits true e = rw e (omega arith, omega (arith, alone-short (numberOf OutputShort)))
+  answer-fits true e = rw e (omega arith, omega (arith, alone-short (numberOf SalvageShort)))
   answer-fits false e = let n = not-short e in rw e (n .0, report-short (n .1))
 
   by-length : (b : Bool) → (salvagedOf file out noNumbers .bytes ≤ length out) × (length (errorText (salvagedOf file out noNumbers .answer) file) ≤ 50 * 0x8000 + 17)

@@ -11,12 +11,12 @@ use lib.ListN.{length}
 use borrow.Author.Tests.{lt-ltb, ltb-true, ltb-false}
 use Rattle.answers.specs.declared.Answer.the-variants.{Done, Refused}
 use Rattle.answers.specs.declared.Refusal.{Refusal}
-use Rattle.answers.specs.declared.Refusal.the-variants.{OutputShort}
+use Rattle.answers.specs.declared.Refusal.the-variants.{SalvageShort}
 use Rattle.salvage.specs.Mended.{mended, listing, isShort, salvagedOf, outputMended, listFilled}
 use Rattle.salvage.specs.Laws.{ShortExactly}
 
 module _ (file out list : List ℕ) where
-  answer-short : isShort file out list ≡ true → salvagedOf file out list .answer ≡ Refused OutputShort
+  answer-short : isShort file out list ≡ true → salvagedOf file out list .answer ≡ Refused SalvageShort
   unfolding salvagedOf
   answer-short e = rw e
 
@@ -31,7 +31,7 @@ module _ (file out list : List ℕ) where
       go true e = e
       go false e = let d = answer-long e in let z : _≡_ {A = ℕ} 0 1 = cc in absurd (omega arith)
 
-  by-refusal : (r : Refusal) → salvagedOf file out list .answer ≡ Refused r → r ≡ OutputShort
+  by-refusal : (r : Refusal) → salvagedOf file out list .answer ≡ Refused r → r ≡ SalvageShort
   by-refusal r h = let d = answer-short (is-short r h) in cc
 
   out-kept : isShort file out list ≡ true → outputMended file out list ≡ out
@@ -63,7 +63,7 @@ module _ (file out list : List ℕ) where
 pub short-exactly : ShortExactly
 short-exactly file out list =
     record {
-      exactly = ((λ e. which file out list (is-short file out list OutputShort e)), (λ h. answer-short file out list (either file out list h)));
+      exactly = ((λ e. which file out list (is-short file out list SalvageShort e)), (λ h. answer-short file out list (either file out list h)));
       only = by-refusal file out list;
       output = λ r e. out-kept file out list (is-short file out list r e);
       numbers = λ r e. list-kept file out list (is-short file out list r e);

@@ -8,7 +8,7 @@ use mathlib.Core.Logic.{_↔_, _⊎_}
 use lib.ListN.{length}
 use Rattle.answers.specs.declared.Answer.the-variants.{Done, Refused}
 use Rattle.answers.specs.declared.Refusal.{Refusal}
-use Rattle.answers.specs.declared.Refusal.the-variants.{OutputShort}
+use Rattle.answers.specs.declared.Refusal.the-variants.{SalvageShort}
 use Rattle.srecord.specs.File.{linesOf, loadedOf}
 use Rattle.salvage.specs.Lines.{Sifted, sifted, gathered}
 use Rattle.salvage.specs.Mended.{endLine, isAdded, mended, droppedNumbers, listing, salvagedOf, outputMended, listFilled}
@@ -67,8 +67,8 @@ SoundAsIs = (mem file : List ℕ) → length mem ≡ 65536 → SoundBack mem fil
 
 -- it is given exactly where the output is shorter than the text, or the list than the numbers; output and list are then as they were
 pub record ShortRefused (file out list : List ℕ) : Type 0 where
-  pub exactly : (salvagedOf file out list .answer ≡ Refused OutputShort) ↔ ((length out < length (mended file)) ⊎ (length list < length (listing file)))
-  pub only : (r : Refusal) → salvagedOf file out list .answer ≡ Refused r → r ≡ OutputShort
+  pub exactly : (salvagedOf file out list .answer ≡ Refused SalvageShort) ↔ ((length out < length (mended file)) ⊎ (length list < length (listing file)))
+  pub only : (r : Refusal) → salvagedOf file out list .answer ≡ Refused r → r ≡ SalvageShort
   pub output : (r : Refusal) → salvagedOf file out list .answer ≡ Refused r → outputMended file out list ≡ out
   pub numbers : (r : Refusal) → salvagedOf file out list .answer ≡ Refused r → listFilled file out list ≡ list
 

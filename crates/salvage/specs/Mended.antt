@@ -8,7 +8,7 @@ use lib.ListN.{length}
 use lib.Seq.{sets}
 use Rattle.answers.specs.declared.Answer.the-variants.{Done, Refused}
 use Rattle.answers.specs.declared.Refusal.{Refusal}
-use Rattle.answers.specs.declared.Refusal.the-variants.{OutputShort}
+use Rattle.answers.specs.declared.Refusal.the-variants.{SalvageShort}
 use Rattle.machine.specs.Record.{bytes}
 use Rattle.srecord.specs.Layout.{kind9, lineText}
 use Rattle.srecord.specs.File.{linesOf}
@@ -82,7 +82,7 @@ salvagedNot r = record { bytes = 0; numbers = 0; added = false; answer = Refused
 
 unfoldable pub salvagedOf : List ℕ → List ℕ → List ℕ → Salvaged
 salvagedOf file out list =
-    cond (isShort file out list) (salvagedNot OutputShort)
+    cond (isShort file out list) (salvagedNot SalvageShort)
     (record { bytes = length (mended file); numbers = length (droppedNumbers file); added = isAdded file; answer = Done })
 
 -- output and list afterwards: text and numbers at the front and the rest as it was; if refused, all as it was

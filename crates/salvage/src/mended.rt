@@ -109,13 +109,13 @@ pub fn salvage(file: &[u8], out: &mut [u8], list: &mut [u8]) -> Salvaged
     let found = count(file);
     let more = end_length(found.ended);
     if out.len() < found.bytes {
-        return refused(Refusal::OutputShort);
+        return refused(Refusal::SalvageShort);
     }
     if out.len() - found.bytes < more {
-        return refused(Refusal::OutputShort);
+        return refused(Refusal::SalvageShort);
     }
     if list.len() / 8 < found.numbers {
-        return refused(Refusal::OutputShort);
+        return refused(Refusal::SalvageShort);
     }
     put_lines(file, out, list);
     put_end(out, found.bytes, found.ended);
