@@ -19,14 +19,14 @@
  * What the prover does not see, and the host owes:
  *   - Pointers and lengths. A pointer with its length names bytes that are there, to be read, and written unless it is const. With length
  *     0 the pointer may be null.
- *   - Overlap. Two buffers that are lent to one call have no byte in common: memory and journal, memory and text, memory and output. Where
+ *   - Overlap. Two buffers that are lent to one call have no byte in common: memory and journal, memory and text, memory and output, text, output and list. Where
  *     they have, nothing is reported: the calls are answered 0, and undo silently fails to restore. DOORHAWSER_DEBUG, below, looks.
  *   - Other writers. Nobody else writes a lent buffer during a call. The journal's bytes are the calls' own: between calls the host may
  *     copy and move them, and changes none. A host that changes memory between calls gets back by undo what the calls changed, and no more.
  *   - These declarations. No proof ties them to crates/host: the assertions below hold sizes and offsets, tools/host tries every field,
  *     and doorhawser_abi() has to be DOORHAWSER_ABI.
  *
- * Define DOORHAWSER_DEBUG before this file is included, and each call that is lent two buffers first looks whether they overlap, or
+ * Define DOORHAWSER_DEBUG before this file is included, and each call that is lent several buffers first looks whether they overlap, or
  * whether a null pointer has a length, and if so says which call it is and aborts. It needs the C library then.
  */
 #ifndef DOORHAWSER_H
@@ -72,6 +72,7 @@ enum {
     DOORHAWSER_NO_END = 23,          /* load: no S9 */
     DOORHAWSER_POST_BYTE_8F = 24,    /* a post-byte of low form 8F other than 9F */
     DOORHAWSER_TOO_FEW_RECORDS = 26, /* drop of more records than are held */
+    DOORHAWSER_SALVAGE_SHORT = 29,   /* salvage: the output or the list is too short */
     DOORHAWSER_UNNAMED = 64          /* wait, armed, flags or which outside its range, or a spare field not 0; judged before all others */
 };
 
@@ -121,6 +122,12 @@ typedef struct doorhawser_loaded { /* 16 bytes */
 typedef struct doorhawser_written { /* 16 bytes */
     uint64_t count, answer;
 } doorhawser_written;
+
+typedef struct doorhawser_salvaged { /* 32 bytes */
+    uint64_t bytes, numbers;         /* bytes of the output and numbers of the list that are written */
+    uint64_t added;                  /* 1 where S9 was added, else 0 */
+    uint64_t answer;
+} doorhawser_salvaged;
 
 #ifdef __cplusplus
 #define DOORHAWSER_HOLDS(test) static_assert(test, #test)
@@ -173,6 +180,11 @@ DOORHAWSER_AT(doorhawser_loaded, answer, 8);
 DOORHAWSER_SIZE(doorhawser_written, 16);
 DOORHAWSER_AT(doorhawser_written, count, 0);
 DOORHAWSER_AT(doorhawser_written, answer, 8);
+DOORHAWSER_SIZE(doorhawser_salvaged, 32);
+DOORHAWSER_AT(doorhawser_salvaged, bytes, 0);
+DOORHAWSER_AT(doorhawser_salvaged, numbers, 8);
+DOORHAWSER_AT(doorhawser_salvaged, added, 16);
+DOORHAWSER_AT(doorhawser_salvaged, answer, 24);
 
 /* The library's DOORHAWSER_ABI. */
 uint64_t doorhawser_abi(void);
@@ -212,6 +224,12 @@ doorhawser_part doorhawser_newest(const uint8_t *journal, size_t journal_length,
  * zeros are left out: it reads back into a memory of zeros. */
 doorhawser_loaded doorhawser_load(uint8_t *memory, size_t memory_length, const uint8_t *text, size_t text_length);
 doorhawser_written doorhawser_save(const uint8_t *memory, size_t memory_length, uint16_t start, uint8_t *out, size_t out_length);
+
+/* What is sound of a torn S-record file: each line that load accepts, up to and with the first good S9, and S9030000FC where none is left. It
+ * always loads, and a file that loads comes back as it is. `list` gets the numbers of the lines that are dropped, counted from 1, eight bytes
+ * each, high byte first. An output of text_length + 11 bytes and a list of 8 * text_length always suffice. */
+doorhawser_salvaged doorhawser_salvage(const uint8_t *text, size_t text_length, uint8_t *out, size_t out_length, uint8_t *list,
+                                       size_t list_length);
 
 /* Where in memory the byte lies that the processor reads at an address: FFE0-FFFF is read 4000 lower. */
 static inline uint16_t doorhawser_place(uint16_t at) {
@@ -272,6 +290,14 @@ static inline doorhawser_written doorhawser_debug_save(const char *file, int lin
     return doorhawser_save(memory, memory_length, start, out, out_length);
 }
 
+static inline doorhawser_salvaged doorhawser_debug_salvage(const char *file, int line, const uint8_t *text, size_t text_length,
+                                                           uint8_t *out, size_t out_length, uint8_t *list, size_t list_length) {
+    doorhawser_apart(file, line, "doorhawser_salvage", text, text_length, out, out_length);
+    doorhawser_apart(file, line, "doorhawser_salvage", text, text_length, list, list_length);
+    doorhawser_apart(file, line, "doorhawser_salvage", out, out_length, list, list_length);
+    return doorhawser_salvage(text, text_length, out, out_length, list, list_length);
+}
+
 /* Variadic, so that a struct may be written out in a call: its commas are not the macro's. */
 #define doorhawser_step(...) doorhawser_debug_step(__FILE__, __LINE__, __VA_ARGS__)
 #define doorhawser_interrupt(...) doorhawser_debug_interrupt(__FILE__, __LINE__, __VA_ARGS__)
@@ -279,6 +305,7 @@ static inline doorhawser_written doorhawser_debug_save(const char *file, int lin
 #define doorhawser_undo(...) doorhawser_debug_undo(__FILE__, __LINE__, __VA_ARGS__)
 #define doorhawser_load(...) doorhawser_debug_load(__FILE__, __LINE__, __VA_ARGS__)
 #define doorhawser_save(...) doorhawser_debug_save(__FILE__, __LINE__, __VA_ARGS__)
+#define doorhawser_salvage(...) doorhawser_debug_salvage(__FILE__, __LINE__, __VA_ARGS__)
 #endif
 
 #ifdef __cplusplus

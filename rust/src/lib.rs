@@ -142,6 +142,32 @@ pub struct Ran {
     pub refused: Option<Refused>,
 }
 
+/// What is sound of a torn S-record file.
+#[derive(Clone, Debug, PartialEq, Eq)]
+pub struct Salvaged {
+    /// the lines that are kept, and S9 where none was left; it always loads
+    pub text: Vec<u8>,
+    /// the numbers of the lines that are dropped, counted from 1
+    pub dropped: Vec<u64>,
+    /// whether S9 was added
+    pub added: bool,
+}
+
+/// Keeps what is sound of an S-record file: each line that [`Twin::load`] accepts, up to and with the first good S9. S9030000FC is added
+/// where none is left. A file that loads comes back as it is.
+pub fn salvage(text: &[u8]) -> Salvaged {
+    let mut out = vec![0; text.len() + 11]; // the whole text, and S9
+    let mut list = vec![0; 8 * text.len()]; // a line has at least one byte
+
+    // Safety: the three buffers are apart and have their lengths; the text is only read.
+    let s = unsafe { raw::doorhawser_salvage(text.as_ptr(), text.len(), out.as_mut_ptr(), out.len(), list.as_mut_ptr(), list.len()) };
+    assert_eq!(s.answer, 0, "output and list are long enough");
+    out.truncate(s.bytes as usize);
+    list.truncate(8 * s.numbers as usize);
+    let number = |bytes: &[u8]| u64::from_be_bytes(bytes.try_into().expect("eight bytes"));
+    Salvaged { text: out, dropped: list.chunks(8).map(number).collect(), added: s.added != 0 }
+}
+
 /// A twin with its memory and its journal.
 #[derive(Clone)]
 pub struct Twin {

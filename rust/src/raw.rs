@@ -81,9 +81,18 @@ pub struct Written {
     pub answer: u64,
 }
 
+#[repr(C)]
+#[derive(Clone, Copy, Debug, PartialEq, Eq)]
+pub struct Salvaged {
+    pub bytes: u64,
+    pub numbers: u64,
+    pub added: u64,
+    pub answer: u64,
+}
+
 const _: () = assert!(size_of::<usize>() == 8 && size_of::<Settings>() == 4 && size_of::<Twin>() == 48 && size_of::<Write>() == 4);
 const _: () = assert!(size_of::<Outcome>() == 128 && size_of::<Ran>() == 136);
-const _: () = assert!(size_of::<Part>() == 16 && size_of::<Loaded>() == 16 && size_of::<Written>() == 16);
+const _: () = assert!(size_of::<Part>() == 16 && size_of::<Loaded>() == 16 && size_of::<Written>() == 16 && size_of::<Salvaged>() == 32);
 
 /// A recorded call that takes nothing but the twin and its settings.
 pub type Recorded = unsafe extern "C" fn(*mut u8, usize, *mut u8, usize, Twin, Settings) -> Outcome;
@@ -128,4 +137,12 @@ extern "C" {
     pub fn doorhawser_newest(journal: *const u8, journal_length: usize, records: u64, bytes: u64) -> Part;
     pub fn doorhawser_load(memory: *mut u8, memory_length: usize, text: *const u8, text_length: usize) -> Loaded;
     pub fn doorhawser_save(memory: *const u8, memory_length: usize, start: u16, out: *mut u8, out_length: usize) -> Written;
+    pub fn doorhawser_salvage(
+        text: *const u8,
+        text_length: usize,
+        out: *mut u8,
+        out_length: usize,
+        list: *mut u8,
+        list_length: usize,
+    ) -> Salvaged;
 }

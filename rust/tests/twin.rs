@@ -1,5 +1,5 @@
 //! Expected values: document 01's worked input and checked examples, examples/README.md, and the S-records by hand.
-use doorhawser::{raw, DeviceWrite, Flags, Interrupt, Refused, Registers, Settings, Twin, Wait};
+use doorhawser::{raw, DeviceWrite, Flags, Interrupt, Refused, Registers, Salvaged, Settings, Twin, Wait};
 
 fn twin(flags: Flags, records: usize) -> Twin {
     Twin::new(Settings { ram_top: 0x7FFF, flags }, records)
@@ -140,6 +140,21 @@ fn the_settings_part_at_dec_00() {
 }
 
 #[test]
+fn torn_files_are_salvaged() {
+    let sound = b"S10510005F5A31\nS9031000EC\n";
+    assert_eq!(doorhawser::salvage(sound), Salvaged { text: sound.to_vec(), dropped: vec![], added: false });
+    // a bad checksum, a line after S9, and one that is cut
+    let torn = b"S10510005F5A30\nS10510005F5A31\nS9031000EC\nS9030000FC\nS10";
+    assert_eq!(doorhawser::salvage(torn), Salvaged { text: sound.to_vec(), dropped: vec![1, 4, 5], added: false });
+    let cut = doorhawser::salvage(&sound[..20]);
+    assert_eq!(cut, Salvaged { text: b"S10510005F5A31\nS9030000FC\n".to_vec(), dropped: vec![2], added: true });
+    assert_eq!(doorhawser::salvage(b""), Salvaged { text: b"S9030000FC\n".to_vec(), dropped: vec![], added: true });
+    assert_eq!(twin(Flags::Manual, 0).load(&cut.text), Ok(0));
+    // as many lines as a file of its length can have
+    assert_eq!(doorhawser::salvage(&[b'\n'; 999]).dropped, (1..=999).collect::<Vec<u64>>());
+}
+
+#[test]
 fn records_are_read_and_written() {
     let text = b"S10510005F5A31\nS105BFFE10002D\nS9031000EC\n";
     let mut t = twin(Flags::Manual, 0);
@@ -196,4 +211,6 @@ fn the_layout_is_the_headers() {
     assert_eq!(at!(raw::Part { at: 0, count: 0 }, at, count), [0, 8]);
     assert_eq!(at!(raw::Loaded { start: 0, answer: 0 }, start, answer), [0, 8]);
     assert_eq!(at!(raw::Written { count: 0, answer: 0 }, count, answer), [0, 8]);
+    let s = raw::Salvaged { bytes: 0, numbers: 0, added: 0, answer: 0 };
+    assert_eq!(at!(s, bytes, numbers, added, answer), [0, 8, 16, 24]);
 }

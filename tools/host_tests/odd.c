@@ -173,6 +173,7 @@ static void nulls(void) {
     HOLD(doorhawser_load(memory, sizeof memory, NULL, 0).answer == DOORHAWSER_NO_END);
     HOLD(doorhawser_save(NULL, 0, 0, NULL, 0).answer == DOORHAWSER_MEMORY_LENGTH);
     HOLD(doorhawser_save(memory, sizeof memory, 0, NULL, 0).answer == DOORHAWSER_OUTPUT_SHORT);
+    HOLD(doorhawser_salvage(NULL, 0, NULL, 0, NULL, 0).answer == DOORHAWSER_SALVAGE_SHORT);
     HOLD(kept());
     done("null with length 0");
 }
@@ -476,6 +477,48 @@ static void records(void) {
     done("S-records");
 }
 
+/* ---- torn S-records */
+
+static const struct {
+    const char *text, *mended;
+    uint64_t numbers, first, last, added;
+} torn[] = {
+    {"S10510005F5A31\nS9031000EC\n", "S10510005F5A31\nS9031000EC\n", 0, 0, 0, 0},
+    {"S10510005F5A31\nS9031000EC\nS9031000EC\n\n", "S10510005F5A31\nS9031000EC\n", 2, 3, 4, 0},
+    {"S10510005F5A30\nS9031000ED\nS105FFFF5F5A43\nS9031000E", "S9030000FC\n", 4, 1, 4, 1},
+    {"\nS10510005F5A31\nS9031000EC", "S10510005F5A31\nS9030000FC\n", 2, 1, 3, 1},
+    {"", "S9030000FC\n", 0, 0, 0, 1},
+};
+
+static uint64_t number_at(const uint8_t *bytes) {
+    uint64_t n = 0;
+    for (int i = 0; i < 8; i++) n = n << 8 | bytes[i];
+    return n;
+}
+
+static void salvages(void) {
+    uint8_t out[64], list[64], out_was[sizeof out], list_was[sizeof list];
+    for (size_t i = 0; i < sizeof torn / sizeof *torn; i++) {
+        const uint8_t *text = (const uint8_t *)torn[i].text;
+        const size_t length = strlen(torn[i].text), bytes = strlen(torn[i].mended), room = 8 * torn[i].numbers;
+        fill(out, sizeof out);
+        fill(list, sizeof list);
+        memcpy(out_was, out, sizeof out);
+        memcpy(list_was, list, sizeof list);
+        doorhawser_salvaged s = doorhawser_salvage(text, length, out, bytes - 1, list, sizeof list);
+        HOLD(s.answer == DOORHAWSER_SALVAGE_SHORT && !s.bytes && !s.numbers && !s.added);
+        if (room) s = doorhawser_salvage(text, length, out, sizeof out, list, room - 1);
+        HOLD(s.answer == DOORHAWSER_SALVAGE_SHORT && !memcmp(out, out_was, sizeof out) && !memcmp(list, list_was, sizeof list));
+        s = doorhawser_salvage(text, length, out, bytes, list, room);
+        HOLD(!s.answer && s.bytes == bytes && s.numbers == torn[i].numbers && s.added == torn[i].added);
+        HOLD(!memcmp(out, torn[i].mended, bytes) && !memcmp(out + bytes, out_was + bytes, sizeof out - bytes));
+        HOLD(!memcmp(list + room, list_was + room, sizeof list - room));
+        HOLD(!room || (number_at(list) == torn[i].first && number_at(list + room - 8) == torn[i].last));
+        HOLD(!doorhawser_load(memory, sizeof memory, out, s.bytes).answer);
+    }
+    done("torn S-records");
+}
+
 int main(void) {
     nulls();
     out_of_range();
@@ -487,5 +530,6 @@ int main(void) {
     runs();
     journals();
     records();
+    salvages();
     return 0;
 }

@@ -16,6 +16,9 @@ static void make(const char *call, uint8_t *m, size_t ml, uint8_t *o, size_t ol)
     if (!strcmp(call, "undo")) doorhawser_undo(m, ml, o, ol, doorhawser_start());
     if (!strcmp(call, "load")) doorhawser_load(m, ml, o, ol);
     if (!strcmp(call, "save")) doorhawser_save(m, ml, 0, o, ol);
+    if (!strcmp(call, "salvage")) doorhawser_salvage(m, ml, o, ol, NULL, 0);
+    if (!strcmp(call, "salvage, text and list")) doorhawser_salvage(m, ml, NULL, 0, o, ol);
+    if (!strcmp(call, "salvage, output and list")) doorhawser_salvage(NULL, 0, m, ml, o, ol);
 }
 
 int main(int argc, char **argv) {

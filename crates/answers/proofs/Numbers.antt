@@ -8,7 +8,7 @@ use native.Mathlib.Omega.{arith}
 use lib.ListN.{getD}
 use Rattle.answers.specs.Numbers.{numberOf, RefusedByANumber, SixWithdrawn, NumbersApart}
 use Rattle.answers.specs.declared.Refusal.{Refusal}
-use Rattle.answers.specs.declared.Refusal.the-variants.{MemoryLength, Waiting, Opcode, PastEnd, PostByte, TransferCode, StackTooSmall, ZeroAtVector, JournalFull, NoRecord, JournalLength, DivisionByZero, LeftByte, NoRoom, Malformed, OutputShort, LineShape, Checksum, PastTop, NoEnd, PostByte8F, TooFewRecords}
+use Rattle.answers.specs.declared.Refusal.the-variants.{MemoryLength, Waiting, Opcode, PastEnd, PostByte, TransferCode, StackTooSmall, ZeroAtVector, JournalFull, NoRecord, JournalLength, DivisionByZero, LeftByte, NoRoom, Malformed, OutputShort, LineShape, Checksum, PastTop, NoEnd, PostByte8F, TooFewRecords, SalvageShort}
 
 pub refused-by-a-number : RefusedByANumber
 refused-by-a-number MemoryLength = omega arith
@@ -33,13 +33,14 @@ refused-by-a-number PastTop = omega arith
 refused-by-a-number NoEnd = omega arith
 refused-by-a-number PostByte8F = omega arith
 refused-by-a-number TooFewRecords = omega arith
+refused-by-a-number SalvageShort = omega arith
 
--- the refusal of a number, by the table's places; 6, 18, 19 and 25 are not used
+-- the refusal of a number, by the table's places; 6, 18, 19, 25, 27 and 28 are not used
 abbrev refusalOf : ℕ → Refusal
 refusalOf n =
     getD
-    (PostByte8F ∷ MemoryLength ∷ Waiting ∷ Opcode ∷ PastEnd ∷ PostByte ∷ PostByte8F ∷ TransferCode ∷ StackTooSmall ∷ ZeroAtVector ∷ JournalFull ∷ NoRecord ∷ JournalLength ∷ DivisionByZero ∷ LeftByte ∷ NoRoom ∷ Malformed ∷ OutputShort ∷ PostByte8F ∷ PostByte8F ∷ LineShape ∷ Checksum ∷ PastTop ∷ NoEnd ∷ PostByte8F ∷ PostByte8F ∷ TooFewRecords ∷ [])
-    n PostByte8F
+    (SalvageShort ∷ MemoryLength ∷ Waiting ∷ Opcode ∷ PastEnd ∷ PostByte ∷ SalvageShort ∷ TransferCode ∷ StackTooSmall ∷ ZeroAtVector ∷ JournalFull ∷ NoRecord ∷ JournalLength ∷ DivisionByZero ∷ LeftByte ∷ NoRoom ∷ Malformed ∷ OutputShort ∷ SalvageShort ∷ SalvageShort ∷ LineShape ∷ Checksum ∷ PastTop ∷ NoEnd ∷ PostByte8F ∷ SalvageShort ∷ TooFewRecords ∷ [])
+    n SalvageShort
 
 back : (x : Refusal) → refusalOf (numberOf x) ≡ x
 back MemoryLength = refl
@@ -64,12 +65,13 @@ back PastTop = refl
 back NoEnd = refl
 back PostByte8F = refl
 back TooFewRecords = refl
+back SalvageShort = refl
 
 pub numbers-apart : NumbersApart
 numbers-apart x y e = sym (back x) ∙ (ap refusalOf e ∙ back y)
 
 pub six-withdrawn : SixWithdrawn
 six-withdrawn x e =
-    let d : x ≡ PostByte8F = sym (back x) ∙ ap refusalOf e in
-    let f : _≡_ {A = ℕ} 6 24 = sym e ∙ ap numberOf d in
+    let d : x ≡ SalvageShort = sym (back x) ∙ ap refusalOf e in
+    let f : _≡_ {A = ℕ} 6 29 = sym e ∙ ap numberOf d in
     omega arith

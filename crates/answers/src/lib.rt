@@ -26,6 +26,7 @@ pub enum Refusal {
     NoEnd,
     PostByte8F,
     TooFewRecords,
+    SalvageShort,
 }
 
 pub enum Answer {
@@ -60,6 +61,7 @@ impl Refusal {
             Refusal::NoEnd => 23,
             Refusal::PostByte8F => 24,
             Refusal::TooFewRecords => 26,
+            Refusal::SalvageShort => 29,
         }
     }
 }

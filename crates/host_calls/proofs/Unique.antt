@@ -43,3 +43,7 @@ load κs a x y ws vs p q = (p .0 ∙ sym (q .0), ap (λ (l : List ℕ). (l, (tt,
 
 pub save : Determines 2 proofs.doorhawser_save.Kinds.ps proofs.doorhawser_save.Kinds.r proofs.doorhawser_save.Reads.Post
 save κs a x y ws vs p q = (p .0 ∙ sym (q .0), ap (λ (l : List ℕ). (tt, (tt, (l, tt)))) (p .1 ∙ sym (q .1)))
+
+-- the result, and output and list at exit
+pub salvage : Determines 3 proofs.doorhawser_salvage.Kinds.ps proofs.doorhawser_salvage.Kinds.r proofs.doorhawser_salvage.Reads.Post
+salvage κs a x y ws vs p q = (p .0 ∙ sym (q .0), λ i. (tt, ((p .1 .0 ∙ sym (q .1 .0)) i, ((p .1 .1 ∙ sym (q .1 .1)) i, tt))))

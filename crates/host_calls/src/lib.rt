@@ -1,4 +1,4 @@
-// The calls of a host that are not steps: start, interrupt, reset, undo, drop, the newest record, and S-records.
+// The calls of a host that are not steps: start, interrupt, reset, undo, drop, the newest record, and S-records, torn ones too.
 ghost use mathlib.Core.Path.{_≡_};
 ghost use lib.ListN.{length};
 ghost use Rattle.journal.specs.Recorded.{freshTwin, interrupted, wasReset};
@@ -8,10 +8,11 @@ ghost use Rattle.calls.specs.Interrupts.{interruptOf, memoryAfterInterrupt};
 ghost use Rattle.calls.specs.Resets.{resetOf, memoryAfterReset};
 ghost use Rattle.srecord.specs.File.{loadedOf, memoryLoaded};
 ghost use Rattle.srecord.specs.Written.{outputWritten, outputAfter};
+ghost use Rattle.salvage.specs.Mended.{salvagedOf, outputMended, listFilled};
 ghost use Rattle.host.specs.Numbers.{interruptTypeOf, isTwin, isNamed, isInterrupt};
 ghost use Rattle.host.specs.Structs.{settingsFrom, machineFrom, hostTwin};
 ghost use Rattle.host.specs.Ends.{Ends, EndsEach, Reports};
-ghost use Rattle.host_calls.specs.Results.{abiNumber, partOf, hostLoaded, hostWritten};
+ghost use Rattle.host_calls.specs.Results.{abiNumber, partOf, hostLoaded, hostWritten, oneIf, hostSalvaged};
 use host::HostOutcome;
 use host::HostSettings;
 use host::HostTwin;
@@ -36,6 +37,15 @@ pub struct HostLoaded {
 #[repr(C)]
 pub struct HostWritten {
     pub count: usize,
+    pub answer: u64,
+}
+
+// `added` is 1 where S9 was added, else 0.
+#[repr(C)]
+pub struct HostSalvaged {
+    pub bytes: usize,
+    pub numbers: usize,
+    pub added: u64,
     pub answer: u64,
 }
 
@@ -195,6 +205,28 @@ pub extern "C" fn doorhawser_save(mem: &[u8], start: u16, out: &mut [u8]) -> Hos
     let answer = written.answer;
     HostWritten {
         count: written.count,
+        answer: answer.number() as u64,
+    }
+}
+
+fn one_if(is: bool) -> u64
+    ensures { λ r. ⌜ r ≡ oneIf is ⌝ }
+{
+    if is { 1 } else { 0 }
+}
+
+// What is sound of an S-record file, at the front of `out`, and the numbers of the lines that are dropped, at the front of `list`.
+#[no_mangle]
+pub extern "C" fn doorhawser_salvage(text: &[u8], out: &mut [u8], list: &mut [u8]) -> HostSalvaged
+    ensures { λ r. ⌜ (r ≡ hostSalvaged (salvagedOf (now (text .entry)) (now (out .entry)) (now (list .entry)))) × ((now (out .exit) ≡ outputMended (now (text .entry)) (now (out .entry)) (now (list .entry))) × (now (list .exit) ≡ listFilled (now (text .entry)) (now (out .entry)) (now (list .entry)))) ⌝ }
+{
+    let salvaged = salvage::salvage(text, out, list);
+    let answer = salvaged.answer;
+    let added = one_if(salvaged.added);
+    HostSalvaged {
+        bytes: salvaged.bytes,
+        numbers: salvaged.numbers,
+        added,
         answer: answer.number() as u64,
     }
 }

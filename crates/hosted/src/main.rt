@@ -148,6 +148,22 @@ fn save(mem: &Memory) {
     played::number(written.count as u64);
 }
 
+fn wide(b: u8) -> u64 {
+    b as u64
+}
+
+// A torn file: a line, and one that is cut.
+fn salvage() {
+    let mut out = [0u8; 26];
+    let mut list = [0u8; 8];
+    let salvaged = host_calls::doorhawser_salvage(b"S10510005F5A31\nS1051002", &mut out, &mut list);
+    played::number(salvaged.answer);
+    played::number(salvaged.bytes as u64);
+    played::number(salvaged.numbers as u64);
+    played::number(salvaged.added);
+    played::number(wide(list[7]));
+}
+
 fn main() {
     let mut mem = [0u8; 0x10000];
     let mut journal = [0u8; 206];
@@ -160,6 +176,7 @@ fn main() {
     let again = forward(&mut mem, &mut journal);
     forget(&mut mem, &mut journal, again);
     save(&mem);
+    salvage();
     unrecorded(&mut mem, none);
     unnamed(&mut mem, &mut journal, none);
 }

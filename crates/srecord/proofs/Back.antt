@@ -49,19 +49,21 @@ cut [] rest h = refl
 cut (c ∷ l) rest h = rw (ne-eqb c 10 (h .0), cut l rest (h .1))
 
 -- the first line of a text
-line-cut : (kind a : ℕ) (d rest : List ℕ) → a < 65536 → Each d → mayHold kind (length d) ≡ true
-    → meaningsOf (lineText kind a d ++ rest) ≡ meant kind a d ∷ meaningsOf rest
-unfolding meaningsOf
-line-cut kind a d rest low are may =
-    let k = hold-kinds (held kind (length d) may) in
-    let t = text-is kind a d in
-    let p = pairs (allBytes a d) in
-    let c = cut (83 ∷ kind ∷ p) rest ((λ e. omega arith), ((λ e. omega arith), no-feed _ (are-bytes kind a d low are may))) in
-    let s : lineText kind a d ++ rest ≡ (83 ∷ kind ∷ p) ++ (10 ∷ rest) =
-    rw t (ap (λ (l : List ℕ). 83 ∷ kind ∷ l) (append-assoc p (10 ∷ []) rest)) in
-    ap (λ (l : List ℕ). map lineOf (linesOf l)) s
-    ∙ ap (map lineOf) c
-    ∙ ap (λ (m : Meaning). m ∷ map lineOf (linesOf rest)) (ap lineOf (sym t) ∙ reads kind a d low are may)
+module _ (kind a : ℕ) (d rest : List ℕ) (low : a < 65536) (are : Each d) (may : mayHold kind (length d) ≡ true) where
+  pub first-cut : linesOf (lineText kind a d ++ rest) ≡ lineText kind a d ∷ linesOf rest
+  first-cut =
+      let k = hold-kinds (held kind (length d) may) in
+      let t = text-is kind a d in
+      let p = pairs (allBytes a d) in
+      let s : lineText kind a d ++ rest ≡ (83 ∷ kind ∷ p) ++ (10 ∷ rest) =
+      rw t (ap (λ (l : List ℕ). 83 ∷ kind ∷ l) (append-assoc p (10 ∷ []) rest)) in
+      ap linesOf s
+      ∙ cut (83 ∷ kind ∷ p) rest ((λ e. omega arith), ((λ e. omega arith), no-feed _ (are-bytes kind a d low are may)))
+      ∙ ap (λ (l : List ℕ). l ∷ linesOf rest) (sym t)
+
+  line-cut : meaningsOf (lineText kind a d ++ rest) ≡ meant kind a d ∷ meaningsOf rest
+  unfolding meaningsOf
+  line-cut = ap (map lineOf) first-cut ∙ ap (λ (m : Meaning). m ∷ map lineOf (linesOf rest)) (reads kind a d low are may)
 
 abbrev zeros : ℕ → List ℕ
 zeros n = replicate n 0

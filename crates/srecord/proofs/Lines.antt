@@ -70,12 +70,16 @@ module _ (file : List ℕ) (from : ℕ) (h : from < length file) where
       (omega arith, omega arith)
 
   -- the line from here on, and those after it
+  pub next-text : (end : ℕ) → end ≡ lineEnd file from → linesOf (drop from file) ≡ take (end - from) (drop from file) ∷ linesOf (drop end file)
+  unfolding lineEnd
+  next-text end e =
+      let n : end - from ≡ length (first (linesOf (drop from file))) = omega arith in
+      here .lines ∙ rw (n, drop-drop (length (first (linesOf (drop from file)))) from file, e)
+
   pub next-line : (end : ℕ) → end ≡ lineEnd file from
       → meaningsOf (drop from file) ≡ lineOf (take (end - from) (drop from file)) ∷ meaningsOf (drop end file)
-  unfolding meaningsOf lineEnd
-  next-line end e =
-      let n : end - from ≡ length (first (linesOf (drop from file))) = omega arith in
-      ap (map lineOf) (here .lines) ∙ rw (n, drop-drop (length (first (linesOf (drop from file)))) from file, e)
+  unfolding meaningsOf
+  next-line end e = ap (map lineOf) (next-text end e)
 
 pub no-lines : (file : List ℕ) (from : ℕ) → length file ≤ from → meaningsOf (drop from file) ≡ []
 unfolding meaningsOf linesOf

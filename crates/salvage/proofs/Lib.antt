@@ -1,0 +1,10 @@
+pub mod Turns
+pub mod Walk
+pub mod Tallies
+pub mod Laying
+pub mod Calls
+pub mod Short
+pub mod Laws
+pub mod Telling
+pub mod Mending
+pub mod Unique

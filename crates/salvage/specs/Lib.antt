@@ -1,0 +1,4 @@
+pub mod Lines
+pub mod Mended
+pub mod Printed
+pub mod Laws
