@@ -132,9 +132,9 @@ module _ (a b : List ℕ) where
       rw (on-equal a b n first at e)
       (only-later k first at (runsFrom a b n (suc at) (suc at)) h f
       ∙ ⊎-elim
-        (λ s. below k n (suc at) (suc at) (omega arith) (omega arith) ∙ sym (rw (← s, eq-eqb (getD a at 0) (getD b at 0) e)))
-        (λ l. ahead k n (suc at) (suc at) (omega arith) l (omega arith))
-        (eq-or-lt-of-le h)))
+      (λ s. below k n (suc at) (suc at) (omega arith) (omega arith) ∙ sym (rw (← s, eq-eqb (getD a at 0) (getD b at 0) e)))
+      (λ l. ahead k n (suc at) (suc at) (omega arith) l (omega arith))
+      (eq-or-lt-of-le h)))
       (λ e.
       rw (on-apart a b n first at e)
       (⊎-elim

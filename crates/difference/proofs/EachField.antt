@@ -187,5 +187,6 @@ fields-exchanged l r (g ∷ gs) = sym (map-append (fieldApart g l r) (fieldsApar
     so : (t : Bool) (x y : ℕ) → map exchanged (cond t [] (field g x y ∷ [])) ≡ cond t [] (field g y x ∷ [])
     so true x y = refl
     so false x y = refl
+
     one : map exchanged (fieldApart g l r) ≡ fieldApart g r l
     one = rw (eqb-swap (fieldOf g r) (fieldOf g l)) (so (eqb (fieldOf g l) (fieldOf g r)) (fieldOf g l) (fieldOf g r))

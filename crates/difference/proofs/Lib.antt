@@ -4,3 +4,6 @@ pub mod EachField
 pub mod Whole
 pub mod Listing
 pub mod Turns
+pub mod Calls
+pub mod ReadBack
+pub mod Unique

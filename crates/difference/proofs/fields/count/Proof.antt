@@ -1,83 +1,55 @@
+-- The fields before the k-th that differ are counted, and those from it on are still to come.
+-- Assumes nothing.
+use Prim.Native.Nat.{ℕ, _+_, _-_, _≤_}
+use mathlib.Core.Path.{_≡_, refl, sym, ap, _∙_}
+use native.Mathlib.Omega.{arith}
+use mathlib.Core.Bool.{not}
+use lib.Dec.{eqb}
+use lib.ListN.{length, getD, drop}
+use Rattle.machine.specs.Record.{fields}
+use Rattle.machine.specs.declared.Machine.{Machine}
+use Rattle.difference.specs.Differences.{fieldsApart}
+use Rattle.difference.proofs.Turns.{values, one-at-most, count-field}
+use borrow.Author.Needs.{needs}
 use Rattle.difference.proofs.fields.count.Statement.{statement}
 use Rattle.difference.proofs.fields.count.Tie as tie
-use Rattle.difference.proofs.fields.count.Reads as reads
-use Rattle.difference.proofs.fields.count.Lts as lts
-use Rattle.difference.proofs.fields.values_of.Reads as values-of-reads
 
 abbrev Inv-loop : tie.InvT-loop
-Inv-loop l r n₀ k₀ n k = ?
+Inv-loop l r n₀ k₀ n k =
+    (k ≤ 12) × ((n ≤ k) × ((x y : Machine) → l ≡ values x → r ≡ values y → n + length (fieldsApart (drop k fields) x y) ≡ length (fieldsApart fields x y)))
 
 abbrev μ-loop : tie.MeasureT-loop
-μ-loop l r n₀ k₀ n k = ?
+μ-loop l r n₀ k₀ n k = 12 - k
 
--- src/fields.rt:46:13
-values-of-requires : tie.Need-values-of-requires Inv-loop μ-loop
-values-of-requires c κs = ?
-
--- src/fields.rt:47:13
-values-of-requires-2 : tie.Need-values-of-requires-2 Inv-loop μ-loop
-values-of-requires-2 c κs = ?
-
--- src/fields.rt:50:5
 loop-holds : tie.Need-loop-holds Inv-loop μ-loop
-loop-holds c = ?
+loop-holds c = (omega arith, (omega arith, λ x y p q. omega arith))
 
--- src/fields.rt:51:15
 mul-n : tie.Need-mul-n Inv-loop μ-loop
-mul-n c = ?
+mul-n c = search needs
 
--- src/fields.rt:51:15
 array-read-n : tie.Need-array-read-n Inv-loop μ-loop
-array-read-n c = ?
+array-read-n c = search needs
 
--- src/fields.rt:51:23
-mul-n-2 : tie.Need-mul-n-2 Inv-loop μ-loop
-mul-n-2 c = ?
-
--- src/fields.rt:51:23
-array-read-n-2 : tie.Need-array-read-n-2 Inv-loop μ-loop
-array-read-n-2 c = ?
-
--- src/fields.rt:51:14
 cast-n : tie.Need-cast-n Inv-loop μ-loop
-cast-n c = ?
+cast-n c = tt
 
--- src/fields.rt:51:9
 add-n : tie.Need-add-n Inv-loop μ-loop
-add-n c = ?
+add-n c = record { fits = omega (arith, one-at-most (not (eqb (getD (c .before .before .before .values-of .result) (c .before .loop .k) 0) (getD (c .before .before .values-of2 .result) (c .before .loop .k) 0)))) }
 
--- src/fields.rt:52:9
-add-k : tie.Need-add-k Inv-loop μ-loop
-add-k c = ?
-
--- src/fields.rt:50:5
-loop-less : tie.Need-loop-less Inv-loop μ-loop
-loop-less c = ?
-
--- src/fields.rt:50:5
 loop-again : tie.Need-loop-again Inv-loop μ-loop
-loop-again c = ?
+loop-again c =
+    let l = c .before .loop in
+    let v = c .before .before .before .values-of .result in
+    let w = c .before .before .values-of2 .result in
+    (omega arith, (omega (arith, one-at-most (not (eqb (getD v (l .k) 0) (getD w (l .k) 0)))), λ x y p q. count-field x y (l .k) (omega arith) v w p q (l .n) ∙ l .inv .1 .1 x y p q))
 
--- src/fields.rt:43:1
 returns : tie.Need-returns Inv-loop μ-loop
-returns c = ?
+unfolding fieldsApart
+returns c =
+    let l = c .before .loop in
+    let a = c .before .before .before .before .args in
+    let e : l .k ≡ 12 = omega arith in
+    omega (arith, rw e at (l .inv .1 .1 (a .left) (a .right) (c .before .before .before .values-of .ensures) (c .before .before .values-of2 .ensures)))
 
 pub count-spec : {M : Type 1} → statement M
-count-spec =
-    tie.close
-    (tie.spec
-    Inv-loop
-    μ-loop
-    values-of-requires
-    values-of-requires-2
-    loop-holds
-    mul-n
-    array-read-n
-    mul-n-2
-    array-read-n-2
-    cast-n
-    add-n
-    add-k
-    loop-less
-    loop-again
-    returns)
+count-spec = tie.close (tie.spec Inv-loop μ-loop (search needs) (search needs) loop-holds mul-n array-read-n (search needs) (search needs) cast-n add-n (search needs) (search needs) loop-again returns)

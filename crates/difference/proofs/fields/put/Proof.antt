@@ -1,89 +1,69 @@
+-- The entries of the fields before the k-th are written, and those from it on are still to come.
+-- Assumes nothing.
+use Prim.Native.Nat.{ℕ, _+_, _-_, _*_, _≤_}
+use mathlib.Core.Path.{_≡_, refl, sym, ap, _∙_}
+use native.Mathlib.Omega.{arith}
+use lib.Dec.{eqb}
+use lib.ListN.{length, getD, drop}
+use lib.Seq.{sets}
+use Rattle.machine.specs.Record.{fields}
+use Rattle.machine.specs.declared.Machine.{Machine}
+use Rattle.difference.specs.Differences.{fieldsApart}
+use Rattle.difference.specs.Compare.{entryBytes, entryLength, listed}
+use Rattle.difference.proofs.Turns.{values, width-field, put-field, width-at-most, length-put}
+use borrow.Author.Needs.{needs}
 use Rattle.difference.proofs.fields.put.Statement.{statement}
 use Rattle.difference.proofs.fields.put.Tie as tie
-use Rattle.difference.proofs.fields.put.Reads as reads
-use Rattle.difference.proofs.fields.put.Lts as lts
-use Rattle.difference.proofs.fields.put_one.Reads as put-one-reads
-use Rattle.difference.proofs.fields.values_of.Reads as values-of-reads
 
 abbrev Inv-loop : tie.InvT-loop
-Inv-loop list₀ l r at₀ k₀ list at k = ?
+Inv-loop list₀ l r at₀ k₀ list at k =
+    (k ≤ 12) × ((at ≤ entryLength * k) × ((length list ≡ length list₀) × ((x y : Machine) → l ≡ values x → r ≡ values y
+    → (at + entryLength * length (fieldsApart (drop k fields) x y) ≡ entryLength * length (fieldsApart fields x y))
+    × (sets list at (listed (fieldsApart (drop k fields) x y)) ≡ sets list₀ 0 (listed (fieldsApart fields x y))))))
 
 abbrev μ-loop : tie.MeasureT-loop
-μ-loop list₀ l r at₀ k₀ list at k = ?
+μ-loop list₀ l r at₀ k₀ list at k = 12 - k
 
--- src/fields.rt:73:13
-values-of-requires : tie.Need-values-of-requires Inv-loop μ-loop
-values-of-requires c κs = ?
-
--- src/fields.rt:74:13
-values-of-requires-2 : tie.Need-values-of-requires-2 Inv-loop μ-loop
-values-of-requires-2 c κs = ?
-
--- src/fields.rt:77:5
 loop-holds : tie.Need-loop-holds Inv-loop μ-loop
-loop-holds c = ?
+loop-holds c = (omega arith, (omega arith, (refl, λ x y p q. (omega arith, refl))))
 
--- src/fields.rt:78:17
-cast-i : tie.Need-cast-i Inv-loop μ-loop
-cast-i c = ?
-
--- src/fields.rt:80:19
 mul-t12 : tie.Need-mul-t12 Inv-loop μ-loop
-mul-t12 c = ?
+mul-t12 c = search needs
 
--- src/fields.rt:80:19
 array-read-t15 : tie.Need-array-read-t15 Inv-loop μ-loop
-array-read-t15 c = ?
+array-read-t15 c = search needs
 
--- src/fields.rt:81:20
-mul-t16 : tie.Need-mul-t16 Inv-loop μ-loop
-mul-t16 c = ?
-
--- src/fields.rt:81:20
-array-read-t19 : tie.Need-array-read-t19 Inv-loop μ-loop
-array-read-t19 c = ?
-
--- src/fields.rt:84:9
 put-one-requires : tie.Need-put-one-requires Inv-loop μ-loop
-put-one-requires c κs = ?
+put-one-requires c κs = omega arith
 
--- src/fields.rt:85:9
-add-k : tie.Need-add-k Inv-loop μ-loop
-add-k c = ?
-
--- src/fields.rt:77:5
-loop-less : tie.Need-loop-less Inv-loop μ-loop
-loop-less c = ?
-
--- src/fields.rt:77:5
 loop-again : tie.Need-loop-again Inv-loop μ-loop
-loop-again c = ?
+loop-again c =
+    let l = c .before .before .before .before .before .loop in
+    let v = c .before .before .before .before .before .before .before .values-of .result in
+    let w = c .before .before .before .before .before .before .values-of2 .result in
+    let t = eqb (getD v (l .k) 0) (getD w (l .k) 0) in
+    let put = c .before .before .put-one .ensures in (
+      omega arith,
+      (
+        omega (arith, width-at-most t, put .0),
+        (
+          ap length (put .1) ∙ length-put t (l .at) (l .list) (entryBytes (record { what = l .k; left = getD v (l .k) 0; right = getD w (l .k) 0 })) ∙ l .inv .1 .1 .0,
+          λ x y p q. let i = l .inv .1 .1 .1 x y p q in (
+            rw (put .0) (width-field x y (l .k) (omega arith) v w p q (l .at) ∙ i .0),
+            rw (put .0, put .1) (put-field x y (l .k) (omega arith) v w p q (l .at) (l .list) ∙ i .1),
+          ),
+        ),
+      ),
+    )
 
--- src/fields.rt:70:1
-same-length : tie.Need-same-length Inv-loop μ-loop
-same-length c = ?
-
--- src/fields.rt:70:1
 returns : tie.Need-returns Inv-loop μ-loop
-returns c = ?
+unfolding fieldsApart listed
+returns c =
+    let l = c .before .loop in
+    let a = c .before .before .before .before .before .args in
+    let e : l .k ≡ 12 = omega arith in
+    let i = rw e at (l .inv .1 .1 .1 (a .left) (a .right) (c .before .before .before .values-of .ensures) (c .before .before .values-of2 .ensures)) in
+    (omega (arith, i .0), i .1)
 
 pub put-spec : {M : Type 1} → statement M
-put-spec =
-    tie.close
-    (tie.spec
-    Inv-loop
-    μ-loop
-    values-of-requires
-    values-of-requires-2
-    loop-holds
-    cast-i
-    mul-t12
-    array-read-t15
-    mul-t16
-    array-read-t19
-    put-one-requires
-    add-k
-    loop-less
-    loop-again
-    same-length
-    returns)
+put-spec = tie.close (tie.spec Inv-loop μ-loop (search needs) (search needs) loop-holds (search needs) mul-t12 array-read-t15 (search needs) (search needs) put-one-requires (search needs) (search needs) loop-again (λ c. c .before .loop .inv .1 .1 .0) returns)

@@ -1,73 +1,66 @@
+-- The entries of the runs that ended before i are written, and those that end from i on are still to come.
+-- Assumes nothing.
+use Prim.Native.Nat.{ℕ, _+_, _-_, _*_, _≤_}
+use mathlib.Core.Path.{_≡_, refl, sym, ap, _∙_}
+use mathlib.Core.Logic.{⊎-elim}
+use native.Mathlib.Omega.{arith}
+use lib.Dec.{ltb}
+use lib.ListN.{length}
+use lib.Seq.{sets, length-sets}
+use Rattle.difference.specs.Differences.{runUpTo, runsFrom, runs}
+use Rattle.difference.specs.Compare.{entryLength, listed}
+use Rattle.difference.proofs.Turns.{one-at-most, up-byte, put-equal, apart-on}
+use borrow.Author.Needs.{needs}
 use Rattle.difference.proofs.runs.put.Statement.{statement}
 use Rattle.difference.proofs.runs.put.Tie as tie
-use Rattle.difference.proofs.runs.put.Reads as reads
-use Rattle.difference.proofs.runs.put.Lts as lts
-use Rattle.difference.proofs.runs.put_one.Reads as put-one-reads
 
 abbrev Inv-loop : tie.InvT-loop
-Inv-loop list₀ from a b at₀ first₀ i₀ list at first i = ?
+Inv-loop list₀ from a b at₀ first₀ i₀ list at first i =
+    (i ≤ 65536) × ((at ≤ from + entryLength * i) × ((length list ≡ length list₀)
+    × (sets list at (listed (runsFrom a b (65536 - i) first i)) ≡ sets list₀ from (listed (runs a b)))))
 
 abbrev μ-loop : tie.MeasureT-loop
-μ-loop list₀ from a b at₀ first₀ i₀ list at first i = ?
+μ-loop list₀ from a b at₀ first₀ i₀ list at first i = 65536 - i
 
--- src/runs.rt:56:5
 loop-holds : tie.Need-loop-holds Inv-loop μ-loop
-loop-holds c = ?
+unfolding runs
+loop-holds c = (omega arith, (omega arith, (refl, refl)))
 
--- src/runs.rt:57:12
-shared-slice-read-if1 : tie.Need-shared-slice-read-if1 Inv-loop μ-loop
-shared-slice-read-if1 c = ?
-
--- src/runs.rt:57:20
-shared-slice-read-if1-2 : tie.Need-shared-slice-read-if1-2 Inv-loop μ-loop
-shared-slice-read-if1-2 c = ?
-
--- src/runs.rt:58:13
 put-one-requires : tie.Need-put-one-requires Inv-loop μ-loop
-put-one-requires c κs = ?
+put-one-requires c κs = omega arith
 
--- src/runs.rt:59:21
-add-first : tie.Need-add-first Inv-loop μ-loop
-add-first c = ?
-
--- src/runs.rt:61:9
-add-i : tie.Need-add-i Inv-loop μ-loop
-add-i c = ?
-
--- src/runs.rt:56:5
-loop-less : tie.Need-loop-less Inv-loop μ-loop
-loop-less c = ?
-
--- src/runs.rt:56:5
 loop-again : tie.Need-loop-again Inv-loop μ-loop
-loop-again c = ?
+loop-again c =
+    let l = c .before .before .before .before .loop in
+    let a = c .before .before .before .before .before .before .before .before .args in
+    ⊎-elim
+    (λ v.
+    let list = v .5 ∙ v .2 .ensures .1 in
+    let at = v .6 ∙ v .2 .ensures .0 in (
+      omega arith,
+      (
+        omega (arith, at, up-byte (l .first) (l .i), one-at-most (ltb (l .first) (l .i))),
+        (
+          ap length list ∙ length-sets (l .list) (l .at) (listed (runUpTo (l .first) (l .i))) ∙ l .inv .1 .1 .0,
+          rw (list, at, v .7) (put-equal (a .a .now) (a .b .now) (l .first) (l .i) (omega arith) (v .0 .taken) (l .at) (l .list) ∙ l .inv .1 .1 .1),
+        ),
+      ),
+    ))
+    (λ v. (omega arith, (omega (arith, v .2), (ap length (v .1) ∙ l .inv .1 .1 .0, rw (v .1, v .2, v .3, apart-on (a .a .now) (a .b .now) (l .first) (l .i) (omega arith) (v .0 .left)) (l .inv .1 .1 .1)))))
+    (c .if1 .came)
 
--- src/runs.rt:63:5
 put-one-requires-2 : tie.Need-put-one-requires-2 Inv-loop μ-loop
-put-one-requires-2 c κs = ?
+put-one-requires-2 c κs = omega arith
 
--- src/runs.rt:49:1
 same-length : tie.Need-same-length Inv-loop μ-loop
-same-length c = ?
+same-length c = ap length (c .before .before .put-one2 .ensures .1) ∙ length-sets (c .before .before .before .before .before .loop .list) (c .before .before .before .before .before .loop .at) (listed (runUpTo (c .before .before .before .before .before .loop .first) (c .before .before .before .before .before .loop .i))) ∙ c .before .before .before .before .before .loop .inv .1 .1 .0
 
--- src/runs.rt:49:1
 returns : tie.Need-returns Inv-loop μ-loop
-returns c = ?
+unfolding runsFrom
+returns c =
+    let l = c .before .before .before .before .before .loop in
+    let z : 65536 - l .i ≡ 0 = omega arith in
+    c .before .before .put-one2 .ensures .1 ∙ rw z at (l .inv .1 .1 .1)
 
 pub put-spec : {M : Type 1} → statement M
-put-spec =
-    tie.close
-    (tie.spec
-    Inv-loop
-    μ-loop
-    loop-holds
-    shared-slice-read-if1
-    shared-slice-read-if1-2
-    put-one-requires
-    add-first
-    add-i
-    loop-less
-    loop-again
-    put-one-requires-2
-    same-length
-    returns)
+put-spec = tie.close (tie.spec Inv-loop μ-loop loop-holds (search needs) (search needs) put-one-requires (search needs) (search needs) (search needs) loop-again put-one-requires-2 same-length returns)
