@@ -6,7 +6,7 @@
 //!
 //! ```no_run
 //! use doorhawser::{Flags, Settings, Twin};
-//! let mut twin = Twin::new(Settings { ram_top: 0x7FFF, flags: Flags::Manual }, 960);
+//! let mut twin = Twin::new(Settings { ram_top: 0x7FFF, flags: Flags::Manual }, 946);
 //! twin.load(b"S105BFFE10002D\nS10510005F5A31\nS9031000EC\n").unwrap();
 //! twin.reset().unwrap();
 //! twin.step().unwrap();
@@ -53,7 +53,7 @@ pub enum Interrupt {
     Irq = 0,
     /// masked by F
     Firq = 1,
-    /// never masked
+    /// never masked; held off from a reset until the program has loaded S
     Nmi = 2,
 }
 
@@ -168,7 +168,7 @@ impl Twin {
         Registers { x: t.x, y: t.y, u: t.u, s: t.s, pc: t.pc, a: t.a, b: t.b, dp: t.dp, cc: t.cc }
     }
 
-    /// Sets the registers. This is no call: undo brings back what the calls changed.
+    /// Sets the registers, and no mark for S. This is no call: undo brings back what the calls changed.
     pub fn set_registers(&mut self, r: Registers) {
         let Registers { x, y, u, s, pc, a, b, dp, cc } = r;
         self.state = raw::Twin { x, y, u, s, pc, a, b, dp, cc, ..self.state };
@@ -182,6 +182,16 @@ impl Twin {
             2 => Wait::Sync,
             n => unreachable!("the library handed back wait {}", n),
         }
+    }
+
+    /// Whether NMI is let in: the program has loaded S since the last reset.
+    pub fn armed(&self) -> bool {
+        self.state.armed != 0
+    }
+
+    /// Sets that mark. This is no call: undo brings back what the calls changed.
+    pub fn set_armed(&mut self, armed: bool) {
+        self.state.armed = armed as u8;
     }
 
     /// Cycles of all instructions so far.
@@ -252,7 +262,7 @@ impl Twin {
         self.recorded(raw::doorhawser_reset)
     }
 
-    /// An interrupt, recorded. One that is masked is accepted and does nothing but end SYNC.
+    /// An interrupt, recorded. One that is masked, or an NMI that is held off, is accepted and does nothing but end SYNC.
     pub fn interrupt(&mut self, which: Interrupt) -> Result<DeviceWrites, Refused> {
         let (m, j, n) = (self.memory.as_mut_ptr(), self.journal.as_mut_ptr(), self.journal.len());
         // Safety: as in `recorded`.
@@ -260,7 +270,7 @@ impl Twin {
         self.ended(o)
     }
 
-    /// Takes the newest recorded call back: registers, wait, counters and memory outside FF00-FFDF are as they stood before it, where no
+    /// Takes the newest recorded call back: registers, wait, mark, counters and memory outside FF00-FFDF are as they stood before it, where no
     /// call that is not recorded came after it.
     pub fn undo(&mut self) -> Result<(), Refused> {
         // Safety: as in `recorded`.
@@ -295,7 +305,7 @@ impl Twin {
         Ran { steps, devices, refused: self.ended(r.last).err() }
     }
 
-    /// The newest record's 68 bytes.
+    /// The newest record's 69 bytes.
     pub fn newest(&self) -> Option<&[u8]> {
         // Safety: the journal is the twin's own, with its length; it is only read.
         let p = unsafe { raw::doorhawser_newest(self.journal.as_ptr(), self.journal.len(), self.state.records) };

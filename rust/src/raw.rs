@@ -1,9 +1,9 @@
 //! The declarations of include/doorhawser.h. No proof ties them to crates/host: tests/twin.rs holds the layout, and `abi` has to be `ABI`.
 use std::mem::size_of;
 
-pub const ABI: u64 = 1;
+pub const ABI: u64 = 2;
 pub const MEMORY: usize = 65536;
-pub const RECORD: usize = 68;
+pub const RECORD: usize = 69;
 pub const DEVICES: usize = 12;
 
 #[repr(C)]

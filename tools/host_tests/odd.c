@@ -41,7 +41,7 @@ static doorhawser_twin any_twin(void) {
     doorhawser_twin t;
     fill((uint8_t *)&t, sizeof t);
     t.wait = (uint8_t)(t.wait % 3);
-    t.armed = 0;
+    t.armed = (uint8_t)(t.armed % 2);
     t.bytes = 0;
     t.records = any() % 960;
     return t;
@@ -91,7 +91,7 @@ static void unnamed(int which, doorhawser_twin t, doorhawser_settings s, uint8_t
     doorhawser_outcome o = call(which, memory, sizeof memory, journal, sizeof journal, t, s, i);
     HOLD(refuses(&o, DOORHAWSER_UNNAMED, &t));
     HOLD(kept());
-    o = call(which, memory, 100, journal, 67, t, s, i);
+    o = call(which, memory, 100, journal, DOORHAWSER_RECORD - 1, t, s, i);
     HOLD(refuses(&o, DOORHAWSER_UNNAMED, &t));
     t.records = UINT64_MAX;
     o = call(which, NULL, 0, NULL, 0, t, s, i);
@@ -112,7 +112,7 @@ static void out_of_range(void) {
             if (n > 2) unnamed(which, bad, s, i);
             bad = t;
             bad.armed = byte;
-            unnamed(which, bad, s, i);
+            if (n > 1) unnamed(which, bad, s, i);
             bad = t;
             bad.bytes = n < 64 ? (uint64_t)1 << n : any() | 1;
             unnamed(which, bad, s, i);
@@ -145,7 +145,7 @@ static void nulls(void) {
         used.records = 1;
         o = call(which, memory, sizeof memory, NULL, 0, used, manual, 0);
         HOLD(refuses(&o, DOORHAWSER_JOURNAL_LENGTH, &used));
-        used.records = UINT64_MAX / DOORHAWSER_RECORD + 1; /* times 68 it would wrap */
+        used.records = UINT64_MAX / DOORHAWSER_RECORD + 1; /* times 69 it would wrap */
         o = call(which, memory, sizeof memory, journal, sizeof journal, used, manual, 0);
         HOLD(refuses(&o, DOORHAWSER_JOURNAL_LENGTH, &used));
     }
@@ -154,7 +154,7 @@ static void nulls(void) {
     HOLD(doorhawser_newest(journal, sizeof journal, UINT64_MAX).count == 0);
     HOLD(doorhawser_newest(journal, sizeof journal, 961).count == 0);
     doorhawser_part p = doorhawser_newest(journal, sizeof journal, 960);
-    HOLD(p.at == 959 * 68 && p.count == 68);
+    HOLD(p.at == 959 * 69 && p.count == 69);
     HOLD(doorhawser_load(NULL, 0, NULL, 0).answer == DOORHAWSER_MEMORY_LENGTH);
     HOLD(doorhawser_load(memory, sizeof memory, NULL, 0).answer == DOORHAWSER_NO_END);
     HOLD(doorhawser_save(NULL, 0, 0, NULL, 0).answer == DOORHAWSER_MEMORY_LENGTH);
@@ -204,13 +204,14 @@ static void frames(void) {
     for (int n = 0; n < 20000; n++) {
         doorhawser_twin t = any_twin();
         t.wait = n % 2 ? DOORHAWSER_RUNNING : DOORHAWSER_SYNC;
+        t.armed = 1;
         t.s = (uint16_t)(0x100 + t.s % 0x8000);
         memset(memory, 0, sizeof memory);
         memory[0xBFFC] = 0x90; /* the vector, read at FFFC */
         memory[0x9000] = 0x12;
         doorhawser_outcome o = doorhawser_interrupt_unrecorded(memory, sizeof memory, t, manual, DOORHAWSER_NMI);
         const uint8_t *at = memory + t.s - 12;
-        HOLD(!o.answer && o.twin.s == t.s - 12 && o.twin.pc == 0x9000 && o.twin.wait == DOORHAWSER_RUNNING && !o.count);
+        HOLD(!o.answer && o.twin.s == t.s - 12 && o.twin.pc == 0x9000 && o.twin.wait == DOORHAWSER_RUNNING && o.twin.armed == 1 && !o.count);
         HOLD(at[0] == (t.cc | 0x80) && at[1] == t.a && at[2] == t.b && at[3] == t.dp);
         HOLD(at[4] << 8 == (t.x & 0xFF00) && at[5] == (t.x & 0xFF) && at[6] << 8 == (t.y & 0xFF00) && at[7] == (t.y & 0xFF));
         HOLD(at[8] << 8 == (t.u & 0xFF00) && at[9] == (t.u & 0xFF) && at[10] << 8 == (t.pc & 0xFF00) && at[11] == (t.pc & 0xFF));
@@ -220,12 +221,39 @@ static void frames(void) {
     done("registers stacked");
 }
 
+/* Before S is loaded an NMI ends SYNC and changes nothing else; LDS of any word lets it in, and a reset holds it off again. */
+static void marks(void) {
+    for (int n = 0; n < 20000; n++) {
+        doorhawser_twin t = any_twin();
+        t.armed = 0;
+        memset(memory, 0, sizeof memory);
+        t.pc = (uint16_t)(0x1000 + t.pc % 0x1000);
+        memory[t.pc] = 0x10; /* LDS #0000 */
+        memory[t.pc + 1] = 0xCE;
+        keep();
+        doorhawser_outcome expected;
+        memset(&expected, 0, sizeof expected);
+        expected.twin = t;
+        if (t.wait == DOORHAWSER_SYNC) expected.twin.wait = DOORHAWSER_RUNNING;
+        doorhawser_outcome o = doorhawser_interrupt_unrecorded(memory, sizeof memory, t, manual, DOORHAWSER_NMI);
+        HOLD(!memcmp(&o, &expected, sizeof o) && kept());
+        t.wait = DOORHAWSER_RUNNING;
+        o = doorhawser_step_unrecorded(memory, sizeof memory, t, manual);
+        HOLD(!o.answer && o.twin.s == 0 && o.twin.armed == 1);
+        HOLD(doorhawser_interrupt_unrecorded(memory, sizeof memory, o.twin, manual, DOORHAWSER_NMI).answer == DOORHAWSER_STACK_TOO_SMALL);
+        o = doorhawser_reset_unrecorded(memory, sizeof memory, o.twin, manual);
+        HOLD(!o.answer && o.twin.armed == 0);
+    }
+    done("NMI held off");
+}
+
 /* Twelve bytes pushed at FF04-FF0F are device writes: the system's for an interrupt, the program's for PSHS. PC U Y X DP B A CC; words are
  * high byte first. */
 static void devices(void) {
     const uint8_t at[] = {0x0E, 0x0F, 0x0C, 0x0D, 0x0A, 0x0B, 0x08, 0x09, 0x07, 0x06, 0x05, 0x04};
     for (int system = 0; system < 2; system++) {
-        doorhawser_twin t = {.x = 0x1122, .y = 0x3344, .u = 0x5566, .s = 0xFF10, .pc = 0x7788, .a = 0x99, .b = 0xAA, .dp = 0xBB, .cc = 0x4C};
+        doorhawser_twin t = {.x = 0x1122, .y = 0x3344, .u = 0x5566, .s = 0xFF10, .pc = 0x7788, .a = 0x99, .b = 0xAA, .dp = 0xBB, .cc = 0x4C,
+                             .armed = 1};
         memset(memory, 0, sizeof memory);
         memory[0x7788] = 0x34; /* PSHS of all */
         memory[0x7789] = 0xFF;
@@ -253,6 +281,7 @@ static void names(void) {
     memset(memory, 0x12, sizeof memory);
     t.s = 0x8000;
     t.cc = 0;
+    t.armed = 1;
     for (int i = 0; i < 3; i++) {
         memory[doorhawser_place(interrupts[i].vector)] = (uint8_t)(interrupts[i].leads >> 8);
         memory[doorhawser_place((uint16_t)(interrupts[i].vector + 1))] = 0;
@@ -388,6 +417,7 @@ int main(void) {
     out_of_range();
     twins();
     frames();
+    marks();
     devices();
     names();
     runs();

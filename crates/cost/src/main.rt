@@ -3,7 +3,6 @@
 // bytes of cycles and of the count of records.
 mod program;
 
-use journal::RECORD;
 use journal::Twin;
 use libc::STDIN_FILENO;
 use libc::STDOUT_FILENO;
@@ -15,7 +14,7 @@ use registers::Flags;
 use registers::Set;
 
 // As the run program's.
-const ROOM: usize = 960 * RECORD;
+const ROOM: usize = 65_280;
 
 type Journal = [u8; ROOM];
 

@@ -8,7 +8,7 @@ use lib.ListN.{replicate}
 use Rattle.answers.specs.Numbers.{numberOfAnswer}
 use Rattle.memory.specs.declared.writes.Write.{Write}
 use Rattle.machine.specs.Machine.{settingsOf}
-use Rattle.machine.specs.Record.{waitByte, waitOf}
+use Rattle.machine.specs.Record.{waitByte, waitOf, markByte, markOf}
 use Rattle.machine.specs.declared.Machine.{Machine}
 use Rattle.machine.specs.declared.Settings.{Settings}
 use Rattle.calls.specs.declared.Report.{Report}
@@ -37,6 +37,7 @@ machineFrom t =
       instructions = t .instructions;
       regs = record { x = t .x; y = t .y; u = t .u; s = t .s; pc = t .pc; a = t .a; b = t .b; dp = t .dp; cc = record { reg = t .cc } };
       wait = waitOf (t .wait);
+      armed = markOf (t .armed);
     }
 
 abbrev pub twinFrom : HostTwin → Twin
@@ -59,7 +60,7 @@ hostTwin t =
       dp = t .machine .regs .dp;
       cc = t .machine .regs .cc .reg;
       wait = waitByte (t .machine .wait);
-      armed = 0;
+      armed = markByte (t .machine .armed);
     }
 
 -- ---- what a call returns

@@ -19,18 +19,18 @@ module _ (j : List ℕ) (records : ℕ) where
   none-used h = rw (le-ltb 0 records (omega arith))
 
   module _ (some : records ≡ 0 → ⊥) where
-    pub beyond : length j / 68 < records → record { at = 0; count = 0 } ≡ partOf j records
+    pub beyond : length j / 69 < records → record { at = 0; count = 0 } ≡ partOf j records
     unfolding partOf newestFrom
-    beyond h = rw (lt-ltb 0 records (omega arith), lt-leb (records * 68) (length j) (omega arith))
+    beyond h = rw (lt-ltb 0 records (omega arith), lt-leb (records * 69) (length j) (omega arith))
 
-    pub whole : records ≤ length j / 68 → record { at = (records - 1) * 68; count = 68 } ≡ partOf j records
+    pub whole : records ≤ length j / 69 → record { at = (records - 1) * 69; count = 69 } ≡ partOf j records
     unfolding partOf newestFrom
-    whole h = rw (lt-ltb 0 records (omega arith), le-leb (records * 68) (length j) (omega arith))
+    whole h = rw (lt-ltb 0 records (omega arith), le-leb (records * 69) (length j) (omega arith))
 
-by-test : (b : Bool) (j : List ℕ) (at : ℕ) → take (cond b 68 0) (drop (cond b at 0) j) ≡ cond b (take 68 (drop at j)) []
+by-test : (b : Bool) (j : List ℕ) (at : ℕ) → take (cond b 69 0) (drop (cond b at 0) j) ≡ cond b (take 69 (drop at j)) []
 by-test true j at = refl
 by-test false j at = refl
 
 pub newest-part : NewestPart
 unfolding partOf newestOf newestFrom recordAt
-newest-part j records = by-test (isThere j records) j ((records - 1) * 68)
+newest-part j records = by-test (isThere j records) j ((records - 1) * 69)

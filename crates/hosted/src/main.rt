@@ -8,7 +8,7 @@ use host::HostTwin;
 type Memory = [u8; 0x10000];
 
 // Room for five records.
-type Journal = [u8; 340];
+type Journal = [u8; 345];
 
 // ram_top 7FFF, flags by the manual.
 fn settings() -> HostSettings {
@@ -55,21 +55,31 @@ fn back(mem: &mut Memory, journal: &Journal, twin: HostTwin) -> HostTwin {
     played::shown(host_calls::doorhawser_undo(mem, journal, none))
 }
 
-// The same not recorded: NMI, for which there is no room on the stack; the second and third step in a run of two; FIRQ, which is
-// masked; a run of seven in CWAI, whose first step is refused and does not count; and IRQ.
+// The same not recorded: NMI, before S is loaded and, by the host's own mark, after it, where there is no room on the stack; the second
+// and third step in a run of two; FIRQ, which is masked; a run of seven in CWAI, whose first step is refused and does not count; and IRQ.
 fn unrecorded(mem: &mut Memory, twin: HostTwin) {
     let reset = played::shown(host_calls::doorhawser_reset_unrecorded(mem, twin, settings()));
-    let refused = played::shown(host_calls::doorhawser_interrupt_unrecorded(
+    let held_off = played::shown(host_calls::doorhawser_interrupt_unrecorded(
         mem,
         reset,
         settings(),
         2,
     ));
+    let mut armed = held_off;
+    armed.armed = 1;
+    let refused = played::shown(host_calls::doorhawser_interrupt_unrecorded(
+        mem,
+        armed,
+        settings(),
+        2,
+    ));
+    played::number(refused.armed as u64);
     let first = played::shown(host_step_unrecorded::doorhawser_step_unrecorded(
         mem,
-        refused,
+        held_off,
         settings(),
     ));
+    played::number(first.armed as u64);
     let ran = host_run::doorhawser_run_unrecorded(mem, first, settings(), 2);
     played::number(ran.left);
     let third = played::shown(ran.last);
@@ -93,7 +103,7 @@ fn unnamed(mem: &mut Memory, journal: &mut Journal, twin: HostTwin) {
     waits.wait = 3;
     played::shown(host_step::doorhawser_step(mem, journal, waits, settings()));
     let mut armed = twin;
-    armed.armed = 1;
+    armed.armed = 2;
     played::shown(host_calls::doorhawser_undo(mem, journal, armed));
     let mut bytes = twin;
     bytes.bytes = 1;
@@ -126,7 +136,7 @@ fn save(mem: &Memory) {
 
 fn main() {
     let mut mem = [0u8; 0x10000];
-    let mut journal = [0u8; 340];
+    let mut journal = [0u8; 345];
     played::number(host_calls::doorhawser_abi());
     load(&mut mem);
     let ended = forward(&mut mem, &mut journal);

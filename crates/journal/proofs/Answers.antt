@@ -21,7 +21,7 @@ use Rattle.machine.specs.declared.Settings.{Settings}
 use Rattle.calls.specs.declared.Plan.{Plan}
 use Rattle.machine.specs.declared.Machine.{Machine}
 use Rattle.machine.specs.Record.{machineOf}
-use Rattle.journal.specs.Record.{encode, waitAt, countOf, entriesOf, readEntries, mostStored, entriesAt, recordLength}
+use Rattle.journal.specs.Record.{encode, waitAt, markAt, countOf, entriesOf, readEntries, mostStored, entriesAt, recordLength}
 use Rattle.journal.specs.Recorded.{State, ending, Leaves, need, unless, admitted, callAnswer, savedFor, recorded, concluded, called, recordAt, withRecord}
 use Rattle.journal.specs.Undos.{newestOf, newestFrom, newestIn, undoAnswer, putBack, restored, undone}
 use Rattle.journal.specs.declared.Outcome.{Outcome}
@@ -187,22 +187,34 @@ module _ (s : State) where
           lt-leb (waitAt (newestIn s)) 2 h,
         )
 
-        pub undo-count : waitAt (newestIn s) ≤ 2 → mostStored < countOf (newestIn s) → undoAnswer s ≡ Refused JournalLength
+        pub undo-mark : waitAt (newestIn s) ≤ 2 → 1 < markAt (newestIn s) → undoAnswer s ≡ Refused JournalLength
         unfolding undoAnswer
-        undo-count w h = rw (
+        undo-mark w h = rw (
           eq-eqb (length (s .memory)) 65536 size,
           le-leb (s .twin .used * recordLength) (length (s .journal)) (omega arith),
           lt-ltb 0 (s .twin .used) (omega arith),
           le-leb (waitAt (newestIn s)) 2 w,
+          lt-leb (markAt (newestIn s)) 1 h,
+        )
+
+        pub undo-count : waitAt (newestIn s) ≤ 2 → markAt (newestIn s) ≤ 1 → mostStored < countOf (newestIn s) → undoAnswer s ≡ Refused JournalLength
+        unfolding undoAnswer
+        undo-count w a h = rw (
+          eq-eqb (length (s .memory)) 65536 size,
+          le-leb (s .twin .used * recordLength) (length (s .journal)) (omega arith),
+          lt-ltb 0 (s .twin .used) (omega arith),
+          le-leb (waitAt (newestIn s)) 2 w,
+          le-leb (markAt (newestIn s)) 1 a,
           lt-leb (countOf (newestIn s)) mostStored h,
         )
 
-        pub undo-0 : waitAt (newestIn s) ≤ 2 → countOf (newestIn s) ≤ mostStored → undoAnswer s ≡ Done
+        pub undo-0 : waitAt (newestIn s) ≤ 2 → markAt (newestIn s) ≤ 1 → countOf (newestIn s) ≤ mostStored → undoAnswer s ≡ Done
         unfolding undoAnswer
-        undo-0 w h = rw (
+        undo-0 w a h = rw (
           eq-eqb (length (s .memory)) 65536 size,
           le-leb (s .twin .used * recordLength) (length (s .journal)) (omega arith),
           lt-ltb 0 (s .twin .used) (omega arith),
           le-leb (waitAt (newestIn s)) 2 w,
+          le-leb (markAt (newestIn s)) 1 a,
           le-leb (countOf (newestIn s)) mostStored h,
         )

@@ -11,9 +11,9 @@ use lib.ListN.{length, replicate, length-append, length-replicate}
 use Rattle.machine.specs.declared.Machine.{Machine}
 use Rattle.machine.specs.Machine.{MachineFits}
 use Rattle.machine.specs.Record.{bytes, numberAt, header, machineOf}
-use Rattle.journal.specs.Record.{Saved, entries, encode, waitAt, countOf, readEntries, entriesOf, mostStored, entryLength, recordLength}
+use Rattle.journal.specs.Record.{Saved, entries, encode, waitAt, markAt, countOf, readEntries, entriesOf, mostStored, entryLength, recordLength}
 use Rattle.journal.specs.Sequence.{All}
-use Rattle.machine.proofs.Header.{wait-small, two-back, header-back}
+use Rattle.machine.proofs.Header.{wait-small, mark-small, two-back, header-back}
 use Rattle.journal.proofs.Laying.{length-entries}
 
 -- an entry that fits a record: its place is below FF00
@@ -33,6 +33,10 @@ read-entries (e ∷ es) more f = λ i. record { place = two-back (e .place) (ome
 pub wait-at : (m : Machine) (es : List Saved) → waitAt (encode m es) ≤ 2
 unfolding waitAt encode header bytes
 wait-at m es = omega (arith, wait-small (m .wait))
+
+pub mark-at : (m : Machine) (es : List Saved) → markAt (encode m es) ≤ 1
+unfolding markAt encode header bytes
+mark-at m es = omega (arith, mark-small (m .armed))
 
 pub count-back : (m : Machine) (es : List Saved) → countOf (encode m es) ≡ length es
 unfolding countOf encode header bytes

@@ -26,13 +26,13 @@ use Rattle.machine.specs.declared.Machine.{Machine}
 use Rattle.calls.specs.Calls.{Call, step, interrupt, reset, settingsIn, planOf}
 use Rattle.calls.proofs.Laws.{few-writes, call-fits}
 use Rattle.machine.specs.Record.{machineOf}
-use Rattle.journal.specs.Record.{encode, waitAt, countOf, entriesOf, mostStored, recordLength}
+use Rattle.journal.specs.Record.{encode, waitAt, markAt, countOf, entriesOf, mostStored, recordLength}
 use Rattle.journal.specs.Recorded.{State, ending, need, recordAt, withRecord, savedFor, admitted, callAnswer, recorded, concluded, called, whileWaiting}
 use Rattle.journal.specs.Undos.{newestIn, undoAnswer, putBack, restored, undone}
 use Rattle.journal.specs.Sequence.{All, Window, Event, forward, back, host, Legal, Snap, World, push, pop, hostWrites, call, next, run, withoutRecords, BringsBack, Undoes, Unchanged, Demand3}
 use Rattle.journal.proofs.Answers.{unless-done, admitted-done}
 use Rattle.journal.proofs.Laying.{saved-few}
-use Rattle.journal.proofs.Reading.{machine-back, wait-at, count-back, entries-back, length-encode}
+use Rattle.journal.proofs.Reading.{machine-back, wait-at, mark-at, count-back, entries-back, length-encode}
 use Rattle.journal.proofs.Stores.{length-putBack, undone-writes, same-eq, same-host, window-putBack, bytes-putBack, all-saved-fit}
 use Rattle.journal.proofs.Chain.{record-kept, record-own, length-withRecord, Leads, chain-kept, chain-same, Inv}
 
@@ -67,6 +67,7 @@ module _ (s : State) (t : Snap) (ss : List Snap) (v : Inv s (t ∷ ss)) where
         le-leb (s .twin .used * recordLength) (length (s .journal)) (v .room),
         lt-ltb 0 (s .twin .used) (omega (arith, v .count)),
         le-leb (waitAt (newestIn s)) 2 (rw newest-is (wait-at (t .machine) (lead .saved))),
+        le-leb (markAt (newestIn s)) 1 (rw newest-is (mark-at (t .machine) (lead .saved))),
         le-leb (countOf (newestIn s)) mostStored (rw count-is (lead .few)),
       )
 

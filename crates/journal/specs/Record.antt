@@ -1,10 +1,10 @@
--- A record of the journal (document 01, section "Journal"): the machine from before a call, the count of stored bytes, and room for twelve
+-- A record of the journal (document 01, section "Journal"; document 02, [5]): the machine from before a call, the count of stored bytes, and room for twelve
 -- entries; and what is read back from it.
 -- Assumes nothing.
 use Prim.Native.Nat.{ℕ, zero, suc, _+_, _-_, _*_}
 use mathlib.Core.List.{List, [], _∷_, _++_}
 use lib.ListN.{length, getD, drop, replicate}
-use Rattle.machine.specs.Record.{Waiting, bytes, numberAt, header, headerLength, offset}
+use Rattle.machine.specs.Record.{Waiting, Armed, bytes, numberAt, header, headerLength, offset}
 use Rattle.machine.specs.declared.Machine.{Machine}
 
 -- an entry: a place of memory, after mapping, and the byte that it had before the call
@@ -41,6 +41,9 @@ encode m es = header m ++ (length es ∷ (entries es ++ replicate (mostStored * 
 -- What is read back from a record
 unfoldable pub waitAt : List ℕ → ℕ
 waitAt r = getD r (offset Waiting) 0
+
+unfoldable pub markAt : List ℕ → ℕ
+markAt r = getD r (offset Armed) 0
 
 unfoldable pub countOf : List ℕ → ℕ
 countOf r = getD r countAt 0

@@ -100,7 +100,7 @@ pub record Same (m n : List ℕ) : Type 0 where
 -- An undo at s that ends as o, of a call before which t stood
 pub record Restores (s : State) (t : Snap) (o : Ended) : Type 0 where
   pub accepted : o .answer ≡ Done
-  -- registers, wait state and both counters
+  -- registers, wait state, mark and both counters
   pub machine : o .state .twin .machine ≡ t .machine
   -- memory outside FF00-FFDF is as it stood before the call, and inside as it stands now
   pub memory : Same (o .state .memory) (t .memory)

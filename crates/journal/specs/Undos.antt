@@ -9,7 +9,7 @@ use Rattle.answers.specs.declared.Answer.{Answer}
 use Rattle.answers.specs.declared.Answer.the-variants.{Done}
 use Rattle.answers.specs.declared.Refusal.the-variants.{MemoryLength, NoRecord, JournalLength}
 use Rattle.machine.specs.Record.{machineOf}
-use Rattle.journal.specs.Record.{Saved, mostStored, recordLength, waitAt, countOf, entriesOf}
+use Rattle.journal.specs.Record.{Saved, mostStored, recordLength, waitAt, markAt, countOf, entriesOf}
 use Rattle.journal.specs.Recorded.{State, Ended, ending, need, recordAt}
 
 -- The newest record on request: an empty part where no whole record is there; and where in the journal the part begins
@@ -32,7 +32,8 @@ undoAnswer s =
     (need (leb (s .twin .used * recordLength) (length (s .journal))) JournalLength
     (need (ltb 0 (s .twin .used)) NoRecord
     (need (leb (waitAt (newestIn s)) 2) JournalLength
-    (need (leb (countOf (newestIn s)) mostStored) JournalLength Done))))
+    (need (leb (markAt (newestIn s)) 1) JournalLength
+    (need (leb (countOf (newestIn s)) mostStored) JournalLength Done)))))
 
 -- old bytes put back raw, last entry first
 unfoldable pub putBack : List ℕ → List Saved → List ℕ

@@ -15,6 +15,7 @@ use super::Twin;
 use super::recorded::refused;
 use answers::Answer;
 use answers::Refusal;
+use machine::ARMED;
 use machine::WAIT;
 use memory::Writes;
 
@@ -51,6 +52,9 @@ pub fn undo(mem: &mut [u8], journal: &[u8], twin: Twin) -> Outcome
     let end = at + RECORD;
     let r = &journal[at..end];
     if r[WAIT] > 2 {
+        return refused(twin, Refusal::JournalLength);
+    }
+    if r[ARMED] > 1 {
         return refused(twin, Refusal::JournalLength);
     }
     let n = r[COUNT] as usize;

@@ -19,7 +19,7 @@ use registers::Flags;
 type Memory = [u8; 0x10000];
 
 // Room for two records.
-type Journal = [u8; 136];
+type Journal = [u8; 138];
 
 const CELL: usize = 0x0200;
 
@@ -109,7 +109,7 @@ fn start() -> Twin {
 
 fn main() {
     let mut mem = [0u8; 0x10000];
-    let mut journal = [0u8; 136];
+    let mut journal = [0u8; 138];
     mem[0x0100] = 0x12;
     mem[0x0101] = 0xB7;
     mem[0x0102] = 0x02;

@@ -11,7 +11,6 @@ use Rattle.text.specs.Lines.{line, alone}
 use Rattle.machine.specs.declared.Machine.{Machine}
 use Rattle.machine.specs.declared.Settings.{Settings}
 use Rattle.calls.specs.declared.InterruptType.the-variants.{Irq as IRQ, Firq as FIRQ, Nmi as NMI}
-use Rattle.journal.specs.Record.{recordLength}
 use Rattle.journal.specs.Recorded.{State, Ended, freshTwin, inHand, stepped, interrupted, wasReset}
 use Rattle.journal.specs.Undos.{undone}
 use Rattle.runfile.specs.Format.{Parsed, says, malformed, parsed, placed}
@@ -52,9 +51,9 @@ played malformed s = refusalLine Malformed
 unfoldable pub zeros : ℕ → List ℕ
 zeros n = replicate n 0
 
--- 960 records
+-- 65,280 bytes, in which document 01's 960 records of 68 bytes had room; document 02, [5]: 946 of 69 bytes
 abbrev pub journalLength : ℕ
-journalLength = 960 * recordLength
+journalLength = 65280
 
 -- memory is zeroed before the pieces are laid
 unfoldable pub printed : List ℕ → List ℕ

@@ -10,7 +10,6 @@ use super::put_refusal;
 use super::zeroed_memory;
 use calls::InterruptType;
 use journal::Outcome;
-use journal::RECORD;
 use journal::Twin;
 use machine::Settings;
 use runfile::Loaded;
@@ -18,7 +17,8 @@ use runfile::Next;
 use runfile::Operation;
 use runfile::Start;
 
-const JOURNAL: usize = 960 * RECORD;
+// Room for 946 records of 69 bytes.
+const JOURNAL: usize = 65_280;
 
 fn empty_journal() -> [u8; JOURNAL]
     ensures { λ r. ⌜ r ≡ zeros journalLength ⌝ }

@@ -17,7 +17,7 @@ fn is_call(b: u8) -> bool {
 
 fn is_journal_operation(b: u8) -> bool {
     match b {
-        b'U' | b'w' | b'c' => true,
+        b'U' | b'w' | b'm' | b'c' => true,
         _ => is_call(b),
     }
 }

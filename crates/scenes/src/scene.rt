@@ -18,6 +18,7 @@ use journal::Outcome;
 use journal::RECORD;
 use journal::Twin;
 use libc::STDOUT_FILENO;
+use machine::ARMED;
 use machine::HEADER;
 use machine::Machine;
 use machine::Settings;
@@ -25,7 +26,7 @@ use machine::WAIT;
 use memory::Writes;
 use registers::Flags;
 
-const OUT: usize = 196;
+const OUT: usize = 198;
 
 fn settings(line: &Line) -> Settings {
     Settings::new(word_at(line, 41), Flags::Manual)
@@ -51,7 +52,7 @@ fn started(line: &Line) -> Outcome {
 
 // A byte of the newest record overwritten, where there is one.
 fn damage(journal: &mut [u8], used: usize, at: usize, byte: u8)
-    requires { ⌜ at ≤ 67 ⌝ }
+    requires { ⌜ at ≤ 68 ⌝ }
 {
     if used == 0 {
         return;
@@ -65,7 +66,7 @@ fn damage(journal: &mut [u8], used: usize, at: usize, byte: u8)
     }
 }
 
-// One operation by its letter: w and c damage the newest record's wait state and count, and there is none for `-`.
+// One operation by its letter: w, m and c damage the newest record's wait state, mark and count, and there is none for `-`.
 fn act(
     mem: &mut [u8],
     journal: &mut [u8],
@@ -83,6 +84,10 @@ fn act(
         b'U' => journal::undo(mem, journal, twin),
         b'w' => {
             damage(journal, twin.used, WAIT, 3);
+            before
+        }
+        b'm' => {
+            damage(journal, twin.used, ARMED, 2);
             before
         }
         b'c' => {
