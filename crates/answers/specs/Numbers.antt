@@ -6,7 +6,7 @@ use mathlib.Core.Path.{_≡_}
 use Rattle.answers.specs.declared.Answer.{Answer}
 use Rattle.answers.specs.declared.Answer.the-variants.{Done, Refused}
 use Rattle.answers.specs.declared.Refusal.{Refusal}
-use Rattle.answers.specs.declared.Refusal.the-variants.{MemoryLength, Waiting, Opcode, PastEnd, PostByte, TransferCode, StackTooSmall, ZeroAtVector, JournalFull, NoRecord, JournalLength, DivisionByZero, LeftByte, NoRoom, Malformed, OutputShort, LineShape, Checksum, PastTop, NoEnd, PostByte8F}
+use Rattle.answers.specs.declared.Refusal.the-variants.{MemoryLength, Waiting, Opcode, PastEnd, PostByte, TransferCode, StackTooSmall, ZeroAtVector, JournalFull, NoRecord, JournalLength, DivisionByZero, LeftByte, NoRoom, Malformed, OutputShort, LineShape, Checksum, PastTop, NoEnd, PostByte8F, ListShort}
 
 abbrev pub numberOf : Refusal → ℕ
 -- memory is not 65,536 bytes
@@ -51,6 +51,8 @@ numberOf PastTop = 22
 numberOf NoEnd = 23
 -- [2]: a post-byte of low form 8F that is not 9F
 numberOf PostByte8F = 24
+-- [10]: the list is too short for all entries
+numberOf ListShort = 27
 
 -- 0 is done
 abbrev pub numberOfAnswer : Answer → ℕ

@@ -11,7 +11,7 @@ use lib.Seq.{sets}
 use borrow.Author.Tests.{eq-eqb, ne-eqb, lt-ltb, le-ltb}
 use Rattle.text.proofs.Stores.{sets-append}
 use Rattle.answers.specs.declared.Answer.the-variants.{Done}
-use Rattle.answers.specs.declared.Refusal.the-variants.{MemoryLength, OutputShort}
+use Rattle.answers.specs.declared.Refusal.the-variants.{MemoryLength, ListShort}
 use Rattle.machine.specs.Record.{fields}
 use Rattle.machine.specs.declared.Machine.{Machine}
 use Rattle.difference.specs.Differences.{fieldsApart, runs, differences}
@@ -40,7 +40,7 @@ module _ (l r : Machine) (a b list : List ℕ) where
   laid out = rw (sets-append out (listed (fieldsApart fields l r)) (listed (runs a b)) 0, list-length (fieldsApart fields l r), zero-add)
 
   module _ (m : length a ≡ 65536) (n : length b ≡ 65536) (count : ℕ) (e : count ≡ length (fieldsApart fields l r) + length (runs a b)) where
-    pub list-refused : length list < entryLength * count → Ended (notCompared OutputShort) list
+    pub list-refused : length list < entryLength * count → Ended (notCompared ListShort) list
     unfolding compared listAfter
     list-refused h =
         let k = e ∙ sym in-parts in

@@ -9,7 +9,7 @@ use native.Mathlib.Omega.{arith}
 use lib.Dec.{eqb}
 use lib.ListN.{length, getD, length-append}
 use borrow.Author.Tests.{eq-eqb, ne-eqb, eqb-true}
-use Rattle.machine.specs.Record.{Field, A, B, X, Y, U, S, PC, DP, CC, Waiting, Cycles, Instructions, fields, rank, fieldOf, waitByte, waitOf}
+use Rattle.machine.specs.Record.{Field, A, B, X, Y, U, S, PC, DP, CC, Waiting, Armed, Cycles, Instructions, fields, rank, fieldOf, waitByte, waitOf, markByte, markOf}
 use Rattle.machine.specs.declared.Machine.{Machine}
 use Rattle.machine.specs.declared.Wait.{Wait}
 use Rattle.machine.specs.declared.Wait.the-variants.{Running, Cwai, Sync}
@@ -31,6 +31,7 @@ at-rank PC = refl
 at-rank DP = refl
 at-rank CC = refl
 at-rank Waiting = refl
+at-rank Armed = refl
 at-rank Cycles = refl
 at-rank Instructions = refl
 
@@ -54,6 +55,7 @@ once PC = refl
 once DP = refl
 once CC = refl
 once Waiting = refl
+once Armed = refl
 once Cycles = refl
 once Instructions = refl
 
@@ -154,6 +156,11 @@ wait-back Running = refl
 wait-back Cwai = refl
 wait-back Sync = refl
 
+mark-back : (b : Bool) → markOf (markByte b) ≡ b
+unfolding markOf
+mark-back true = refl
+mark-back false = refl
+
 pub machines-same : (l r : Machine) → fieldsApart fields l r ≡ [] → l ≡ r
 machines-same l r e = λ i. record {
   cycles = field-same l r Cycles e i;
@@ -170,6 +177,7 @@ machines-same l r e = λ i. record {
     cc = record { reg = field-same l r CC e i };
   };
   wait = (sym (wait-back (l .wait)) ∙ ap waitOf (field-same l r Waiting e) ∙ wait-back (r .wait)) i;
+  armed = (sym (mark-back (l .armed)) ∙ ap markOf (field-same l r Armed e) ∙ mark-back (r .armed)) i;
 }
 
 pub no-fields : (m : Machine) (gs : List Field) → fieldsApart gs m m ≡ []

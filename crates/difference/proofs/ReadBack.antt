@@ -12,9 +12,9 @@ use lib.ListN.{length, getD, drop, length-append}
 use lib.Seq.{sets, sets-eq, length-sets, drop-append-seam, getD-append-add}
 use borrow.Author.Tests.{lt-ltb}
 use Rattle.machine.specs.Machine.{MachineFits}
-use Rattle.machine.specs.Record.{Field, A, B, X, Y, U, S, PC, DP, CC, Waiting, Cycles, Instructions, fields, fieldOf, bytes, numberAt, counter}
+use Rattle.machine.specs.Record.{Field, A, B, X, Y, U, S, PC, DP, CC, Waiting, Armed, Cycles, Instructions, fields, fieldOf, bytes, numberAt, counter}
 use Rattle.machine.specs.declared.Machine.{Machine}
-use Rattle.machine.proofs.Header.{counter-back, length-counter, number-drop, wait-small}
+use Rattle.machine.proofs.Header.{counter-back, length-counter, number-drop, wait-small, mark-small}
 use Rattle.difference.specs.Differences.{Difference, field, run, fieldApart, fieldsApart, runUpTo, runsFrom, runs, differences}
 use Rattle.difference.specs.Compare.{entryOf, entryBytes, entryLength, listed, entryAt}
 use Rattle.difference.specs.Laws.{EntriesBack}
@@ -49,6 +49,7 @@ fits-in PC m h = omega (arith, h .registers .pc)
 fits-in DP m h = omega (arith, h .registers .dp)
 fits-in CC m h = omega (arith, h .registers .cc)
 fits-in Waiting m h = omega (arith, wait-small (m .wait))
+fits-in Armed m h = omega (arith, mark-small (m .armed))
 fits-in Cycles m h = h .cycles
 fits-in Instructions m h = h .instructions
 

@@ -28,7 +28,7 @@ Ranked n (f ∷ fs) = (rank f ≡ n) × Ranked (suc n) fs
 
 ranked : Ranked 0 fields
 unfolding Ranked
-ranked = (refl, (refl, (refl, (refl, (refl, (refl, (refl, (refl, (refl, (refl, (refl, (refl, tt))))))))))))
+ranked = (refl, (refl, (refl, (refl, (refl, (refl, (refl, (refl, (refl, (refl, (refl, (refl, (refl, tt)))))))))))))
 
 rank-in : (n : ℕ) (fs : List Field) → Ranked n fs → (k : ℕ) → k < length fs → rank (getD fs k A) ≡ n + k
 unfolding Ranked
@@ -36,14 +36,14 @@ rank-in n [] r k h = absurd (omega arith)
 rank-in n (f ∷ fs) r zero h = r .0 ∙ omega arith
 rank-in n (f ∷ fs) r (suc k) h = rank-in (suc n) fs (r .1) k (omega arith) ∙ omega arith
 
-rank-at : (k : ℕ) → k < length fields → rank (getD fields k A) ≡ k
+pub rank-at : (k : ℕ) → k < length fields → rank (getD fields k A) ≡ k
 rank-at k h = rank-in 0 fields ranked k h ∙ omega arith
 
 -- a machine's numbers, by place
 abbrev pub values : Machine → List ℕ
 values m = map (λ (f : Field). fieldOf f m) fields
 
-value-in : (m : Machine) (fs : List Field) (k : ℕ) → k < length fs → getD (map (λ (f : Field). fieldOf f m) fs) k 0 ≡ fieldOf (getD fs k A) m
+pub value-in : (m : Machine) (fs : List Field) (k : ℕ) → k < length fs → getD (map (λ (f : Field). fieldOf f m) fs) k 0 ≡ fieldOf (getD fs k A) m
 value-in m [] k h = absurd (omega arith)
 value-in m (f ∷ fs) zero h = refl
 value-in m (f ∷ fs) (suc k) h = value-in m fs k (omega arith)

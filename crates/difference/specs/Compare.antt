@@ -8,7 +8,7 @@ use lib.ListN.{length, getD}
 use lib.Seq.{sets}
 use Rattle.answers.specs.declared.Answer.the-variants.{Done, Refused}
 use Rattle.answers.specs.declared.Refusal.{Refusal}
-use Rattle.answers.specs.declared.Refusal.the-variants.{MemoryLength, OutputShort}
+use Rattle.answers.specs.declared.Refusal.the-variants.{MemoryLength, ListShort}
 use Rattle.machine.specs.Record.{fields, rank, bytes, numberAt}
 use Rattle.machine.specs.declared.Machine.{Machine}
 use Rattle.difference.specs.Differences.{Difference, field, run, differences}
@@ -60,7 +60,7 @@ isShort list ds = ltb (length list) (entryLength * length ds)
 unfoldable pub compared : Machine → List ℕ → Machine → List ℕ → List ℕ → Compared
 compared l a r b list =
     cond (areWhole a b)
-    (cond (isShort list (differences l a r b)) (notCompared OutputShort) (record { count = length (differences l a r b); answer = Done }))
+    (cond (isShort list (differences l a r b)) (notCompared ListShort) (record { count = length (differences l a r b); answer = Done }))
     (notCompared MemoryLength)
 
 unfoldable pub listAfter : Machine → List ℕ → Machine → List ℕ → List ℕ → List ℕ

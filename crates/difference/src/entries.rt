@@ -8,7 +8,7 @@ ghost use Rattle.difference.specs.Compare.{entryBytes, entryAt};
 pub const ENTRY: usize = 17;
 
 // What a run of memory is; below it are the machine's fields.
-pub const RUN: u8 = 12;
+pub const RUN: u8 = 13;
 
 pub struct Entry {
     pub left: u64,

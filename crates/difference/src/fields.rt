@@ -15,7 +15,7 @@ use super::entries::Entry;
 use super::entries::RUN;
 use machine::Machine;
 
-const FIELDS: usize = 12;
+const FIELDS: usize = 13;
 
 fn values_of(machine: Machine) -> [u64; FIELDS]
     ensures { λ r. ⌜ r ≡ map (λ (f : Field). fieldOf f machine) fields ⌝ }
@@ -24,6 +24,7 @@ fn values_of(machine: Machine) -> [u64; FIELDS]
     let cc = regs.cc;
     let wait = machine.wait;
     let waiting = machine::wait_byte(wait) as u64;
+    let mark = machine::mark_byte(machine.armed) as u64;
     [
         regs.a as u64,
         regs.b as u64,
@@ -35,6 +36,7 @@ fn values_of(machine: Machine) -> [u64; FIELDS]
         regs.dp as u64,
         cc.reg as u64,
         waiting,
+        mark,
         machine.cycles,
         machine.instructions,
     ]

@@ -47,7 +47,7 @@ pub fn compare(
     }
     let count = fields::count(left, right) + runs::count(left_mem, right_mem);
     if list.len() < ENTRY * count {
-        return refused(Refusal::OutputShort);
+        return refused(Refusal::ListShort);
     }
     let at = fields::put(list, left, right);
     runs::put(list, at, left_mem, right_mem);

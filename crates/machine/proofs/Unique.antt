@@ -42,3 +42,6 @@ counter-at κs a x y ws vs p q = (p ∙ sym q, refl)
 
 pub wait-byte : Determines 0 record.wait_byte.Kinds.ps record.wait_byte.Kinds.r record.wait_byte.Reads.Post
 wait-byte κs a x y ws vs p q = (p ∙ sym q, refl)
+
+pub mark-byte : Determines 0 record.mark_byte.Kinds.ps record.mark_byte.Kinds.r record.mark_byte.Reads.Post
+mark-byte κs a x y ws vs p q = (p ∙ sym q, refl)

@@ -51,7 +51,7 @@ pub fn wait_byte(wait: Wait) -> u8
     }
 }
 
-fn mark_byte(armed: bool) -> u8
+pub fn mark_byte(armed: bool) -> u8
     ensures { λ r. ⌜ r ≡ markByte armed ⌝ }
 {
     if armed { 1 } else { 0 }

@@ -16,10 +16,10 @@ use Rattle.difference.proofs.fields.count.Tie as tie
 
 abbrev Inv-loop : tie.InvT-loop
 Inv-loop l r n₀ k₀ n k =
-    (k ≤ 12) × ((n ≤ k) × ((x y : Machine) → l ≡ values x → r ≡ values y → n + length (fieldsApart (drop k fields) x y) ≡ length (fieldsApart fields x y)))
+    (k ≤ 13) × ((n ≤ k) × ((x y : Machine) → l ≡ values x → r ≡ values y → n + length (fieldsApart (drop k fields) x y) ≡ length (fieldsApart fields x y)))
 
 abbrev μ-loop : tie.MeasureT-loop
-μ-loop l r n₀ k₀ n k = 12 - k
+μ-loop l r n₀ k₀ n k = 13 - k
 
 loop-holds : tie.Need-loop-holds Inv-loop μ-loop
 loop-holds c = (omega arith, (omega arith, λ x y p q. omega arith))
@@ -48,7 +48,7 @@ unfolding fieldsApart
 returns c =
     let l = c .before .loop in
     let a = c .before .before .before .before .args in
-    let e : l .k ≡ 12 = omega arith in
+    let e : l .k ≡ 13 = omega arith in
     omega (arith, rw e at (l .inv .1 .1 (a .left) (a .right) (c .before .before .before .values-of .ensures) (c .before .before .values-of2 .ensures)))
 
 pub count-spec : {M : Type 1} → statement M

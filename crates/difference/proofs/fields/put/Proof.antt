@@ -17,12 +17,12 @@ use Rattle.difference.proofs.fields.put.Tie as tie
 
 abbrev Inv-loop : tie.InvT-loop
 Inv-loop list₀ l r at₀ k₀ list at k =
-    (k ≤ 12) × ((at ≤ entryLength * k) × ((length list ≡ length list₀) × ((x y : Machine) → l ≡ values x → r ≡ values y
+    (k ≤ 13) × ((at ≤ entryLength * k) × ((length list ≡ length list₀) × ((x y : Machine) → l ≡ values x → r ≡ values y
     → (at + entryLength * length (fieldsApart (drop k fields) x y) ≡ entryLength * length (fieldsApart fields x y))
     × (sets list at (listed (fieldsApart (drop k fields) x y)) ≡ sets list₀ 0 (listed (fieldsApart fields x y))))))
 
 abbrev μ-loop : tie.MeasureT-loop
-μ-loop list₀ l r at₀ k₀ list at k = 12 - k
+μ-loop list₀ l r at₀ k₀ list at k = 13 - k
 
 loop-holds : tie.Need-loop-holds Inv-loop μ-loop
 loop-holds c = (omega arith, (omega arith, (refl, λ x y p q. (omega arith, refl))))
@@ -61,7 +61,7 @@ unfolding fieldsApart listed
 returns c =
     let l = c .before .loop in
     let a = c .before .before .before .before .before .args in
-    let e : l .k ≡ 12 = omega arith in
+    let e : l .k ≡ 13 = omega arith in
     let i = rw e at (l .inv .1 .1 .1 (a .left) (a .right) (c .before .before .before .values-of .ensures) (c .before .before .values-of2 .ensures)) in
     (omega (arith, i .0), i .1)
 

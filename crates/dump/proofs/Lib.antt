@@ -1,0 +1,4 @@
+pub mod Writing
+pub mod Parts
+pub mod Listed
+pub mod Bounds
