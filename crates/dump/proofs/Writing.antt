@@ -1,6 +1,6 @@
 -- A dump is written in four parts, judged by its length, wait state and mark, and reads back.
 -- Assumes nothing.
-use Prim.Native.Nat.{ℕ, suc, _+_, _-_, _*_, _^_, _≤_, _<_}
+use Prim.Native.Nat.{ℕ, suc, _+_, _-_, _*_, _/_, _%_, _^_, _≤_, _<_}
 use mathlib.Core.Bool.{Bool, true, false, cond, _&&_}
 use mathlib.Core.List.{List, [], _∷_, _++_, append-nil, append-assoc}
 use mathlib.Core.Path.{_≡_, refl, sym, ap, _∙_}
@@ -8,15 +8,17 @@ use native.Mathlib.Nat.{zero-add}
 use native.Mathlib.Omega.{arith}
 use lib.Dec.{eqb, ltb}
 use lib.ListN.{length, getD, take, drop, length-append, length-drop, drop-of-length-le}
-use lib.Seq.{sets, sets-eq, take-all, drop-append-seam}
+use lib.Seq.{sets, sets-eq, take-all, drop-at}
 use borrow.Author.Tests.{eq-eqb, ne-eqb, lt-ltb, le-ltb, eqb-true, ltb-true}
 use Rattle.answers.specs.declared.Answer.the-variants.{Done}
 use Rattle.answers.specs.declared.Refusal.the-variants.{MemoryLength, Malformed, OutputShort}
 use Rattle.text.proofs.Stores.{sets-append}
 use Rattle.memory.specs.Fits.{Bytes}
 use Rattle.machine.specs.Machine.{MachineFits}
-use Rattle.machine.specs.Record.{Waiting, Armed, waitByte, markByte, numberAt, header, front, counter, headerLength, held, machineOf}
+use Rattle.machine.specs.Record.{Waiting, Armed, waitByte, markByte, bytes, numberAt, header, front, counter, headerLength, held, machineOf}
 use Rattle.machine.specs.declared.Machine.{Machine}
+use Rattle.machine.specs.declared.Wait.{Wait}
+use Rattle.machine.specs.declared.Wait.the-variants.{Running, Cwai, Sync}
 use Rattle.machine.proofs.Header.{single, wait-small, mark-small, header-in-parts, length-front, length-counter, length-header, header-back}
 use Rattle.dump.specs.Dumps.{dumpOf, dumpLength, isDump, memoryIn, notDumped, dumped, outputDumped, notUndumped, undumped, memoryUndumped, DumpBack}
 use Rattle.dump.specs.declared.Dumped.{Dumped}
@@ -99,19 +101,28 @@ module _ (d mem : List ℕ) where
 
 -- ---- what is written reads back
 
+-- the wait state and the mark of a header are in range
+states : (w : Wait) (b : Bool) → (ltb (waitByte w / 1 % 256 * 1 + 0) 3 && ltb (markByte b / 1 % 256 * 1 + 0) 2) ≡ true
+states Running true = refl
+states Running false = refl
+states Cwai true = refl
+states Cwai false = refl
+states Sync true = refl
+states Sync false = refl
+
+memory-back : (m : Machine) (mem : List ℕ) → memoryIn (header m ++ mem) ≡ mem
+memory-back m mem = drop-at (header m) mem headerLength (length-header m)
+
 pub dump-back : DumpBack
-unfolding dumpOf isDump
+unfolding dumpOf isDump header bytes numberAt
 dump-back m mem f h =
     let b = header-back m mem f in
     let n : length (header m ++ mem) ≡ dumpLength = length-append (header m) mem ∙ rw (length-header m, h) in
     record {
-      sound = rw (eq-eqb (length (header m ++ mem)) dumpLength n) (states m mem f);
+      sound = rw (eq-eqb (length (header m ++ mem)) dumpLength n) (states (m .wait) (m .armed));
       machine-is = b;
-      memory-is = rw (← length-header m) (drop-append-seam (header m) mem);
+      memory-is = memory-back m mem;
     }
-  where
-    states : (m : Machine) (mem : List ℕ) → MachineFits m → (ltb (held Waiting (header m ++ mem)) 3 && ltb (held Armed (header m ++ mem)) 2) ≡ true
-    states m mem f = ?
 
 -- ---- a machine that is read from bytes fits its widths
 
