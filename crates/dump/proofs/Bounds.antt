@@ -3,9 +3,9 @@
 use Prim.Native.Nat.{ℕ, _+_, _*_, _≤_}
 use mathlib.Core.Bool.{Bool, true, false, cond, _&&_}
 use mathlib.Core.List.{List, [], _∷_, _++_}
-use mathlib.Core.Path.{_≡_, refl}
+use mathlib.Core.Path.{_≡_, sym}
 use native.Mathlib.Omega.{arith}
-use lib.ListN.{length, length-append}
+use lib.ListN.{length, length-append, replicate, length-replicate}
 use Rattle.answers.specs.Numbers.{numberOf}
 use Rattle.answers.specs.declared.Refusal.the-variants.{Malformed}
 use Rattle.text.specs.Lines.{alone}
@@ -35,3 +35,7 @@ told-fits input =
     either (isDump l && isDump r) (toldLines (dumpDifferences l r)) (alone (numberOf Malformed)) (48 * 32781)
     (omega (arith, lines-fit (dumpDifferences l r), ceiling (machineOf l) (machineOf r) (memoryIn l) (memoryIn r)))
     (omega (arith, alone-fits (numberOf Malformed)))
+
+-- the length of an array that is too long to be counted
+pub counted : (n : ℕ) → n ≡ length {A = ℕ} (replicate n 0)
+counted n = sym (length-replicate n 0)

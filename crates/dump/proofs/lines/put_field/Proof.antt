@@ -1,103 +1,60 @@
+-- Six parts, each right after the one before; each is short, so that no place is too far.
+-- Assumes nothing.
+use mathlib.Core.Path.{_≡_, _∙_, ap}
+use mathlib.Core.List.{List}
+use Prim.Native.Nat.{ℕ}
+use native.Mathlib.Omega.{arith}
+use lib.ListN.{length}
+use lib.Seq.{sets}
+use Rattle.dump.specs.Told.{fieldText, valueText, fieldAt}
+use Rattle.dump.proofs.Parts.{Six, line-put, line-long, name-short, value-short, field-line}
 use borrow.Author.Needs.{needs}
 use Rattle.dump.proofs.lines.put_field.Statement.{statement}
 use Rattle.dump.proofs.lines.put_field.Tie as tie
-use Rattle.dump.proofs.lines.put_field.Reads as reads
-use Rattle.dump.proofs.lines.put_field.Lts as lts
-use Rattle.dump.proofs.lines.put_name.Reads as put-name-reads
-use Rattle.dump.proofs.lines.put_text.Reads as put-text-reads
-use Rattle.dump.proofs.lines.put_value.Reads as put-value-reads
 
--- src/lines.rt:99:21
-put-name-requires : tie.Need-put-name-requires
-put-name-requires c κs = search needs
-
--- src/lines.rt:99:16
 add-name : tie.Need-add-name
-add-name c = ?
+add-name c = record { fits = omega (arith, c .before .before .put-name .ensures .0, name-short (fieldAt (c .before .before .before .before .before .args .entry .what))) }
 
--- src/lines.rt:100:44
-slice-aggregate-put-text : tie.Need-slice-aggregate-put-text
-slice-aggregate-put-text c = search needs
-
--- src/lines.rt:100:24
-put-text-requires : tie.Need-put-text-requires
-put-text-requires c κs = search needs
-
--- src/lines.rt:100:17
 add-first : tie.Need-add-first
-add-first c = ?
+add-first c = record { fits = omega (arith, c .before .before .put-text .ensures .0, c .before .before .before .before .before .before .before .put-name .ensures .0, name-short (fieldAt (c .before .before .before .before .before .before .before .before .before .before .args .entry .what))) }
 
--- src/lines.rt:101:24
 put-value-requires : tie.Need-put-value-requires
-put-value-requires c κs = ?
+put-value-requires c κs = (c .before .before .before .before .before .before .before .before .before .before .before .pre .0, omega (arith, c .before .before .before .put-text .ensures .0, c .before .before .before .before .before .before .before .before .put-name .ensures .0, name-short (fieldAt (c .before .before .before .before .before .before .before .before .before .before .before .args .entry .what))))
 
--- src/lines.rt:101:16
 add-left : tie.Need-add-left
-add-left c = ?
+add-left c = record { fits = omega (arith, c .before .before .put-value .ensures .0, value-short (fieldAt (c .before .before .before .before .before .before .before .before .before .before .before .before .before .before .args .entry .what)) (c .before .before .before .before .before .before .before .before .before .before .before .before .before .before .args .entry .left), c .before .before .before .before .before .before .put-text .ensures .0, c .before .before .before .before .before .before .before .before .before .before .before .put-name .ensures .0, name-short (fieldAt (c .before .before .before .before .before .before .before .before .before .before .before .before .before .before .args .entry .what))) }
 
--- src/lines.rt:102:45
-slice-aggregate-put-text-2 : tie.Need-slice-aggregate-put-text-2
-slice-aggregate-put-text-2 c = search needs
-
--- src/lines.rt:102:25
-put-text-requires-2 : tie.Need-put-text-requires-2
-put-text-requires-2 c κs = search needs
-
--- src/lines.rt:102:18
 add-second : tie.Need-add-second
-add-second c = ?
+add-second c = record { fits = omega (arith, c .before .before .put-text2 .ensures .0, c .before .before .before .before .before .before .before .put-value .ensures .0, value-short (fieldAt (c .before .before .before .before .before .before .before .before .before .before .before .before .before .before .before .before .before .before .before .args .entry .what)) (c .before .before .before .before .before .before .before .before .before .before .before .before .before .before .before .before .before .before .before .args .entry .left), c .before .before .before .before .before .before .before .before .before .before .before .put-text .ensures .0, c .before .before .before .before .before .before .before .before .before .before .before .before .before .before .before .before .put-name .ensures .0, name-short (fieldAt (c .before .before .before .before .before .before .before .before .before .before .before .before .before .before .before .before .before .before .before .args .entry .what))) }
 
--- src/lines.rt:103:26
 put-value-requires-2 : tie.Need-put-value-requires-2
-put-value-requires-2 c κs = ?
+put-value-requires-2 c κs = (c .before .before .before .before .before .before .before .before .before .before .before .before .before .before .before .before .before .before .before .before .pre .0, omega (arith, c .before .before .before .put-text2 .ensures .0, c .before .before .before .before .before .before .before .before .put-value .ensures .0, value-short (fieldAt (c .before .before .before .before .before .before .before .before .before .before .before .before .before .before .before .before .before .before .before .before .args .entry .what)) (c .before .before .before .before .before .before .before .before .before .before .before .before .before .before .before .before .before .before .before .before .args .entry .left), c .before .before .before .before .before .before .before .before .before .before .before .before .put-text .ensures .0, c .before .before .before .before .before .before .before .before .before .before .before .before .before .before .before .before .before .put-name .ensures .0, name-short (fieldAt (c .before .before .before .before .before .before .before .before .before .before .before .before .before .before .before .before .before .before .before .before .args .entry .what))))
 
--- src/lines.rt:103:17
 add-right : tie.Need-add-right
-add-right c = ?
+add-right c = record { fits = omega (arith, c .before .before .put-value2 .ensures .0, value-short (fieldAt (c .before .before .before .before .before .before .before .before .before .before .before .before .before .before .before .before .before .before .before .before .before .before .before .args .entry .what)) (c .before .before .before .before .before .before .before .before .before .before .before .before .before .before .before .before .before .before .before .before .before .before .before .args .entry .right), c .before .before .before .before .before .before .put-text2 .ensures .0, c .before .before .before .before .before .before .before .before .before .before .before .put-value .ensures .0, value-short (fieldAt (c .before .before .before .before .before .before .before .before .before .before .before .before .before .before .before .before .before .before .before .before .before .before .before .args .entry .what)) (c .before .before .before .before .before .before .before .before .before .before .before .before .before .before .before .before .before .before .before .before .before .before .before .args .entry .left), c .before .before .before .before .before .before .before .before .before .before .before .before .before .before .before .put-text .ensures .0, c .before .before .before .before .before .before .before .before .before .before .before .before .before .before .before .before .before .before .before .before .put-name .ensures .0, name-short (fieldAt (c .before .before .before .before .before .before .before .before .before .before .before .before .before .before .before .before .before .before .before .before .before .before .before .args .entry .what))) }
 
--- src/lines.rt:104:44
-slice-aggregate-put-text-3 : tie.Need-slice-aggregate-put-text-3
-slice-aggregate-put-text-3 c = search needs
-
--- src/lines.rt:104:23
-put-text-requires-3 : tie.Need-put-text-requires-3
-put-text-requires-3 c κs = search needs
-
--- src/lines.rt:104:15
 add-end : tie.Need-add-end
-add-end c = ?
+add-end c = record { fits = omega (arith, c .before .before .put-text3 .ensures .0, c .before .before .before .before .before .before .before .put-value2 .ensures .0, value-short (fieldAt (c .before .before .before .before .before .before .before .before .before .before .before .before .before .before .before .before .before .before .before .before .before .before .before .before .before .before .before .before .args .entry .what)) (c .before .before .before .before .before .before .before .before .before .before .before .before .before .before .before .before .before .before .before .before .before .before .before .before .before .before .before .before .args .entry .right), c .before .before .before .before .before .before .before .before .before .before .before .put-text2 .ensures .0, c .before .before .before .before .before .before .before .before .before .before .before .before .before .before .before .before .put-value .ensures .0, value-short (fieldAt (c .before .before .before .before .before .before .before .before .before .before .before .before .before .before .before .before .before .before .before .before .before .before .before .before .before .before .before .before .args .entry .what)) (c .before .before .before .before .before .before .before .before .before .before .before .before .before .before .before .before .before .before .before .before .before .before .before .before .before .before .before .before .args .entry .left), c .before .before .before .before .before .before .before .before .before .before .before .before .before .before .before .before .before .before .before .before .put-text .ensures .0, c .before .before .before .before .before .before .before .before .before .before .before .before .before .before .before .before .before .before .before .before .before .before .before .before .before .put-name .ensures .0, name-short (fieldAt (c .before .before .before .before .before .before .before .before .before .before .before .before .before .before .before .before .before .before .before .before .before .before .before .before .before .before .before .before .args .entry .what))) }
 
--- src/lines.rt:105:5
-sub-result : tie.Need-sub-result
-sub-result c = search needs
-
--- src/lines.rt:94:1
-same-length : tie.Need-same-length
-same-length c = search needs
-
--- src/lines.rt:94:1
 returns : tie.Need-returns
-returns c = ?
+returns c =
+    let a = c .before .before .before .before .before .before .before .before .before .before .before .before .before .before .before .before .before .before .before .before .before .before .before .before .before .before .before .before .args in
+    let six : Six (fieldText (fieldAt (a .entry .what))) (valueText (fieldAt (a .entry .what)) (a .entry .left)) (valueText (fieldAt (a .entry .what)) (a .entry .right)) (a .out .now) (c .before .before .before .before .before .before .before .before .before .before .before .before .before .before .before .before .before .before .before .before .before .before .before .before .before .put-name .last .0) (c .before .before .before .before .before .before .before .before .before .before .before .before .before .before .before .before .before .before .before .before .put-text .last .0) (c .before .before .before .before .before .before .before .before .before .before .before .before .before .before .before .before .put-value .last .0) (c .before .before .before .before .before .before .before .before .before .before .before .put-text2 .last .0) (c .before .before .before .before .before .before .before .put-value2 .last .0) (c .before .before .put-text3 .last .0) (a .at) (c .before .before .before .before .before .before .before .before .before .before .before .before .before .before .before .before .before .before .before .before .before .before .before .before .before .put-name .result) (c .before .before .before .before .before .before .before .before .before .before .before .before .before .before .before .before .before .before .before .before .put-text .result) (c .before .before .before .before .before .before .before .before .before .before .before .before .before .before .before .before .put-value .result) (c .before .before .before .before .before .before .before .before .before .before .before .put-text2 .result) (c .before .before .before .before .before .before .before .put-value2 .result) (c .before .before .put-text3 .result) = record {
+      p₁ = c .before .before .before .before .before .before .before .before .before .before .before .before .before .before .before .before .before .before .before .before .before .before .before .before .before .put-name .ensures .1;
+      l₁ = c .before .before .before .before .before .before .before .before .before .before .before .before .before .before .before .before .before .before .before .before .before .before .before .before .before .put-name .ensures .0;
+      p₂ = c .before .before .before .before .before .before .before .before .before .before .before .before .before .before .before .before .before .before .before .before .put-text .ensures .1;
+      l₂ = c .before .before .before .before .before .before .before .before .before .before .before .before .before .before .before .before .before .before .before .before .put-text .ensures .0;
+      p₃ = c .before .before .before .before .before .before .before .before .before .before .before .before .before .before .before .before .put-value .ensures .1;
+      l₃ = c .before .before .before .before .before .before .before .before .before .before .before .before .before .before .before .before .put-value .ensures .0;
+      p₄ = c .before .before .before .before .before .before .before .before .before .before .before .put-text2 .ensures .1;
+      l₄ = c .before .before .before .before .before .before .before .before .before .before .before .put-text2 .ensures .0;
+      p₅ = c .before .before .before .before .before .before .before .put-value2 .ensures .1;
+      l₅ = c .before .before .before .before .before .before .before .put-value2 .ensures .0;
+      p₆ = c .before .before .put-text3 .ensures .1;
+      l₆ = c .before .before .put-text3 .ensures .0;
+    } in
+    let e = field-line (a .entry) (c .before .before .before .before .before .before .before .before .before .before .before .before .before .before .before .before .before .before .before .before .before .before .before .before .before .before .before .before .pre .0) in
+    (line-long (fieldText (fieldAt (a .entry .what))) (valueText (fieldAt (a .entry .what)) (a .entry .left)) (valueText (fieldAt (a .entry .what)) (a .entry .right)) (a .out .now) (c .before .before .before .before .before .before .before .before .before .before .before .before .before .before .before .before .before .before .before .before .before .before .before .before .before .put-name .last .0) (c .before .before .before .before .before .before .before .before .before .before .before .before .before .before .before .before .before .before .before .before .put-text .last .0) (c .before .before .before .before .before .before .before .before .before .before .before .before .before .before .before .before .put-value .last .0) (c .before .before .before .before .before .before .before .before .before .before .before .put-text2 .last .0) (c .before .before .before .before .before .before .before .put-value2 .last .0) (c .before .before .put-text3 .last .0) (a .at) (c .before .before .before .before .before .before .before .before .before .before .before .before .before .before .before .before .before .before .before .before .before .before .before .before .before .put-name .result) (c .before .before .before .before .before .before .before .before .before .before .before .before .before .before .before .before .before .before .before .before .put-text .result) (c .before .before .before .before .before .before .before .before .before .before .before .before .before .before .before .before .put-value .result) (c .before .before .before .before .before .before .before .before .before .before .before .put-text2 .result) (c .before .before .before .before .before .before .before .put-value2 .result) (c .before .before .put-text3 .result) six ∙ ap length e, line-put (fieldText (fieldAt (a .entry .what))) (valueText (fieldAt (a .entry .what)) (a .entry .left)) (valueText (fieldAt (a .entry .what)) (a .entry .right)) (a .out .now) (c .before .before .before .before .before .before .before .before .before .before .before .before .before .before .before .before .before .before .before .before .before .before .before .before .before .put-name .last .0) (c .before .before .before .before .before .before .before .before .before .before .before .before .before .before .before .before .before .before .before .before .put-text .last .0) (c .before .before .before .before .before .before .before .before .before .before .before .before .before .before .before .before .put-value .last .0) (c .before .before .before .before .before .before .before .before .before .before .before .put-text2 .last .0) (c .before .before .before .before .before .before .before .put-value2 .last .0) (c .before .before .put-text3 .last .0) (a .at) (c .before .before .before .before .before .before .before .before .before .before .before .before .before .before .before .before .before .before .before .before .before .before .before .before .before .put-name .result) (c .before .before .before .before .before .before .before .before .before .before .before .before .before .before .before .before .before .before .before .before .put-text .result) (c .before .before .before .before .before .before .before .before .before .before .before .before .before .before .before .before .put-value .result) (c .before .before .before .before .before .before .before .before .before .before .before .put-text2 .result) (c .before .before .before .before .before .before .before .put-value2 .result) (c .before .before .put-text3 .result) six ∙ ap (λ (l : List ℕ). sets (a .out .now) (a .at) l) e)
 
 pub put-field-spec : {M : Type 1} → statement M
-put-field-spec =
-    tie.close
-    (tie.spec
-    put-name-requires
-    add-name
-    slice-aggregate-put-text
-    put-text-requires
-    add-first
-    put-value-requires
-    add-left
-    slice-aggregate-put-text-2
-    put-text-requires-2
-    add-second
-    put-value-requires-2
-    add-right
-    slice-aggregate-put-text-3
-    put-text-requires-3
-    add-end
-    sub-result
-    same-length
-    returns)
+put-field-spec = tie.close (tie.spec (search needs) add-name (search needs) (search needs) add-first put-value-requires add-left (search needs) (search needs) add-second put-value-requires-2 add-right (search needs) (search needs) add-end (search needs) (search needs) returns)

@@ -1,107 +1,52 @@
+-- Six parts, each right after the one before; each is short, so that no place is too far.
+-- Assumes nothing.
+use mathlib.Core.Path.{_≡_, _∙_, ap}
+use mathlib.Core.List.{List}
+use Prim.Native.Nat.{ℕ}
+use native.Mathlib.Omega.{arith}
+use lib.ListN.{length}
+use lib.Seq.{sets}
+use Rattle.registers.specs.ConditionCodes.{ascii}
+use Rattle.dump.specs.Told.{hexOf}
+use Rattle.dump.proofs.Parts.{Six, line-put, line-long, hex-of-length, run-line}
 use borrow.Author.Needs.{needs}
 use Rattle.dump.proofs.lines.put_run.Statement.{statement}
 use Rattle.dump.proofs.lines.put_run.Tie as tie
-use Rattle.dump.proofs.lines.put_run.Reads as reads
-use Rattle.dump.proofs.lines.put_run.Lts as lts
-use Rattle.dump.proofs.lines.put_hex.Reads as put-hex-reads
-use Rattle.dump.proofs.lines.put_text.Reads as put-text-reads
 
--- src/lines.rt:112:39
-slice-aggregate-put-text : tie.Need-slice-aggregate-put-text
-slice-aggregate-put-text c = search needs
-
--- src/lines.rt:112:21
-put-text-requires : tie.Need-put-text-requires
-put-text-requires c κs = search needs
-
--- src/lines.rt:112:16
-add-name : tie.Need-add-name
-add-name c = search needs
-
--- src/lines.rt:113:44
-slice-aggregate-put-text-2 : tie.Need-slice-aggregate-put-text-2
-slice-aggregate-put-text-2 c = search needs
-
--- src/lines.rt:113:24
-put-text-requires-2 : tie.Need-put-text-requires-2
-put-text-requires-2 c κs = search needs
-
--- src/lines.rt:113:17
-add-first : tie.Need-add-first
-add-first c = search needs
-
--- src/lines.rt:114:24
-put-hex-requires : tie.Need-put-hex-requires
-put-hex-requires c κs = search needs
-
--- src/lines.rt:114:16
 add-left : tie.Need-add-left
-add-left c = ?
+add-left c = record { fits = omega (arith, c .before .before .put-hex .ensures .0, hex-of-length 2 (c .before .before .before .before .before .before .before .before .before .before .before .before .before .before .before .args .entry .left), c .before .before .before .before .before .before .put-text2 .ensures .0, c .before .before .before .before .before .before .before .before .before .before .before .put-text .ensures .0) }
 
--- src/lines.rt:115:45
-slice-aggregate-put-text-3 : tie.Need-slice-aggregate-put-text-3
-slice-aggregate-put-text-3 c = search needs
-
--- src/lines.rt:115:25
-put-text-requires-3 : tie.Need-put-text-requires-3
-put-text-requires-3 c κs = search needs
-
--- src/lines.rt:115:18
 add-second : tie.Need-add-second
-add-second c = ?
+add-second c = record { fits = omega (arith, c .before .before .put-text3 .ensures .0, c .before .before .before .before .before .before .before .put-hex .ensures .0, hex-of-length 2 (c .before .before .before .before .before .before .before .before .before .before .before .before .before .before .before .before .before .before .before .before .args .entry .left), c .before .before .before .before .before .before .before .before .before .before .before .put-text2 .ensures .0, c .before .before .before .before .before .before .before .before .before .before .before .before .before .before .before .before .put-text .ensures .0) }
 
--- src/lines.rt:116:26
 put-hex-requires-2 : tie.Need-put-hex-requires-2
-put-hex-requires-2 c κs = ?
+put-hex-requires-2 c κs = (omega arith, omega (arith, c .before .before .before .put-text3 .ensures .0, c .before .before .before .before .before .before .before .before .put-hex .ensures .0, hex-of-length 2 (c .before .before .before .before .before .before .before .before .before .before .before .before .before .before .before .before .before .before .before .before .before .args .entry .left), c .before .before .before .before .before .before .before .before .before .before .before .before .put-text2 .ensures .0, c .before .before .before .before .before .before .before .before .before .before .before .before .before .before .before .before .before .put-text .ensures .0))
 
--- src/lines.rt:116:17
 add-right : tie.Need-add-right
-add-right c = ?
+add-right c = record { fits = omega (arith, c .before .before .put-hex2 .ensures .0, hex-of-length 2 (c .before .before .before .before .before .before .before .before .before .before .before .before .before .before .before .before .before .before .before .before .before .before .before .before .args .entry .right), c .before .before .before .before .before .before .put-text3 .ensures .0, c .before .before .before .before .before .before .before .before .before .before .before .put-hex .ensures .0, hex-of-length 2 (c .before .before .before .before .before .before .before .before .before .before .before .before .before .before .before .before .before .before .before .before .before .before .before .before .args .entry .left), c .before .before .before .before .before .before .before .before .before .before .before .before .before .before .before .put-text2 .ensures .0, c .before .before .before .before .before .before .before .before .before .before .before .before .before .before .before .before .before .before .before .before .put-text .ensures .0) }
 
--- src/lines.rt:117:44
-slice-aggregate-put-text-4 : tie.Need-slice-aggregate-put-text-4
-slice-aggregate-put-text-4 c = search needs
-
--- src/lines.rt:117:23
-put-text-requires-4 : tie.Need-put-text-requires-4
-put-text-requires-4 c κs = search needs
-
--- src/lines.rt:117:15
 add-end : tie.Need-add-end
-add-end c = ?
+add-end c = record { fits = omega (arith, c .before .before .put-text4 .ensures .0, c .before .before .before .before .before .before .before .put-hex2 .ensures .0, hex-of-length 2 (c .before .before .before .before .before .before .before .before .before .before .before .before .before .before .before .before .before .before .before .before .before .before .before .before .before .before .before .before .before .args .entry .right), c .before .before .before .before .before .before .before .before .before .before .before .put-text3 .ensures .0, c .before .before .before .before .before .before .before .before .before .before .before .before .before .before .before .before .put-hex .ensures .0, hex-of-length 2 (c .before .before .before .before .before .before .before .before .before .before .before .before .before .before .before .before .before .before .before .before .before .before .before .before .before .before .before .before .before .args .entry .left), c .before .before .before .before .before .before .before .before .before .before .before .before .before .before .before .before .before .before .before .before .put-text2 .ensures .0, c .before .before .before .before .before .before .before .before .before .before .before .before .before .before .before .before .before .before .before .before .before .before .before .before .before .put-text .ensures .0) }
 
--- src/lines.rt:118:5
-sub-result : tie.Need-sub-result
-sub-result c = search needs
-
--- src/lines.rt:108:1
-same-length : tie.Need-same-length
-same-length c = search needs
-
--- src/lines.rt:108:1
 returns : tie.Need-returns
-returns c = ?
+returns c =
+    let a = c .before .before .before .before .before .before .before .before .before .before .before .before .before .before .before .before .before .before .before .before .before .before .before .before .before .before .before .before .before .args in
+    let six : Six (ascii "memory") (hexOf 2 (a .entry .left)) (hexOf 2 (a .entry .right)) (a .out .now) (c .before .before .before .before .before .before .before .before .before .before .before .before .before .before .before .before .before .before .before .before .before .before .before .before .before .put-text .last .0) (c .before .before .before .before .before .before .before .before .before .before .before .before .before .before .before .before .before .before .before .before .put-text2 .last .0) (c .before .before .before .before .before .before .before .before .before .before .before .before .before .before .before .before .put-hex .last .0) (c .before .before .before .before .before .before .before .before .before .before .before .put-text3 .last .0) (c .before .before .before .before .before .before .before .put-hex2 .last .0) (c .before .before .put-text4 .last .0) (a .at) (c .before .before .before .before .before .before .before .before .before .before .before .before .before .before .before .before .before .before .before .before .before .before .before .before .before .put-text .result) (c .before .before .before .before .before .before .before .before .before .before .before .before .before .before .before .before .before .before .before .before .put-text2 .result) (c .before .before .before .before .before .before .before .before .before .before .before .before .before .before .before .before .put-hex .result) (c .before .before .before .before .before .before .before .before .before .before .before .put-text3 .result) (c .before .before .before .before .before .before .before .put-hex2 .result) (c .before .before .put-text4 .result) = record {
+      p₁ = c .before .before .before .before .before .before .before .before .before .before .before .before .before .before .before .before .before .before .before .before .before .before .before .before .before .put-text .ensures .1;
+      l₁ = c .before .before .before .before .before .before .before .before .before .before .before .before .before .before .before .before .before .before .before .before .before .before .before .before .before .put-text .ensures .0;
+      p₂ = c .before .before .before .before .before .before .before .before .before .before .before .before .before .before .before .before .before .before .before .before .put-text2 .ensures .1;
+      l₂ = c .before .before .before .before .before .before .before .before .before .before .before .before .before .before .before .before .before .before .before .before .put-text2 .ensures .0;
+      p₃ = c .before .before .before .before .before .before .before .before .before .before .before .before .before .before .before .before .put-hex .ensures .1;
+      l₃ = c .before .before .before .before .before .before .before .before .before .before .before .before .before .before .before .before .put-hex .ensures .0;
+      p₄ = c .before .before .before .before .before .before .before .before .before .before .before .put-text3 .ensures .1;
+      l₄ = c .before .before .before .before .before .before .before .before .before .before .before .put-text3 .ensures .0;
+      p₅ = c .before .before .before .before .before .before .before .put-hex2 .ensures .1;
+      l₅ = c .before .before .before .before .before .before .before .put-hex2 .ensures .0;
+      p₆ = c .before .before .put-text4 .ensures .1;
+      l₆ = c .before .before .put-text4 .ensures .0;
+    } in
+    let e = run-line (a .entry) (c .before .before .before .before .before .before .before .before .before .before .before .before .before .before .before .before .before .before .before .before .before .before .before .before .before .before .before .before .before .pre .0) in
+    (line-long (ascii "memory") (hexOf 2 (a .entry .left)) (hexOf 2 (a .entry .right)) (a .out .now) (c .before .before .before .before .before .before .before .before .before .before .before .before .before .before .before .before .before .before .before .before .before .before .before .before .before .put-text .last .0) (c .before .before .before .before .before .before .before .before .before .before .before .before .before .before .before .before .before .before .before .before .put-text2 .last .0) (c .before .before .before .before .before .before .before .before .before .before .before .before .before .before .before .before .put-hex .last .0) (c .before .before .before .before .before .before .before .before .before .before .before .put-text3 .last .0) (c .before .before .before .before .before .before .before .put-hex2 .last .0) (c .before .before .put-text4 .last .0) (a .at) (c .before .before .before .before .before .before .before .before .before .before .before .before .before .before .before .before .before .before .before .before .before .before .before .before .before .put-text .result) (c .before .before .before .before .before .before .before .before .before .before .before .before .before .before .before .before .before .before .before .before .put-text2 .result) (c .before .before .before .before .before .before .before .before .before .before .before .before .before .before .before .before .put-hex .result) (c .before .before .before .before .before .before .before .before .before .before .before .put-text3 .result) (c .before .before .before .before .before .before .before .put-hex2 .result) (c .before .before .put-text4 .result) six ∙ ap length e, line-put (ascii "memory") (hexOf 2 (a .entry .left)) (hexOf 2 (a .entry .right)) (a .out .now) (c .before .before .before .before .before .before .before .before .before .before .before .before .before .before .before .before .before .before .before .before .before .before .before .before .before .put-text .last .0) (c .before .before .before .before .before .before .before .before .before .before .before .before .before .before .before .before .before .before .before .before .put-text2 .last .0) (c .before .before .before .before .before .before .before .before .before .before .before .before .before .before .before .before .put-hex .last .0) (c .before .before .before .before .before .before .before .before .before .before .before .put-text3 .last .0) (c .before .before .before .before .before .before .before .put-hex2 .last .0) (c .before .before .put-text4 .last .0) (a .at) (c .before .before .before .before .before .before .before .before .before .before .before .before .before .before .before .before .before .before .before .before .before .before .before .before .before .put-text .result) (c .before .before .before .before .before .before .before .before .before .before .before .before .before .before .before .before .before .before .before .before .put-text2 .result) (c .before .before .before .before .before .before .before .before .before .before .before .before .before .before .before .before .put-hex .result) (c .before .before .before .before .before .before .before .before .before .before .before .put-text3 .result) (c .before .before .before .before .before .before .before .put-hex2 .result) (c .before .before .put-text4 .result) six ∙ ap (λ (l : List ℕ). sets (a .out .now) (a .at) l) e)
 
 pub put-run-spec : {M : Type 1} → statement M
-put-run-spec =
-    tie.close
-    (tie.spec
-    slice-aggregate-put-text
-    put-text-requires
-    add-name
-    slice-aggregate-put-text-2
-    put-text-requires-2
-    add-first
-    put-hex-requires
-    add-left
-    slice-aggregate-put-text-3
-    put-text-requires-3
-    add-second
-    put-hex-requires-2
-    add-right
-    slice-aggregate-put-text-4
-    put-text-requires-4
-    add-end
-    sub-result
-    same-length
-    returns)
+put-run-spec = tie.close (tie.spec (search needs) (search needs) (search needs) (search needs) (search needs) (search needs) (search needs) add-left (search needs) (search needs) add-second put-hex-requires-2 add-right (search needs) (search needs) add-end (search needs) (search needs) returns)

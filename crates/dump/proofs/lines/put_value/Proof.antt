@@ -1,68 +1,30 @@
+-- The wait state, the mark, or so many bytes.
+-- Assumes nothing.
+use Prim.Native.Nat.{ℕ}
+use mathlib.Core.Path.{_≡_, sym, ap, _∙_}
+use native.Mathlib.Omega.{arith}
+use Rattle.dump.specs.Told.{hexOf, fieldAt}
+use Rattle.dump.proofs.Parts.{width-at, width-small, value-wait, value-mark, value-hex}
 use borrow.Author.Needs.{needs}
 use Rattle.dump.proofs.lines.put_value.Statement.{statement}
 use Rattle.dump.proofs.lines.put_value.Tie as tie
-use Rattle.dump.proofs.lines.put_value.Reads as reads
-use Rattle.dump.proofs.lines.put_value.Lts as lts
-use Rattle.dump.proofs.lines.put_hex.Reads as put-hex-reads
-use Rattle.dump.proofs.lines.put_mark.Reads as put-mark-reads
-use Rattle.dump.proofs.lines.put_wait.Reads as put-wait-reads
 
--- src/lines.rt:84:9
-put-wait-requires : tie.Need-put-wait-requires
-put-wait-requires c κs = search needs
-
--- src/lines.rt:84:9
-same-length : tie.Need-same-length
-same-length c = search needs
-
--- src/lines.rt:84:9
 returns : tie.Need-returns
-returns c = ?
+returns c = let a = c .before .before .before .before .before .before .args in rw (← value-wait (a .what) (a .n) (c .before .before .before .before .before .before .pre .0) (c .before .before .before .before .if1 .taken)) (c .before .before .put-wait .ensures)
 
--- src/lines.rt:87:9
-put-mark-requires : tie.Need-put-mark-requires
-put-mark-requires c κs = search needs
-
--- src/lines.rt:87:9
-same-length-2 : tie.Need-same-length-2
-same-length-2 c = search needs
-
--- src/lines.rt:87:9
 returns-2 : tie.Need-returns-2
-returns-2 c = ?
+returns-2 c = let a = c .before .before .before .before .before .before .before .args in rw (← value-mark (a .what) (a .n) (c .before .before .before .before .before .before .before .pre .0) (c .before .before .before .before .before .if1 .left) (c .before .before .before .before .if2 .taken)) (c .before .before .put-mark .ensures)
 
--- src/lines.rt:90:17
-array-read-width : tie.Need-array-read-width
-array-read-width c = search needs
-
--- src/lines.rt:90:17
 cast-width : tie.Need-cast-width
-cast-width c = ?
+cast-width c = let a = c .before .before .before .args in record { fits = omega (arith, width-at (a .what) (c .before .before .before .pre .0), width-small (fieldAt (a .what))) }
 
--- src/lines.rt:91:5
 put-hex-requires : tie.Need-put-hex-requires
-put-hex-requires c κs = ?
+put-hex-requires c κs = let a = c .before .before .before .before .args in (omega (arith, width-at (a .what) (c .before .before .before .before .pre .0), width-small (fieldAt (a .what))), c .before .before .before .before .pre .1)
 
--- src/lines.rt:79:1
-same-length-3 : tie.Need-same-length-3
-same-length-3 c = search needs
-
--- src/lines.rt:79:1
 returns-3 : tie.Need-returns-3
-returns-3 c = ?
+returns-3 c =
+    let a = c .before .before .before .before .before .before .before .args in
+    rw (← value-hex (a .what) (a .n) (c .before .before .before .before .before .before .before .pre .0) (c .before .before .before .before .before .if1 .left) (c .before .before .before .before .if2 .left), ← width-at (a .what) (c .before .before .before .before .before .before .before .pre .0)) (c .before .before .put-hex .ensures)
 
 pub put-value-spec : {M : Type 1} → statement M
-put-value-spec =
-    tie.close
-    (tie.spec
-    put-wait-requires
-    same-length
-    returns
-    put-mark-requires
-    same-length-2
-    returns-2
-    array-read-width
-    cast-width
-    put-hex-requires
-    same-length-3
-    returns-3)
+put-value-spec = tie.close (tie.spec (search needs) (search needs) returns (search needs) (search needs) returns-2 (search needs) cast-width put-hex-requires (search needs) returns-3)
