@@ -15,7 +15,7 @@ use Rattle.answers.specs.declared.Refusal.the-variants.{MemoryLength, ListShort
 use Rattle.machine.specs.Record.{fields}
 use Rattle.machine.specs.declared.Machine.{Machine}
 use Rattle.difference.specs.Differences.{fieldsApart, runs, differences}
-use Rattle.difference.specs.Compare.{entryLength, listed, notCompared, compared, listAfter}
+use Rattle.difference.specs.Compare.{entrySize, laidOut, notCompared, compared, listAfter}
 use Rattle.difference.specs.declared.Compared.{Compared}
 use Rattle.difference.proofs.Listing.{list-length, listed-append}
 
@@ -36,19 +36,19 @@ module _ (l r : Machine) (a b list : List ℕ) where
   unfolding differences
   in-parts = length-append (fieldsApart fields l r) (runs a b)
 
-  laid : (out : List ℕ) → sets out 0 (listed (fieldsApart fields l r) ++ listed (runs a b)) ≡ sets (sets out 0 (listed (fieldsApart fields l r))) (entryLength * length (fieldsApart fields l r)) (listed (runs a b))
-  laid out = rw (sets-append out (listed (fieldsApart fields l r)) (listed (runs a b)) 0, list-length (fieldsApart fields l r), zero-add)
+  laid : (out : List ℕ) → sets out 0 (laidOut (fieldsApart fields l r) ++ laidOut (runs a b)) ≡ sets (sets out 0 (laidOut (fieldsApart fields l r))) (entrySize * length (fieldsApart fields l r)) (laidOut (runs a b))
+  laid out = rw (sets-append out (laidOut (fieldsApart fields l r)) (laidOut (runs a b)) 0, list-length (fieldsApart fields l r), zero-add)
 
   module _ (m : length a ≡ 65536) (n : length b ≡ 65536) (count : ℕ) (e : count ≡ length (fieldsApart fields l r) + length (runs a b)) where
-    pub list-refused : length list < entryLength * count → Ended (notCompared ListShort) list
+    pub list-refused : length list < entrySize * count → Ended (notCompared ListShort) list
     unfolding compared listAfter
     list-refused h =
         let k = e ∙ sym in-parts in
-        rw (eq-eqb (length a) 65536 m, eq-eqb (length b) 65536 n, lt-ltb (length list) (entryLength * length (differences l a r b)) (rw k at h)) (refl, refl)
+        rw (eq-eqb (length a) 65536 m, eq-eqb (length b) 65536 n, lt-ltb (length list) (entrySize * length (differences l a r b)) (rw k at h)) (refl, refl)
 
-    pub list-written : entryLength * count ≤ length list → (at : ℕ) (first second : List ℕ) → at ≡ entryLength * length (fieldsApart fields l r)
-        → first ≡ sets list 0 (listed (fieldsApart fields l r)) → second ≡ sets first at (listed (runs a b)) → Ended (record { count = count; answer = Done }) second
+    pub list-written : entrySize * count ≤ length list → (at : ℕ) (first second : List ℕ) → at ≡ entrySize * length (fieldsApart fields l r)
+        → first ≡ sets list 0 (laidOut (fieldsApart fields l r)) → second ≡ sets first at (laidOut (runs a b)) → Ended (record { count = count; answer = Done }) second
     unfolding compared listAfter differences
     list-written h at first second p q s =
         let k = e ∙ sym in-parts in
-        rw (eq-eqb (length a) 65536 m, eq-eqb (length b) 65536 n, le-ltb (length list) (entryLength * length (differences l a r b)) (rw k at h), ← k, listed-append) (refl, s ∙ rw (p, q) (sym (laid list)))
+        rw (eq-eqb (length a) 65536 m, eq-eqb (length b) 65536 n, le-ltb (length list) (entrySize * length (differences l a r b)) (rw k at h), ← k, listed-append) (refl, s ∙ rw (p, q) (sym (laid list)))

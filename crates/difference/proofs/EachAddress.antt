@@ -12,7 +12,7 @@ use lib.Dec.{eqb, leb, ltb}
 use lib.ListN.{length, getD, length-append, List·getD-eq-default}
 use lib.Seq.{ext-getD}
 use borrow.Author.Tests.{eq-eqb, ne-eqb, lt-ltb, le-ltb, le-leb, lt-leb, ltb-true, ltb-false}
-use Rattle.difference.specs.Differences.{Difference, field, run, runUpTo, runsFrom, runs}
+use Rattle.difference.specs.Differences.{Difference, ofField, ofRun, runUpTo, runsFrom, runs}
 use Rattle.difference.specs.Laws.{runsWith, Rise, RunsRise, Maximal, RunsMaximal, exchanged}
 use Rattle.difference.proofs.Tests.{same-or-not, eqb-swap, none-so-equal}
 
@@ -22,7 +22,7 @@ pub up-none : (first at : ℕ) → at ≤ first → runUpTo first at ≡ []
 unfolding runUpTo
 up-none first at h = rw (le-ltb first at h)
 
-pub up-one : (first at : ℕ) → first < at → runUpTo first at ≡ run first (at - 1) ∷ []
+pub up-one : (first at : ℕ) → first < at → runUpTo first at ≡ ofRun first (at - 1) ∷ []
 unfolding runUpTo
 up-one first at h = rw (lt-ltb first at h)
 
@@ -30,7 +30,7 @@ pub up-few : (first at : ℕ) → length (runUpTo first at) ≡ cond (ltb first 
 unfolding runUpTo
 up-few first at = few (ltb first at)
   where
-    few : (t : Bool) → length (cond t (run first (at - 1) ∷ []) []) ≡ cond t 1 0
+    few : (t : Bool) → length (cond t (ofRun first (at - 1) ∷ []) []) ≡ cond t 1 0
     few true = refl
     few false = refl
 
@@ -65,17 +65,17 @@ held-run false d ds = refl
 pub held-append : (k : ℕ) (xs ys : List Difference) → held k (xs ++ ys) ≡ held k xs + held k ys
 unfolding runsWith
 held-append k [] ys = omega arith
-held-append k (field f x y ∷ xs) ys = held-append k xs ys
-held-append k (run x y ∷ xs) ys =
+held-append k (ofField f x y ∷ xs) ys = held-append k xs ys
+held-append k (ofRun x y ∷ xs) ys =
     let t = leb x k && leb k y in
-    held-run t (run x y) (runsWith k (xs ++ ys)) ∙ cond-more t (held k (xs ++ ys)) (held k xs) (held k ys) (held-append k xs ys)
-    ∙ sym (ap (λ (n : ℕ). n + held k ys) (held-run t (run x y) (runsWith k xs)))
+    held-run t (ofRun x y) (runsWith k (xs ++ ys)) ∙ cond-more t (held k (xs ++ ys)) (held k xs) (held k ys) (held-append k xs ys)
+    ∙ sym (ap (λ (n : ℕ). n + held k ys) (held-run t (ofRun x y) (runsWith k xs)))
 
-in-one : (k x y : ℕ) → x ≤ k → k ≤ y → held k (run x y ∷ []) ≡ 1
+in-one : (k x y : ℕ) → x ≤ k → k ≤ y → held k (ofRun x y ∷ []) ≡ 1
 unfolding runsWith
 in-one k x y h g = rw (le-leb x k h, le-leb k y g)
 
-not-before : (k x y : ℕ) → k < x → held k (run x y ∷ []) ≡ 0
+not-before : (k x y : ℕ) → k < x → held k (ofRun x y ∷ []) ≡ 0
 unfolding runsWith
 not-before k x y h = rw (lt-leb x k h)
 
@@ -83,7 +83,7 @@ and-false : (t : Bool) → (t && false) ≡ false
 and-false true = refl
 and-false false = refl
 
-not-after : (k x y : ℕ) → y < k → held k (run x y ∷ []) ≡ 0
+not-after : (k x y : ℕ) → y < k → held k (ofRun x y ∷ []) ≡ 0
 unfolding runsWith
 not-after k x y h = rw (lt-leb k y h, and-false)
 
@@ -119,7 +119,7 @@ module _ (a b : List ℕ) where
   within k zero first at h g = rw (up-one first at (omega arith)) (in-one k first (at - 1) h (omega arith))
   within k (suc n) first at h g =
       ⊎-elim
-      (λ e. rw (on-equal a b n first at e, up-one first at (omega arith)) (held-append k (run first (at - 1) ∷ []) (runsFrom a b n (suc at) (suc at)) ∙ omega (arith, in-one k first (at - 1) h (omega arith), below k n (suc at) (suc at) (omega arith) (omega arith))))
+      (λ e. rw (on-equal a b n first at e, up-one first at (omega arith)) (held-append k (ofRun first (at - 1) ∷ []) (runsFrom a b n (suc at) (suc at)) ∙ omega (arith, in-one k first (at - 1) h (omega arith), below k n (suc at) (suc at) (omega arith) (omega arith))))
       (λ e. rw (on-apart a b n first at e) (within k n first (suc at) h (omega arith)))
       (same-or-not (getD a at 0) (getD b at 0))
 
@@ -216,7 +216,7 @@ up-exchanged : (first at : ℕ) → runUpTo first at ≡ map exchanged (runUpTo 
 unfolding runUpTo
 up-exchanged first at = same (ltb first at)
   where
-    same : (t : Bool) → cond t (run first (at - 1) ∷ []) [] ≡ map exchanged (cond t (run first (at - 1) ∷ []) [])
+    same : (t : Bool) → cond t (ofRun first (at - 1) ∷ []) [] ≡ map exchanged (cond t (ofRun first (at - 1) ∷ []) [])
     same true = refl
     same false = refl
 

@@ -13,8 +13,8 @@ use Rattle.machine.specs.Record.{Field, A, B, X, Y, U, S, PC, DP, CC, Waiting, 
 use Rattle.machine.specs.declared.Machine.{Machine}
 use Rattle.machine.specs.declared.Wait.{Wait}
 use Rattle.machine.specs.declared.Wait.the-variants.{Running, Cwai, Sync}
-use Rattle.difference.specs.Differences.{Difference, field, run, fieldApart, fieldsApart}
-use Rattle.difference.specs.Laws.{entriesOf, runsWith, Rise, exchanged}
+use Rattle.difference.specs.Differences.{Difference, ofField, ofRun, fieldApart, fieldsApart}
+use Rattle.difference.specs.Laws.{entriesFor, runsWith, Rise, exchanged}
 use Rattle.difference.proofs.Tests.{same-or-not, eqb-swap}
 use Rattle.difference.proofs.EachAddress.{map-append}
 
@@ -65,39 +65,39 @@ cond-append : (t : Bool) (d : Difference) (zs xs ys : List Difference) → zs �
 cond-append true d zs xs ys e = ap (λ (l : List Difference). d ∷ l) e
 cond-append false d zs xs ys e = e
 
-pub entries-append : (f : Field) (xs ys : List Difference) → entriesOf f (xs ++ ys) ≡ entriesOf f xs ++ entriesOf f ys
-unfolding entriesOf
+pub entries-append : (f : Field) (xs ys : List Difference) → entriesFor f (xs ++ ys) ≡ entriesFor f xs ++ entriesFor f ys
+unfolding entriesFor
 entries-append f [] ys = refl
-entries-append f (field g x y ∷ xs) ys =
-    cond-append (eqb (rank f) (rank g)) (field g x y) (entriesOf f (xs ++ ys)) (entriesOf f xs) (entriesOf f ys) (entries-append f xs ys)
-entries-append f (run x y ∷ xs) ys = entries-append f xs ys
+entries-append f (ofField g x y ∷ xs) ys =
+    cond-append (eqb (rank f) (rank g)) (ofField g x y) (entriesFor f (xs ++ ys)) (entriesFor f xs) (entriesFor f ys) (entries-append f xs ys)
+entries-append f (ofRun x y ∷ xs) ys = entries-append f xs ys
 
 -- runs are no fields
-pub runs-apart : (f : Field) (at : ℕ) (ds : List Difference) → Rise at ds → entriesOf f ds ≡ []
-unfolding entriesOf
+pub runs-apart : (f : Field) (at : ℕ) (ds : List Difference) → Rise at ds → entriesFor f ds ≡ []
+unfolding entriesFor
 runs-apart f at [] r = refl
-runs-apart f at (field g x y ∷ ds) r = absurd r
-runs-apart f at (run x y ∷ ds) r = runs-apart f _ ds (r .1 .1)
+runs-apart f at (ofField g x y ∷ ds) r = absurd r
+runs-apart f at (ofRun x y ∷ ds) r = runs-apart f _ ds (r .1 .1)
 
 module _ (l r : Machine) where
-  own : (f : Field) → entriesOf f (fieldApart f l r) ≡ fieldApart f l r
-  unfolding fieldApart entriesOf
+  own : (f : Field) → entriesFor f (fieldApart f l r) ≡ fieldApart f l r
+  unfolding fieldApart entriesFor
   own f = so (eqb (fieldOf f l) (fieldOf f r))
     where
-      so : (t : Bool) → entriesOf f (cond t [] (field f (fieldOf f l) (fieldOf f r) ∷ [])) ≡ cond t [] (field f (fieldOf f l) (fieldOf f r) ∷ [])
+      so : (t : Bool) → entriesFor f (cond t [] (ofField f (fieldOf f l) (fieldOf f r) ∷ [])) ≡ cond t [] (ofField f (fieldOf f l) (fieldOf f r) ∷ [])
       so true = refl
       so false = rw (eq-eqb (rank f) (rank f) refl)
 
-  other : (f g : Field) → (rank f ≡ rank g → ⊥) → entriesOf f (fieldApart g l r) ≡ []
-  unfolding fieldApart entriesOf
+  other : (f g : Field) → (rank f ≡ rank g → ⊥) → entriesFor f (fieldApart g l r) ≡ []
+  unfolding fieldApart entriesFor
   other f g n = so (eqb (fieldOf g l) (fieldOf g r))
     where
-      so : (t : Bool) → entriesOf f (cond t [] (field g (fieldOf g l) (fieldOf g r) ∷ [])) ≡ []
+      so : (t : Bool) → entriesFor f (cond t [] (ofField g (fieldOf g l) (fieldOf g r) ∷ [])) ≡ []
       so true = refl
       so false = rw (ne-eqb (rank f) (rank g) n)
 
-  absent : (f : Field) (gs : List Field) → occurs f gs ≡ 0 → entriesOf f (fieldsApart gs l r) ≡ []
-  unfolding occurs fieldsApart entriesOf
+  absent : (f : Field) (gs : List Field) → occurs f gs ≡ 0 → entriesFor f (fieldsApart gs l r) ≡ []
+  unfolding occurs fieldsApart entriesFor
   absent f [] h = refl
   absent f (g ∷ gs) h =
       ⊎-elim
@@ -105,7 +105,7 @@ module _ (l r : Machine) where
       (λ n. entries-append f (fieldApart g l r) (fieldsApart gs l r) ∙ rw (other f g n, absent f gs (omega (arith, rw (ne-eqb (rank f) (rank g) n) at h))))
       (same-or-not (rank f) (rank g))
 
-  present : (f : Field) (gs : List Field) → occurs f gs ≡ 1 → entriesOf f (fieldsApart gs l r) ≡ fieldApart f l r
+  present : (f : Field) (gs : List Field) → occurs f gs ≡ 1 → entriesFor f (fieldsApart gs l r) ≡ fieldApart f l r
   unfolding occurs fieldsApart
   present f [] h = absurd (omega arith)
   present f (g ∷ gs) h =
@@ -116,11 +116,11 @@ module _ (l r : Machine) where
       (λ n. entries-append f (fieldApart g l r) (fieldsApart gs l r) ∙ rw (other f g n) (present f gs (omega (arith, rw (ne-eqb (rank f) (rank g) n) at h))))
       (same-or-not (rank f) (rank g))
 
-  pub field-once : (f : Field) → entriesOf f (fieldsApart fields l r) ≡ fieldApart f l r
+  pub field-once : (f : Field) → entriesFor f (fieldsApart fields l r) ≡ fieldApart f l r
   field-once f = present f fields (once f)
 
   -- no address is in a field
-  no-run : (k : ℕ) (t : Bool) (g : Field) (x y : ℕ) (ds : List Difference) → runsWith k ds ≡ [] → runsWith k (cond t [] (field g x y ∷ []) ++ ds) ≡ []
+  no-run : (k : ℕ) (t : Bool) (g : Field) (x y : ℕ) (ds : List Difference) → runsWith k ds ≡ [] → runsWith k (cond t [] (ofField g x y ∷ []) ++ ds) ≡ []
   unfolding runsWith
   no-run k true g x y ds e = e
   no-run k false g x y ds e = e
@@ -136,17 +136,17 @@ module _ (l r : Machine) where
   fields-few [] = omega arith
   fields-few (g ∷ gs) = rw length-append (omega (arith, one (eqb (fieldOf g l) (fieldOf g r)), fields-few gs))
     where
-      one : (t : Bool) → length (cond t [] (field g (fieldOf g l) (fieldOf g r) ∷ [])) ≤ 1
+      one : (t : Bool) → length (cond t [] (ofField g (fieldOf g l) (fieldOf g r) ∷ [])) ≤ 1
       one true = omega arith
       one false = omega arith
 
   -- ---- equal machines
 
   field-same : (f : Field) → fieldsApart fields l r ≡ [] → fieldOf f l ≡ fieldOf f r
-  unfolding entriesOf fieldApart
-  field-same f e = eqb-true (fieldOf f l) (fieldOf f r) (so _ (sym (field-once f) ∙ ap (entriesOf f) e))
+  unfolding entriesFor fieldApart
+  field-same f e = eqb-true (fieldOf f l) (fieldOf f r) (so _ (sym (field-once f) ∙ ap (entriesFor f) e))
     where
-      so : (t : Bool) → cond t [] (field f (fieldOf f l) (fieldOf f r) ∷ []) ≡ [] → t ≡ true
+      so : (t : Bool) → cond t [] (ofField f (fieldOf f l) (fieldOf f r) ∷ []) ≡ [] → t ≡ true
       so true e = refl
       so false e = let z : _≡_ {A = ℕ} 0 1 = cc in absurd (omega arith)
 
@@ -192,7 +192,7 @@ unfolding fieldsApart fieldApart
 fields-exchanged l r [] = refl
 fields-exchanged l r (g ∷ gs) = sym (map-append (fieldApart g l r) (fieldsApart gs l r) ∙ rw (← fields-exchanged l r gs, one))
   where
-    so : (t : Bool) (x y : ℕ) → map exchanged (cond t [] (field g x y ∷ [])) ≡ cond t [] (field g y x ∷ [])
+    so : (t : Bool) (x y : ℕ) → map exchanged (cond t [] (ofField g x y ∷ [])) ≡ cond t [] (ofField g y x ∷ [])
     so true x y = refl
     so false x y = refl
 

@@ -13,24 +13,24 @@ use Rattle.machine.specs.Machine.{MachineFits}
 use Rattle.machine.specs.Record.{bytes, numberAt, counter}
 use Rattle.machine.specs.declared.Machine.{Machine}
 use Rattle.machine.proofs.Header.{counter-back, length-counter, number-drop}
-use Rattle.difference.specs.Differences.{Difference, field, run, differences}
-use Rattle.difference.specs.Compare.{entryOf, entryBytes, entryLength, listed, entryAt}
+use Rattle.difference.specs.Differences.{Difference, ofField, ofRun, differences}
+use Rattle.difference.specs.Compare.{asEntry, entryBytes, entrySize, laidOut, entryAt}
 use Rattle.difference.specs.Laws.{ListLength}
 use Rattle.difference.specs.declared.entries.Entry.{Entry}
 
-pub length-entry : (e : Entry) → length (entryBytes e) ≡ entryLength
+pub length-entry : (e : Entry) → length (entryBytes e) ≡ entrySize
 unfolding entryBytes bytes
 length-entry e = refl
 
 pub list-length : ListLength
-unfolding listed
+unfolding laidOut
 list-length [] = refl
-list-length (d ∷ ds) = length-append (entryBytes (entryOf d)) (listed ds) ∙ omega (arith, length-entry (entryOf d), list-length ds)
+list-length (d ∷ ds) = length-append (entryBytes (asEntry d)) (laidOut ds) ∙ omega (arith, length-entry (asEntry d), list-length ds)
 
-pub listed-append : (xs ys : List Difference) → listed (xs ++ ys) ≡ listed xs ++ listed ys
-unfolding listed
+pub listed-append : (xs ys : List Difference) → laidOut (xs ++ ys) ≡ laidOut xs ++ laidOut ys
+unfolding laidOut
 listed-append [] ys = refl
-listed-append (x ∷ xs) ys = rw (listed-append xs ys) (sym (append-assoc (entryBytes (entryOf x)) (listed xs) (listed ys)))
+listed-append (x ∷ xs) ys = rw (listed-append xs ys) (sym (append-assoc (entryBytes (asEntry x)) (laidOut xs) (laidOut ys)))
 
 -- three parts, each right after the one before
 pub put-parts : (at : ℕ) (e : Entry) (l₀ l₁ l₂ l₃ xs ys : List ℕ) → l₁ ≡ sets l₀ at (e .what ∷ []) → xs ≡ counter (e .left) → l₂ ≡ sets l₁ (at + 1) xs

@@ -15,8 +15,8 @@ use Rattle.machine.specs.Machine.{MachineFits}
 use Rattle.machine.specs.Record.{Field, A, B, X, Y, U, S, PC, DP, CC, Waiting, Armed, Cycles, Instructions, fields, fieldOf, bytes, numberAt, counter}
 use Rattle.machine.specs.declared.Machine.{Machine}
 use Rattle.machine.proofs.Header.{counter-back, length-counter, number-drop, wait-small, mark-small}
-use Rattle.difference.specs.Differences.{Difference, field, run, fieldApart, fieldsApart, runUpTo, runsFrom, runs, differences}
-use Rattle.difference.specs.Compare.{entryOf, entryBytes, entryLength, listed, entryAt}
+use Rattle.difference.specs.Differences.{Difference, ofField, ofRun, fieldApart, fieldsApart, runUpTo, runsFrom, runs, differences}
+use Rattle.difference.specs.Compare.{asEntry, entryBytes, entrySize, laidOut, entryAt}
 use Rattle.difference.specs.Laws.{EntriesBack}
 use Rattle.difference.specs.declared.entries.Entry.{Entry}
 use Rattle.difference.proofs.Tests.{same-or-not}
@@ -26,8 +26,8 @@ use Rattle.difference.proofs.Listing.{length-entry, list-length}
 -- ---- numbers that fit their eight bytes
 
 record Small (d : Difference) : Type 0 where
-  left : entryOf d .left < 2 ^ 64
-  right : entryOf d .right < 2 ^ 64
+  left : asEntry d .left < 2 ^ 64
+  right : asEntry d .right < 2 ^ 64
 
 AllSmall : List Difference → Type 0
 AllSmall [] = Unit {0}
@@ -62,7 +62,7 @@ small-fields : (fs : List Field) (l r : Machine) → MachineFits l → MachineFi
 unfolding fieldsApart fieldApart AllSmall
 small-fields [] l r p q = tt
 small-fields (f ∷ fs) l r p q =
-    small-append (fieldApart f l r) (fieldsApart fs l r) (small-either (eqb (fieldOf f l) (fieldOf f r)) (field f (fieldOf f l) (fieldOf f r)) (record { left = fits-in f l p; right = fits-in f r q })) (small-fields fs l r p q)
+    small-append (fieldApart f l r) (fieldsApart fs l r) (small-either (eqb (fieldOf f l) (fieldOf f r)) (ofField f (fieldOf f l) (fieldOf f r)) (record { left = fits-in f l p; right = fits-in f r q })) (small-fields fs l r p q)
 
 module _ (a b : List ℕ) where
   small-up : (first at : ℕ) → first ≤ at → at ≤ 65536 → AllSmall (runUpTo first at)
@@ -106,19 +106,19 @@ here e rest p q =
     rw (append-assoc (bytes 8 (e .left)) (bytes 8 (e .right)) rest) (later-number (e .what ∷ bytes 8 (e .left)) (bytes 8 (e .right) ++ rest) 0 8 ∙ counter-back (e .right) rest q) in
     λ i. record { left = x i; right = y i; what = e .what }
 
-in-list : (ds : List Difference) (rest : List ℕ) (k : ℕ) → AllSmall ds → k < length ds → entryFrom (listed ds ++ rest) (entryLength * k) ≡ entryOf (getD ds k (run 0 0))
-unfolding listed AllSmall
+in-list : (ds : List Difference) (rest : List ℕ) (k : ℕ) → AllSmall ds → k < length ds → entryFrom (laidOut ds ++ rest) (entrySize * k) ≡ asEntry (getD ds k (ofRun 0 0))
+unfolding laidOut AllSmall
 in-list [] rest k s h = absurd (omega arith)
-in-list (d ∷ ds) rest zero s h = rw (append-assoc (entryBytes (entryOf d)) (listed ds) rest) (here (entryOf d) (listed ds ++ rest) (s .0 .left) (s .0 .right))
+in-list (d ∷ ds) rest zero s h = rw (append-assoc (entryBytes (asEntry d)) (laidOut ds) rest) (here (asEntry d) (laidOut ds ++ rest) (s .0 .left) (s .0 .right))
 in-list (d ∷ ds) rest (suc k) s h =
-    let e : entryLength * suc k ≡ length (entryBytes (entryOf d)) + entryLength * k = omega (arith, length-entry (entryOf d)) in
-    rw (append-assoc (entryBytes (entryOf d)) (listed ds) rest, e) (later (entryBytes (entryOf d)) (listed ds ++ rest) (entryLength * k) ∙ in-list ds rest k (s .1) (omega arith))
+    let e : entrySize * suc k ≡ length (entryBytes (asEntry d)) + entrySize * k = omega (arith, length-entry (asEntry d)) in
+    rw (append-assoc (entryBytes (asEntry d)) (laidOut ds) rest, e) (later (entryBytes (asEntry d)) (laidOut ds ++ rest) (entrySize * k) ∙ in-list ds rest k (s .1) (omega arith))
 
 pub entries-back : EntriesBack
 unfolding entryAt
 entries-back l r a b list k p q room h =
     let ds = differences l a r b in
-    let n = length-sets list 0 (listed ds) in
-    let e = sets-eq (listed ds) list 0 (omega (arith, list-length ds)) in
-    rw (lt-ltb k (length (sets list 0 (listed ds)) / entryLength) (omega arith))
-    (rw e (in-list ds (drop (0 + length (listed ds)) list) k (small-all l r a b p q) h))
+    let n = length-sets list 0 (laidOut ds) in
+    let e = sets-eq (laidOut ds) list 0 (omega (arith, list-length ds)) in
+    rw (lt-ltb k (length (sets list 0 (laidOut ds)) / entrySize) (omega arith))
+    (rw e (in-list ds (drop (0 + length (laidOut ds)) list) k (small-all l r a b p q) h))

@@ -13,8 +13,8 @@ use mir.Val.{boolByte}
 use Rattle.text.proofs.Stores.{sets-append}
 use Rattle.machine.specs.Record.{Field, A, fields, rank, fieldOf}
 use Rattle.machine.specs.declared.Machine.{Machine}
-use Rattle.difference.specs.Differences.{Difference, field, run, fieldApart, fieldsApart, runUpTo, runsFrom, runs}
-use Rattle.difference.specs.Compare.{entryOf, entryBytes, entryLength, listed}
+use Rattle.difference.specs.Differences.{Difference, ofField, ofRun, fieldApart, fieldsApart, runUpTo, runsFrom, runs}
+use Rattle.difference.specs.Compare.{asEntry, entryBytes, entrySize, laidOut}
 use Rattle.difference.specs.declared.entries.Entry.{Entry}
 use Rattle.difference.proofs.EachAddress.{on-equal, on-apart}
 use Rattle.difference.proofs.Listing.{length-entry, list-length, listed-append}
@@ -54,12 +54,12 @@ module _ (x y : Machine) (k : ℕ) (h : k < length fields) where
   one-more = rw (add-one k, drop-cons fields k A h)
 
 put-either : (t : Bool) (f : Field) (k v w at : ℕ) (more : List Difference) (list : List ℕ) → rank f ≡ k
-    → sets (cond t list (sets list at (entryBytes (record { what = k; left = v; right = w })))) (at + cond t 0 entryLength) (listed more)
-    ≡ sets list at (listed (cond t [] (field f v w ∷ []) ++ more))
-unfolding listed
+    → sets (cond t list (sets list at (entryBytes (record { what = k; left = v; right = w })))) (at + cond t 0 entrySize) (laidOut more)
+    ≡ sets list at (laidOut (cond t [] (ofField f v w ∷ []) ++ more))
+unfolding laidOut
 put-either true f k v w at more list r = let e : at + 0 ≡ at = omega arith in rw e
 put-either false f k v w at more list r =
-    rw (← r) (sym (sets-append list (entryBytes (entryOf (field f v w))) (listed more) at ∙ rw (length-entry (entryOf (field f v w)))))
+    rw (← r) (sym (sets-append list (entryBytes (asEntry (ofField f v w))) (laidOut more) at ∙ rw (length-entry (asEntry (ofField f v w)))))
 
 one-either : (t : Bool) (d : Difference) → length (cond t [] (d ∷ [])) ≡ boolByte (not t)
 one-either true d = refl
@@ -69,7 +69,7 @@ pub one-at-most : (t : Bool) → boolByte t ≤ 1
 one-at-most true = omega arith
 one-at-most false = omega arith
 
-byte-width : (t : Bool) → cond t 0 entryLength ≡ entryLength * boolByte (not t)
+byte-width : (t : Bool) → cond t 0 entrySize ≡ entrySize * boolByte (not t)
 byte-width true = refl
 byte-width false = refl
 
@@ -81,7 +81,7 @@ pub up-byte : (first at : ℕ) → length (runUpTo first at) ≡ boolByte (ltb f
 unfolding runUpTo
 up-byte first at = so (ltb first at)
   where
-    so : (t : Bool) → length (cond t (run first (at - 1) ∷ []) []) ≡ boolByte t
+    so : (t : Bool) → length (cond t (ofRun first (at - 1) ∷ []) []) ≡ boolByte t
     so true = refl
     so false = refl
 
@@ -96,15 +96,15 @@ module _ (x y : Machine) (k : ℕ) (h : k < length fields) (vs ws : List ℕ) (e
   unfolding fieldApart
   count-field n =
       rw (left-is, right-is, one-more x y k h, length-append)
-      (omega (arith, one-either (eqb (fieldOf (getD fields k A) x) (fieldOf (getD fields k A) y)) (field (getD fields k A) (fieldOf (getD fields k A) x) (fieldOf (getD fields k A) y))))
+      (omega (arith, one-either (eqb (fieldOf (getD fields k A) x) (fieldOf (getD fields k A) y)) (ofField (getD fields k A) (fieldOf (getD fields k A) x) (fieldOf (getD fields k A) y))))
 
   -- the place after the entry, if there is one
-  pub width-field : (at : ℕ) → at + cond (eqb (getD vs k 0) (getD ws k 0)) 0 entryLength + entryLength * length (fieldsApart (drop (k + 1) fields) x y) ≡ at + entryLength * length (fieldsApart (drop k fields) x y)
+  pub width-field : (at : ℕ) → at + cond (eqb (getD vs k 0) (getD ws k 0)) 0 entrySize + entrySize * length (fieldsApart (drop (k + 1) fields) x y) ≡ at + entrySize * length (fieldsApart (drop k fields) x y)
   width-field at = omega (arith, byte-width (eqb (getD vs k 0) (getD ws k 0)), count-field 0)
 
   pub put-field : (at : ℕ) (list : List ℕ)
-      → sets (cond (eqb (getD vs k 0) (getD ws k 0)) list (sets list at (entryBytes (record { what = k; left = getD vs k 0; right = getD ws k 0 })))) (at + cond (eqb (getD vs k 0) (getD ws k 0)) 0 entryLength) (listed (fieldsApart (drop (k + 1) fields) x y))
-      ≡ sets list at (listed (fieldsApart (drop k fields) x y))
+      → sets (cond (eqb (getD vs k 0) (getD ws k 0)) list (sets list at (entryBytes (record { what = k; left = getD vs k 0; right = getD ws k 0 })))) (at + cond (eqb (getD vs k 0) (getD ws k 0)) 0 entrySize) (laidOut (fieldsApart (drop (k + 1) fields) x y))
+      ≡ sets list at (laidOut (fieldsApart (drop k fields) x y))
   unfolding fieldApart
   put-field at list =
       let f = getD fields k A in
@@ -125,15 +125,15 @@ module _ (a b : List ℕ) (first i : ℕ) (h : i < 65536) where
     count-equal n = rw (equal-on, length-append) (omega (arith, up-byte first i))
 
     pub put-equal : (at : ℕ) (list : List ℕ)
-        → sets (sets list at (listed (runUpTo first i))) (at + entryLength * length (runUpTo first i)) (listed (runsFrom a b (65536 - (i + 1)) (i + 1) (i + 1)))
-        ≡ sets list at (listed (runsFrom a b (65536 - i) first i))
+        → sets (sets list at (laidOut (runUpTo first i))) (at + entrySize * length (runUpTo first i)) (laidOut (runsFrom a b (65536 - (i + 1)) (i + 1) (i + 1)))
+        ≡ sets list at (laidOut (runsFrom a b (65536 - i) first i))
     put-equal at list =
-        rw (equal-on, listed-append, ← list-length (runUpTo first i)) (sym (sets-append list (listed (runUpTo first i)) (listed (runsFrom a b (65536 - (i + 1)) (i + 1) (i + 1))) at))
+        rw (equal-on, listed-append, ← list-length (runUpTo first i)) (sym (sets-append list (laidOut (runUpTo first i)) (laidOut (runsFrom a b (65536 - (i + 1)) (i + 1) (i + 1))) at))
 
   pub apart-on : (getD a i 0 ≡ getD b i 0 → ⊥) → runsFrom a b (65536 - (i + 1)) first (i + 1) ≡ runsFrom a b (65536 - i) first i
   apart-on e = sym (rw left-over (on-apart a b (65536 - (i + 1)) first i e ∙ rw (← add-one i)))
 
-pub width-at-most : (t : Bool) → cond t 0 entryLength ≤ entryLength
+pub width-at-most : (t : Bool) → cond t 0 entrySize ≤ entrySize
 width-at-most true = omega arith
 width-at-most false = omega arith
 

@@ -11,14 +11,14 @@ use Rattle.machine.specs.declared.Machine.{Machine}
 
 -- a field with its value on the left and on the right, or a run of addresses, its first and its last
 pub data Difference : Type 0 where
-  field : Field → ℕ → ℕ → Difference
-  run : ℕ → ℕ → Difference
+  ofField : Field → ℕ → ℕ → Difference
+  ofRun : ℕ → ℕ → Difference
 
 -- ---- the machine
 
 -- a field whose values differ
 unfoldable pub fieldApart : Field → Machine → Machine → List Difference
-fieldApart f l r = cond (eqb (fieldOf f l) (fieldOf f r)) [] (field f (fieldOf f l) (fieldOf f r) ∷ [])
+fieldApart f l r = cond (eqb (fieldOf f l) (fieldOf f r)) [] (ofField f (fieldOf f l) (fieldOf f r) ∷ [])
 
 -- those of some fields that differ, in their order
 unfoldable pub fieldsApart : List Field → Machine → Machine → List Difference
@@ -29,7 +29,7 @@ fieldsApart (f ∷ fs) l r = fieldApart f l r ++ fieldsApart fs l r
 
 -- the run from `first` up to the address before `at`, if it has any address
 unfoldable pub runUpTo : ℕ → ℕ → List Difference
-runUpTo first at = cond (ltb first at) (run first (at - 1) ∷ []) []
+runUpTo first at = cond (ltb first at) (ofRun first (at - 1) ∷ []) []
 
 -- the runs that end among n addresses from `at` on, or after them. The bytes from `first` up to `at` differ: this run is still open (and has no
 -- address where `first` is `at`). A byte that is equal ends it

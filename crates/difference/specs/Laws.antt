@@ -10,8 +10,8 @@ use lib.Seq.{sets}
 use Rattle.machine.specs.Machine.{MachineFits}
 use Rattle.machine.specs.Record.{Field, rank}
 use Rattle.machine.specs.declared.Machine.{Machine}
-use Rattle.difference.specs.Differences.{Difference, field, run, fieldApart, runs, differences}
-use Rattle.difference.specs.Compare.{entryOf, entryLength, entryAt, listed}
+use Rattle.difference.specs.Differences.{Difference, ofField, ofRun, fieldApart, runs, differences}
+use Rattle.difference.specs.Compare.{asEntry, entrySize, entryAt, laidOut}
 
 -- ---- equal
 
@@ -26,22 +26,22 @@ EmptyExactly = (l r : Machine) (a b : List ℕ) → length a ≡ 65536 → lengt
 -- ---- fields
 
 -- the entries of a field
-unfoldable pub entriesOf : Field → List Difference → List Difference
-entriesOf f [] = []
-entriesOf f (field g x y ∷ ds) = cond (eqb (rank f) (rank g)) (field g x y ∷ entriesOf f ds) (entriesOf f ds)
-entriesOf f (run x y ∷ ds) = entriesOf f ds
+unfoldable pub entriesFor : Field → List Difference → List Difference
+entriesFor f [] = []
+entriesFor f (ofField g x y ∷ ds) = cond (eqb (rank f) (rank g)) (ofField g x y ∷ entriesFor f ds) (entriesFor f ds)
+entriesFor f (ofRun x y ∷ ds) = entriesFor f ds
 
 -- a field that differs has one entry, with both values; one that is equal has none
 abbrev pub EachFieldOnce : Type 0
-EachFieldOnce = (f : Field) (l r : Machine) (a b : List ℕ) → entriesOf f (differences l a r b) ≡ fieldApart f l r
+EachFieldOnce = (f : Field) (l r : Machine) (a b : List ℕ) → entriesFor f (differences l a r b) ≡ fieldApart f l r
 
 -- ---- addresses
 
 -- the runs that an address is in
 unfoldable pub runsWith : ℕ → List Difference → List Difference
 runsWith k [] = []
-runsWith k (field f x y ∷ ds) = runsWith k ds
-runsWith k (run x y ∷ ds) = cond (leb x k && leb k y) (run x y ∷ runsWith k ds) (runsWith k ds)
+runsWith k (ofField f x y ∷ ds) = runsWith k ds
+runsWith k (ofRun x y ∷ ds) = cond (leb x k && leb k y) (ofRun x y ∷ runsWith k ds) (runsWith k ds)
 
 -- an address at which the memories differ is in one run; any other is in none
 abbrev pub EachAddressOnce : Type 0
@@ -52,8 +52,8 @@ EachAddressOnce =
 -- runs from an address on: none is empty, and the next begins past the address after the last
 abbrev pub Rise : ℕ → List Difference → Type 0
 Rise at [] = Unit {0}
-Rise at (field f x y ∷ ds) = ⊥
-Rise at (run x y ∷ ds) = (at ≤ x) × ((x ≤ y) × Rise (suc (suc y)) ds)
+Rise at (ofField f x y ∷ ds) = ⊥
+Rise at (ofRun x y ∷ ds) = (at ≤ x) × ((x ≤ y) × Rise (suc (suc y)) ds)
 
 abbrev pub RunsRise : Type 0
 RunsRise = (a b : List ℕ) → Rise 0 (runs a b)
@@ -61,8 +61,8 @@ RunsRise = (a b : List ℕ) → Rise 0 (runs a b)
 -- the bytes before and after each run are equal; past the ends there is none (`getD` gives 0 for both)
 abbrev pub Maximal : List ℕ → List ℕ → List Difference → Type 0
 Maximal a b [] = Unit {0}
-Maximal a b (field f x y ∷ ds) = Maximal a b ds
-Maximal a b (run x y ∷ ds) = ((k : ℕ) → suc k ≡ x → getD a k 0 ≡ getD b k 0) × ((getD a (suc y) 0 ≡ getD b (suc y) 0) × Maximal a b ds)
+Maximal a b (ofField f x y ∷ ds) = Maximal a b ds
+Maximal a b (ofRun x y ∷ ds) = ((k : ℕ) → suc k ≡ x → getD a k 0 ≡ getD b k 0) × ((getD a (suc y) 0 ≡ getD b (suc y) 0) × Maximal a b ds)
 
 abbrev pub RunsMaximal : Type 0
 RunsMaximal = (a b : List ℕ) → length a ≡ 65536 → length b ≡ 65536 → Maximal a b (runs a b)
@@ -71,8 +71,8 @@ RunsMaximal = (a b : List ℕ) → length a ≡ 65536 → length b ≡ 65536 →
 
 -- left and right exchanged; a run is the same from both sides
 abbrev pub exchanged : Difference → Difference
-exchanged (field f x y) = field f y x
-exchanged (run x y) = run x y
+exchanged (ofField f x y) = ofField f y x
+exchanged (ofRun x y) = ofRun x y
 
 abbrev pub OtherWayRound : Type 0
 OtherWayRound = (l r : Machine) (a b : List ℕ) → differences r b l a ≡ map exchanged (differences l a r b)
@@ -85,10 +85,10 @@ Ceiling = (l r : Machine) (a b : List ℕ) → length (differences l a r b) ≤ 
 
 -- 17 bytes for each entry, and the entries are read back from them
 abbrev pub ListLength : Type 0
-ListLength = (ds : List Difference) → length (listed ds) ≡ entryLength * length ds
+ListLength = (ds : List Difference) → length (laidOut ds) ≡ entrySize * length ds
 
 abbrev pub EntriesBack : Type 0
 EntriesBack =
     (l r : Machine) (a b list : List ℕ) (k : ℕ) → MachineFits l → MachineFits r
-    → entryLength * length (differences l a r b) ≤ length list → k < length (differences l a r b)
-    → entryAt (sets list 0 (listed (differences l a r b))) k ≡ entryOf (getD (differences l a r b) k (run 0 0))
+    → entrySize * length (differences l a r b) ≤ length list → k < length (differences l a r b)
+    → entryAt (sets list 0 (laidOut (differences l a r b))) k ≡ asEntry (getD (differences l a r b) k (ofRun 0 0))

@@ -8,7 +8,7 @@ ghost use lib.ListN.{length};
 ghost use lib.Seq.{sets};
 ghost use Rattle.machine.specs.Record.{Field, fields, fieldOf};
 ghost use Rattle.difference.specs.Differences.{fieldsApart};
-ghost use Rattle.difference.specs.Compare.{entryBytes, entryLength, listed};
+ghost use Rattle.difference.specs.Compare.{entryBytes, entrySize, laidOut};
 use super::entries;
 use super::entries::ENTRY;
 use super::entries::Entry;
@@ -59,7 +59,7 @@ pub fn count(left: Machine, right: Machine) -> usize
 // An entry where the two values differ, and the place after it.
 fn put_one(list: &mut [u8], at: usize, entry: Entry) -> usize
     requires { ⌜ at ≤ 0x1000 ⌝ }
-    ensures { λ r. ⌜ (r ≡ at + cond (eqb (entry .left) (entry .right)) 0 entryLength) × (now (list .exit) ≡ cond (eqb (entry .left) (entry .right)) (now (list .entry)) (sets (now (list .entry)) at (entryBytes entry))) ⌝ }
+    ensures { λ r. ⌜ (r ≡ at + cond (eqb (entry .left) (entry .right)) 0 entrySize) × (now (list .exit) ≡ cond (eqb (entry .left) (entry .right)) (now (list .entry)) (sets (now (list .entry)) at (entryBytes entry))) ⌝ }
 {
     if entry.left == entry.right {
         return at;
@@ -70,7 +70,7 @@ fn put_one(list: &mut [u8], at: usize, entry: Entry) -> usize
 
 // Writes the entries from the front of the list on, and returns the place after them.
 pub fn put(list: &mut [u8], left: Machine, right: Machine) -> usize
-    ensures { λ n. ⌜ (n ≡ entryLength * length (fieldsApart fields left right)) × (now (list .exit) ≡ sets (now (list .entry)) 0 (listed (fieldsApart fields left right))) ⌝ }
+    ensures { λ n. ⌜ (n ≡ entrySize * length (fieldsApart fields left right)) × (now (list .exit) ≡ sets (now (list .entry)) 0 (laidOut (fieldsApart fields left right))) ⌝ }
 {
     let l = values_of(left);
     let r = values_of(right);

@@ -5,7 +5,7 @@ ghost use Prim.Native.Nat.{_+_, _*_, _≤_};
 ghost use lib.ListN.{length};
 ghost use lib.Seq.{sets};
 ghost use Rattle.difference.specs.Differences.{runUpTo, runs};
-ghost use Rattle.difference.specs.Compare.{entryLength, listed};
+ghost use Rattle.difference.specs.Compare.{entrySize, laidOut};
 use super::entries;
 use super::entries::ENTRY;
 use super::entries::Entry;
@@ -31,7 +31,7 @@ pub fn count(a: &[u8], b: &[u8]) -> usize
 // The run from `first` up to before `end`, if it has any address, and the place after its entry.
 fn put_one(list: &mut [u8], at: usize, first: usize, end: usize) -> usize
     requires { ⌜ at ≤ 0x100_0000 ⌝ }
-    ensures { λ r. ⌜ (r ≡ at + entryLength * length (runUpTo first end)) × (now (list .exit) ≡ sets (now (list .entry)) at (listed (runUpTo first end))) ⌝ }
+    ensures { λ r. ⌜ (r ≡ at + entrySize * length (runUpTo first end)) × (now (list .exit) ≡ sets (now (list .entry)) at (laidOut (runUpTo first end))) ⌝ }
 {
     if first < end {
         let entry = Entry {
@@ -48,7 +48,7 @@ fn put_one(list: &mut [u8], at: usize, first: usize, end: usize) -> usize
 // Writes the entries from a place on.
 pub fn put(list: &mut [u8], from: usize, a: &[u8], b: &[u8])
     requires { ⌜ (from ≤ 0x1000) × ((length (now a) ≡ 65536) × (length (now b) ≡ 65536)) ⌝ }
-    ensures { λ _. ⌜ now (list .exit) ≡ sets (now (list .entry)) from (listed (runs (now (a .entry)) (now (b .entry)))) ⌝ }
+    ensures { λ _. ⌜ now (list .exit) ≡ sets (now (list .entry)) from (laidOut (runs (now (a .entry)) (now (b .entry)))) ⌝ }
 {
     let mut at = from;
     let mut first = 0;

@@ -12,7 +12,7 @@ use Rattle.text.specs.Lines.{alone}
 use Rattle.text.proofs.Texts.{alone-fits}
 use Rattle.machine.specs.Record.{machineOf}
 use Rattle.difference.specs.Differences.{Difference}
-use Rattle.difference.specs.Compare.{entryOf}
+use Rattle.difference.specs.Compare.{asEntry}
 use Rattle.difference.proofs.Whole.{ceiling}
 use Rattle.dump.specs.Dumps.{isDump, memoryIn}
 use Rattle.dump.specs.Told.{leftDump, rightDump, dumpDifferences, entryLine, toldLines, told, ToldFits}
@@ -21,7 +21,7 @@ use Rattle.dump.proofs.Parts.{line-short}
 lines-fit : (ds : List Difference) → length (toldLines ds) ≤ 48 * length ds
 unfolding toldLines
 lines-fit [] = omega arith
-lines-fit (d ∷ ds) = rw length-append (omega (arith, line-short (entryOf d), lines-fit ds))
+lines-fit (d ∷ ds) = rw length-append (omega (arith, line-short (asEntry d), lines-fit ds))
 
 either : (t : Bool) (a b : List ℕ) (n : ℕ) → length a ≤ n → length b ≤ n → length (cond t a b) ≤ n
 either true a b n p q = p

@@ -9,18 +9,18 @@ use native.Mathlib.Omega.{arith}
 use lib.ListN.{length, getD, length-append}
 use lib.Seq.{sets}
 use Rattle.text.proofs.Stores.{sets-append}
-use Rattle.difference.specs.Differences.{Difference, run}
-use Rattle.difference.specs.Compare.{entryOf, entryAt}
+use Rattle.difference.specs.Differences.{Difference, ofRun}
+use Rattle.difference.specs.Compare.{asEntry, entryAt}
 use Rattle.dump.specs.Told.{entryLine, toldLines, listLines}
 
-same-lines : (list : List ℕ) (k : ℕ) (ds : List Difference) → ((j : ℕ) → j < length ds → entryAt list (k + j) ≡ entryOf (getD ds j (run 0 0))) → listLines list (length ds) k ≡ toldLines ds
+same-lines : (list : List ℕ) (k : ℕ) (ds : List Difference) → ((j : ℕ) → j < length ds → entryAt list (k + j) ≡ asEntry (getD ds j (ofRun 0 0))) → listLines list (length ds) k ≡ toldLines ds
 unfolding listLines toldLines
 same-lines list k [] h = refl
 same-lines list k (d ∷ ds) h =
     let z : k + 0 ≡ k = omega arith in
     rw (rw z at (h 0 (omega arith)), same-lines list (suc k) ds (λ j g. let e : suc k + j ≡ k + suc j = omega arith in rw e (h (suc j) (omega arith))))
 
-pub all-lines : (list : List ℕ) (ds : List Difference) → ((j : ℕ) → j < length ds → entryAt list j ≡ entryOf (getD ds j (run 0 0))) → listLines list (length ds) 0 ≡ toldLines ds
+pub all-lines : (list : List ℕ) (ds : List Difference) → ((j : ℕ) → j < length ds → entryAt list j ≡ asEntry (getD ds j (ofRun 0 0))) → listLines list (length ds) 0 ≡ toldLines ds
 all-lines list ds h = same-lines list 0 ds (λ j g. let e : 0 + j ≡ j = omega arith in rw e (h j g))
 
 -- ---- a turn

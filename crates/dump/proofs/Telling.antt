@@ -15,7 +15,7 @@ use Rattle.text.specs.Lines.{alone}
 use Rattle.memory.specs.Fits.{Bytes}
 use Rattle.machine.specs.Record.{machineOf}
 use Rattle.machine.specs.declared.Machine.{Machine}
-use Rattle.difference.specs.Compare.{listed, compared, listAfter}
+use Rattle.difference.specs.Compare.{laidOut, compared, listAfter}
 use Rattle.difference.specs.declared.Compared.{Compared}
 use Rattle.difference.proofs.Whole.{ceiling}
 use Rattle.difference.proofs.ReadBack.{entries-back}
@@ -43,7 +43,7 @@ module _ (l r list : List ℕ) (dl : isDump l ≡ true) (dr : isDump r ≡ true)
   counted =
       rw (eq-eqb (length (memoryIn l)) 65536 left-memory, eq-eqb (length (memoryIn r)) 65536 right-memory, le-ltb (length list) (17 * length (dumpDifferences l r)) (omega (arith, few)))
 
-  listing : listAfter (machineOf l) (memoryIn l) (machineOf r) (memoryIn r) list ≡ sets list 0 (listed (dumpDifferences l r))
+  listing : listAfter (machineOf l) (memoryIn l) (machineOf r) (memoryIn r) list ≡ sets list 0 (laidOut (dumpDifferences l r))
   unfolding listAfter
   listing =
       rw (eq-eqb (length (memoryIn l)) 65536 left-memory, eq-eqb (length (memoryIn r)) 65536 right-memory, le-ltb (length list) (17 * length (dumpDifferences l r)) (omega (arith, few)))
@@ -61,7 +61,7 @@ module _ (l r list : List ℕ) (dl : isDump l ≡ true) (dr : isDump r ≡ true)
     pub lines-told : Bytes l → Bytes r → listLines new (c .count) 0 ≡ toldLines (dumpDifferences l r)
     lines-told bl br =
         rw (count-is, el, em, en, ea, eb, listing)
-        (all-lines (sets list 0 (listed (dumpDifferences l r))) (dumpDifferences l r) (λ j h. entries-back (machineOf l) (machineOf r) (memoryIn l) (memoryIn r) list j (machine-fits l bl) (machine-fits r br) (omega (arith, few)) h))
+        (all-lines (sets list 0 (laidOut (dumpDifferences l r))) (dumpDifferences l r) (λ j h. entries-back (machineOf l) (machineOf r) (memoryIn l) (memoryIn r) list j (machine-fits l bl) (machine-fits r br) (omega (arith, few)) h))
 
 module _ (input : List ℕ) where
   pub left-malformed : isDump (leftDump input) ≡ false → told input ≡ alone (numberOf Malformed)

@@ -13,7 +13,7 @@ use Rattle.text.specs.Lines.{alone, lineFeed}
 use Rattle.registers.specs.ConditionCodes.{ascii}
 use Rattle.machine.specs.Record.{Field, A, B, X, Y, U, S, PC, DP, CC, Waiting, Armed, Cycles, Instructions, fields, rank, width, bytes, machineOf}
 use Rattle.difference.specs.Differences.{Difference, differences}
-use Rattle.difference.specs.Compare.{runNumber, entryOf, entryAt}
+use Rattle.difference.specs.Compare.{runNumber, asEntry, entryAt}
 use Rattle.difference.specs.declared.entries.Entry.{Entry}
 use Rattle.dump.specs.Dumps.{dumpLength, isDump, memoryIn}
 
@@ -74,7 +74,7 @@ entryLine e =
 
 unfoldable pub toldLines : List Difference → List ℕ
 toldLines [] = []
-toldLines (d ∷ ds) = entryLine (entryOf d) ++ toldLines ds
+toldLines (d ∷ ds) = entryLine (asEntry d) ++ toldLines ds
 
 -- the lines of n entries of a list, from the k-th on
 unfoldable pub listLines : List ℕ → ℕ → ℕ → List ℕ

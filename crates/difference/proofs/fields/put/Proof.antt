@@ -9,7 +9,7 @@ use lib.Seq.{sets}
 use Rattle.machine.specs.Record.{fields}
 use Rattle.machine.specs.declared.Machine.{Machine}
 use Rattle.difference.specs.Differences.{fieldsApart}
-use Rattle.difference.specs.Compare.{entryBytes, entryLength, listed}
+use Rattle.difference.specs.Compare.{entryBytes, entrySize, laidOut}
 use Rattle.difference.proofs.Turns.{values, width-field, put-field, width-at-most, length-put}
 use borrow.Author.Needs.{needs}
 use Rattle.difference.proofs.fields.put.Statement.{statement}
@@ -17,9 +17,9 @@ use Rattle.difference.proofs.fields.put.Tie as tie
 
 abbrev Inv-loop : tie.InvT-loop
 Inv-loop list₀ l r at₀ k₀ list at k =
-    (k ≤ 13) × ((at ≤ entryLength * k) × ((length list ≡ length list₀) × ((x y : Machine) → l ≡ values x → r ≡ values y
-    → (at + entryLength * length (fieldsApart (drop k fields) x y) ≡ entryLength * length (fieldsApart fields x y))
-    × (sets list at (listed (fieldsApart (drop k fields) x y)) ≡ sets list₀ 0 (listed (fieldsApart fields x y))))))
+    (k ≤ 13) × ((at ≤ entrySize * k) × ((length list ≡ length list₀) × ((x y : Machine) → l ≡ values x → r ≡ values y
+    → (at + entrySize * length (fieldsApart (drop k fields) x y) ≡ entrySize * length (fieldsApart fields x y))
+    × (sets list at (laidOut (fieldsApart (drop k fields) x y)) ≡ sets list₀ 0 (laidOut (fieldsApart fields x y))))))
 
 abbrev μ-loop : tie.MeasureT-loop
 μ-loop list₀ l r at₀ k₀ list at k = 13 - k
@@ -57,7 +57,7 @@ loop-again c =
     )
 
 returns : tie.Need-returns Inv-loop μ-loop
-unfolding fieldsApart listed
+unfolding fieldsApart laidOut
 returns c =
     let l = c .before .loop in
     let a = c .before .before .before .before .before .args in

@@ -8,7 +8,7 @@ use lib.Dec.{ltb}
 use lib.ListN.{length}
 use lib.Seq.{sets, length-sets}
 use Rattle.difference.specs.Differences.{runUpTo, runsFrom, runs}
-use Rattle.difference.specs.Compare.{entryLength, listed}
+use Rattle.difference.specs.Compare.{entrySize, laidOut}
 use Rattle.difference.proofs.Turns.{one-at-most, up-byte, put-equal, apart-on}
 use borrow.Author.Needs.{needs}
 use Rattle.difference.proofs.runs.put.Statement.{statement}
@@ -16,8 +16,8 @@ use Rattle.difference.proofs.runs.put.Tie as tie
 
 abbrev Inv-loop : tie.InvT-loop
 Inv-loop list₀ from a b at₀ first₀ i₀ list at first i =
-    (i ≤ 65536) × ((at ≤ from + entryLength * i) × ((length list ≡ length list₀)
-    × (sets list at (listed (runsFrom a b (65536 - i) first i)) ≡ sets list₀ from (listed (runs a b)))))
+    (i ≤ 65536) × ((at ≤ from + entrySize * i) × ((length list ≡ length list₀)
+    × (sets list at (laidOut (runsFrom a b (65536 - i) first i)) ≡ sets list₀ from (laidOut (runs a b)))))
 
 abbrev μ-loop : tie.MeasureT-loop
 μ-loop list₀ from a b at₀ first₀ i₀ list at first i = 65536 - i
@@ -41,7 +41,7 @@ loop-again c =
       (
         omega (arith, at, up-byte (l .first) (l .i), one-at-most (ltb (l .first) (l .i))),
         (
-          ap length list ∙ length-sets (l .list) (l .at) (listed (runUpTo (l .first) (l .i))) ∙ l .inv .1 .1 .0,
+          ap length list ∙ length-sets (l .list) (l .at) (laidOut (runUpTo (l .first) (l .i))) ∙ l .inv .1 .1 .0,
           rw (list, at, v .7) (put-equal (a .a .now) (a .b .now) (l .first) (l .i) (omega arith) (v .0 .taken) (l .at) (l .list) ∙ l .inv .1 .1 .1),
         ),
       ),
@@ -53,7 +53,7 @@ put-one-requires-2 : tie.Need-put-one-requires-2 Inv-loop μ-loop
 put-one-requires-2 c κs = omega arith
 
 same-length : tie.Need-same-length Inv-loop μ-loop
-same-length c = ap length (c .before .before .put-one2 .ensures .1) ∙ length-sets (c .before .before .before .before .before .loop .list) (c .before .before .before .before .before .loop .at) (listed (runUpTo (c .before .before .before .before .before .loop .first) (c .before .before .before .before .before .loop .i))) ∙ c .before .before .before .before .before .loop .inv .1 .1 .0
+same-length c = ap length (c .before .before .put-one2 .ensures .1) ∙ length-sets (c .before .before .before .before .before .loop .list) (c .before .before .before .before .before .loop .at) (laidOut (runUpTo (c .before .before .before .before .before .loop .first) (c .before .before .before .before .before .loop .i))) ∙ c .before .before .before .before .before .loop .inv .1 .1 .0
 
 returns : tie.Need-returns Inv-loop μ-loop
 unfolding runsFrom

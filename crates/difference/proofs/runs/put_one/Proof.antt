@@ -3,20 +3,20 @@
 use mathlib.Core.List.{append-nil}
 use mathlib.Core.Path.{refl}
 use native.Mathlib.Omega.{arith}
-use Rattle.difference.specs.Compare.{listed}
+use Rattle.difference.specs.Compare.{laidOut}
 use Rattle.difference.proofs.EachAddress.{up-none, up-one}
 use borrow.Author.Needs.{needs}
 use Rattle.difference.proofs.runs.put_one.Statement.{statement}
 use Rattle.difference.proofs.runs.put_one.Tie as tie
 
 returns : tie.Need-returns
-unfolding listed
+unfolding laidOut
 returns c =
     let a = c .before .before .before .before .before .before .args in
     rw (up-one (a .first) (a .end) (c .before .before .before .before .if1 .taken), append-nil) (refl, c .before .before .put .ensures)
 
 returns-2 : tie.Need-returns-2
-unfolding listed
+unfolding laidOut
 returns-2 c =
     let a = c .before .before .args in
     rw (up-none (a .first) (a .end) (omega arith)) (omega arith, refl)
