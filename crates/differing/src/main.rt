@@ -11,8 +11,15 @@ type Memory = [u8; 0x10000];
 // Room for eighteen entries.
 type List = [u8; 306];
 
-// 32,768 entries.
-const MOST: usize = 557056;
+// Room for 32,768 entries, and a byte less.
+type Most = [u8; 557056];
+
+type Less = [u8; 557055];
+
+// A byte less than a memory, and a byte more.
+type Short = [u8; 65535];
+
+type Long = [u8; 65537];
 
 fn write(bytes: &[u8]) {
     io::write_all(STDOUT_FILENO, bytes);
@@ -150,8 +157,7 @@ fn alone_too(mem: &Memory, list: &mut List) {
     cc.cc = CCBits { reg: 0x51 };
     scene(b'c', fresh, mem, with(cc), mem, list);
     entry(list, 0);
-    let mut waits = fresh;
-    waits.wait = Wait::Cwai;
+    let waits = fresh.with_registers(Set::reset(), Wait::Cwai);
     scene(b'w', fresh, mem, waits, mem, list);
     entry(list, 0);
     let mut armed = fresh;
@@ -168,28 +174,36 @@ fn alone_too(mem: &Memory, list: &mut List) {
     entry(list, 0);
 }
 
-// One byte, at 0000 and FFFF; two runs with one equal byte between them; across FF00 and FFE0; with a register before them.
-fn runs(mem: &Memory, list: &mut List) {
-    let fresh = Machine::fresh();
-    let mut ends = [0u8; 0x10000];
-    ends[0] = 1;
-    ends[0xFFFF] = 1;
-    scene(b'1', fresh, mem, fresh, &ends, list);
+// One byte at 0000 and one at FFFF.
+fn at_ends(mem: &mut Memory) {
+    mem[0] = 1;
+    mem[0xFFFF] = 1;
+}
+
+// Two runs with one equal byte between them, and runs across FF00 and FFE0.
+fn in_runs(mem: &mut Memory) {
+    mem[0x1000] = 1;
+    mem[0x1001] = 2;
+    mem[0x1003] = 3;
+    mem[0xFEFF] = 4;
+    mem[0xFF00] = 5;
+    mem[0xFFDF] = 6;
+    mem[0xFFE0] = 7;
+}
+
+fn ends(mem: &Memory, other: &Memory, list: &mut List) {
+    scene(b'1', Machine::fresh(), mem, Machine::fresh(), other, list);
     entry(list, 0);
     entry(list, 1);
-    let mut near = [0u8; 0x10000];
-    near[0x1000] = 1;
-    near[0x1001] = 2;
-    near[0x1003] = 3;
-    near[0xFEFF] = 4;
-    near[0xFF00] = 5;
-    near[0xFFDF] = 6;
-    near[0xFFE0] = 7;
-    scene(b'2', full(), &near, fresh, mem, list);
+}
+
+// With every field before them, and alone.
+fn runs(mem: &Memory, other: &Memory, list: &mut List) {
+    scene(b'2', full(), other, Machine::fresh(), mem, list);
     entry(list, 12);
     entry(list, 13);
     entry(list, 16);
-    scene(b'3', fresh, &near, fresh, mem, list);
+    scene(b'3', Machine::fresh(), other, Machine::fresh(), mem, list);
     entry(list, 0);
     entry(list, 1);
     entry(list, 2);
@@ -204,43 +218,51 @@ fn alternate(mem: &mut Memory) {
     }
 }
 
-// Every second byte; every byte; and a list that is a byte short.
-fn most(mem: &Memory) {
-    let fresh = Machine::fresh();
-    let mut other = [0u8; 0x10000];
-    alternate(&mut other);
-    let mut list = [0u8; MOST];
-    scene(b'4', fresh, mem, fresh, &other, &mut list);
-    entry(&list, 0);
-    entry(&list, 1);
-    entry(&list, 32767);
-    let ones = [1u8; 0x10000];
-    scene(b'5', fresh, mem, fresh, &ones, &mut list);
-    entry(&list, 0);
-    let mut short = [0u8; 557055];
-    scene(b'6', fresh, mem, fresh, &other, &mut short);
-    entry(&short, 0);
+// Every second byte.
+fn seconds(mem: &Memory, other: &Memory, list: &mut Most) {
+    scene(b'4', Machine::fresh(), mem, Machine::fresh(), other, list);
+    entry(list, 0);
+    entry(list, 1);
+    entry(list, 32767);
 }
 
-// Memories that are a byte short and a byte long, on either side.
-fn lengths(mem: &Memory, list: &mut List) {
-    let m = full();
-    let less = [0u8; 65535];
-    let more = [0u8; 65537];
-    scene(b'7', m, &less, Machine::fresh(), mem, list);
-    scene(b'8', m, mem, Machine::fresh(), &more, list);
-    scene(b'9', m, &more, Machine::fresh(), &less, list);
+// Every byte.
+fn everywhere(mem: &Memory, other: &Memory, list: &mut Most) {
+    scene(b'5', Machine::fresh(), mem, Machine::fresh(), other, list);
+    entry(list, 0);
+}
+
+fn less_room(mem: &Memory, other: &Memory, list: &mut Less) {
+    scene(b'6', Machine::fresh(), mem, Machine::fresh(), other, list);
+    entry(list, 0);
+}
+
+// Memories of another length, on either side.
+fn lengths(mem: &Memory, short: &Short, long: &Long, list: &mut List) {
+    scene(b'7', full(), short, Machine::fresh(), mem, list);
+    scene(b'8', full(), mem, Machine::fresh(), long, list);
+    scene(b'9', full(), long, Machine::fresh(), short, list);
     entry(list, 0);
 }
 
 fn main() {
     let mem = [0u8; 0x10000];
     let mut list = [0u8; 306];
-    lengths(&mem, &mut list);
+    lengths(&mem, &[0u8; 65535], &[0u8; 65537], &mut list);
     all(&mem, &mut list);
     room(&mem);
     alone(&mem, &mut list);
     alone_too(&mem, &mut list);
-    runs(&mem, &mut list);
-    most(&mem);
+    let mut first = [0u8; 0x10000];
+    at_ends(&mut first);
+    ends(&mem, &first, &mut list);
+    let mut second = [0u8; 0x10000];
+    in_runs(&mut second);
+    runs(&mem, &second, &mut list);
+    let mut third = [0u8; 0x10000];
+    alternate(&mut third);
+    let mut most = [0u8; 557056];
+    seconds(&mem, &third, &mut most);
+    everywhere(&mem, &[1u8; 0x10000], &mut most);
+    less_room(&mem, &third, &mut [0u8; 557055]);
 }
