@@ -17,7 +17,7 @@ pub struct Entry {
 }
 
 // Writes an entry at a place.
-pub fn put(list: &mut [u8], at: usize, entry: Entry)
+pub(super) fn put(list: &mut [u8], at: usize, entry: Entry)
     requires { ⌜ at ≤ 0x100_0000 ⌝ }
     ensures { λ _. ⌜ now (list .exit) ≡ sets (now (list .entry)) at (entryBytes entry) ⌝ }
 {

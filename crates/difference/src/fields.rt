@@ -42,7 +42,7 @@ fn values_of(machine: Machine) -> [u64; FIELDS]
     ]
 }
 
-pub fn count(left: Machine, right: Machine) -> usize
+pub(super) fn count(left: Machine, right: Machine) -> usize
     ensures { λ n. ⌜ n ≡ length (fieldsApart fields left right) ⌝ }
 {
     let l = values_of(left);
@@ -69,7 +69,7 @@ fn put_one(list: &mut [u8], at: usize, entry: Entry) -> usize
 }
 
 // Writes the entries from the front of the list on, and returns the place after them.
-pub fn put(list: &mut [u8], left: Machine, right: Machine) -> usize
+pub(super) fn put(list: &mut [u8], left: Machine, right: Machine) -> usize
     ensures { λ n. ⌜ (n ≡ entrySize * length (fieldsApart fields left right)) × (now (list .exit) ≡ sets (now (list .entry)) 0 (laidOut (fieldsApart fields left right))) ⌝ }
 {
     let l = values_of(left);

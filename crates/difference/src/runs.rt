@@ -11,7 +11,7 @@ use super::entries::ENTRY;
 use super::entries::Entry;
 use super::entries::RUN;
 
-pub fn count(a: &[u8], b: &[u8]) -> usize
+pub(super) fn count(a: &[u8], b: &[u8]) -> usize
     requires { ⌜ (length (now a) ≡ 65536) × (length (now b) ≡ 65536) ⌝ }
     ensures { λ n. ⌜ n ≡ length (runs (now (a .entry)) (now (b .entry))) ⌝ }
 {
@@ -46,7 +46,7 @@ fn put_one(list: &mut [u8], at: usize, first: usize, end: usize) -> usize
 }
 
 // Writes the entries from a place on.
-pub fn put(list: &mut [u8], from: usize, a: &[u8], b: &[u8])
+pub(super) fn put(list: &mut [u8], from: usize, a: &[u8], b: &[u8])
     requires { ⌜ (from ≤ 0x1000) × ((length (now a) ≡ 65536) × (length (now b) ≡ 65536)) ⌝ }
     ensures { λ _. ⌜ now (list .exit) ≡ sets (now (list .entry)) from (laidOut (runs (now (a .entry)) (now (b .entry)))) ⌝ }
 {

@@ -153,8 +153,9 @@ fn alone_too(mem: &Memory, list: &mut List) {
     dp.dp = 0xFF;
     scene(b'd', fresh, mem, with(dp), mem, list);
     entry(list, 0);
+    let codes = CCBits { reg: 0x51 };
     let mut cc = Set::reset();
-    cc.cc = CCBits { reg: 0x51 };
+    cc.cc = codes;
     scene(b'c', fresh, mem, with(cc), mem, list);
     entry(list, 0);
     let waits = fresh.with_registers(Set::reset(), Wait::Cwai);

@@ -118,7 +118,7 @@ fn put_run(out: &mut [u8], at: usize, entry: Entry) -> usize
     end - at
 }
 
-pub fn put_line(out: &mut [u8], at: usize, entry: Entry) -> usize
+pub(super) fn put_line(out: &mut [u8], at: usize, entry: Entry) -> usize
     requires { ⌜ at ≤ 0x80_0000 ⌝ }
     ensures { λ r. ⌜ (r ≡ length (entryLine entry)) × (now (out .exit) ≡ sets (now (out .entry)) at (entryLine entry)) ⌝ }
 {
