@@ -8,7 +8,7 @@ use native.Mathlib.Omega.{arith}
 use lib.ListN.{getD}
 use Rattle.answers.specs.Numbers.{numberOf, RefusedByANumber, SixWithdrawn, NumbersApart}
 use Rattle.answers.specs.declared.Refusal.{Refusal}
-use Rattle.answers.specs.declared.Refusal.the-variants.{MemoryLength, Waiting, Opcode, PastEnd, PostByte, TransferCode, StackTooSmall, ZeroAtVector, JournalFull, NoRecord, JournalLength, DivisionByZero, LeftByte, NoRoom, Malformed, OutputShort, LineShape, Checksum, PastTop, NoEnd, PostByte8F, TooFewRecords, SalvageShort}
+use Rattle.answers.specs.declared.Refusal.the-variants.{MemoryLength, Waiting, Opcode, PastEnd, PostByte, TransferCode, StackTooSmall, ZeroAtVector, JournalFull, NoRecord, JournalLength, DivisionByZero, LeftByte, NoRoom, Malformed, OutputShort, LineShape, Checksum, PastTop, NoEnd, PostByte8F, TooFewRecords, SalvageShort, ListShort}
 
 pub refused-by-a-number : RefusedByANumber
 refused-by-a-number MemoryLength = omega arith
@@ -33,13 +33,14 @@ refused-by-a-number PastTop = omega arith
 refused-by-a-number NoEnd = omega arith
 refused-by-a-number PostByte8F = omega arith
 refused-by-a-number TooFewRecords = omega arith
+refused-by-a-number ListShort = omega arith
 refused-by-a-number SalvageShort = omega arith
 
--- the refusal of a number, by the table's places; 6, 18, 19, 25, 27 and 28 are not used
+-- the refusal of a number, by the table's places; 6, 18, 19, 25 and 28 are not used
 abbrev refusalOf : ℕ → Refusal
 refusalOf n =
     getD
-    (SalvageShort ∷ MemoryLength ∷ Waiting ∷ Opcode ∷ PastEnd ∷ PostByte ∷ SalvageShort ∷ TransferCode ∷ StackTooSmall ∷ ZeroAtVector ∷ JournalFull ∷ NoRecord ∷ JournalLength ∷ DivisionByZero ∷ LeftByte ∷ NoRoom ∷ Malformed ∷ OutputShort ∷ SalvageShort ∷ SalvageShort ∷ LineShape ∷ Checksum ∷ PastTop ∷ NoEnd ∷ PostByte8F ∷ SalvageShort ∷ TooFewRecords ∷ [])
+    (SalvageShort ∷ MemoryLength ∷ Waiting ∷ Opcode ∷ PastEnd ∷ PostByte ∷ SalvageShort ∷ TransferCode ∷ StackTooSmall ∷ ZeroAtVector ∷ JournalFull ∷ NoRecord ∷ JournalLength ∷ DivisionByZero ∷ LeftByte ∷ NoRoom ∷ Malformed ∷ OutputShort ∷ SalvageShort ∷ SalvageShort ∷ LineShape ∷ Checksum ∷ PastTop ∷ NoEnd ∷ PostByte8F ∷ SalvageShort ∷ TooFewRecords ∷ ListShort ∷ [])
     n SalvageShort
 
 back : (x : Refusal) → refusalOf (numberOf x) ≡ x
@@ -66,6 +67,7 @@ back NoEnd = refl
 back PostByte8F = refl
 back TooFewRecords = refl
 back SalvageShort = refl
+back ListShort = refl
 
 pub numbers-apart : NumbersApart
 numbers-apart x y e = sym (back x) ∙ (ap refusalOf e ∙ back y)

@@ -26,6 +26,7 @@ pub enum Refusal {
     NoEnd,
     PostByte8F,
     TooFewRecords,
+    ListShort,
     SalvageShort,
 }
 
@@ -61,6 +62,7 @@ impl Refusal {
             Refusal::NoEnd => 23,
             Refusal::PostByte8F => 24,
             Refusal::TooFewRecords => 26,
+            Refusal::ListShort => 27,
             Refusal::SalvageShort => 29,
         }
     }

@@ -9,10 +9,11 @@ use native.Mathlib.Numerals.{add-one}
 use native.Mathlib.Omega.{arith}
 use lib.Arith.{mod-mul}
 use lib.Dec.{lit<, lit≤}
-use lib.ListN.{length, getD}
+use lib.ListN.{length, getD, drop, List·getD-eq-default}
+use lib.Seq.{getD-drop}
 use Rattle.registers.specs.Fits.{Fits}
 use Rattle.machine.specs.Machine.{MachineFits}
-use Rattle.machine.specs.Record.{bytes, numberAt, Cycles, waitByte, waitOf, markByte, markOf, width, offset, header, front, counter, machineOf, headerLength, HeaderInParts, HeaderBack}
+use Rattle.machine.specs.Record.{bytes, numberAt, Cycles, waitByte, waitOf, markByte, markOf, width, offset, header, front, counter, machineOf, headerLength, HeaderInParts, HeaderBack, CounterBack}
 use Rattle.machine.specs.declared.Machine.{Machine}
 use Rattle.machine.specs.declared.Wait.{Wait}
 use Rattle.machine.specs.declared.Wait.the-variants.{Running, Cwai, Sync}
@@ -70,6 +71,19 @@ number-more r at i = rw add-one (more at i)
     more at (suc i) =
         let e : suc at + i ≡ at + suc i = omega arith in
         rw (more (suc at) i, e, pow-suc) (omega arith)
+
+-- in a part from a place on, and past the end
+pub number-drop : (r : List ℕ) (at i n : ℕ) → numberAt (drop at r) i n ≡ numberAt r (at + i) n
+unfolding numberAt
+number-drop r at i zero = refl
+number-drop r at i (suc n) =
+    let e : at + suc i ≡ suc (at + i) = omega arith in
+    rw (getD-drop at r i 0, number-drop r at (suc i) n, e)
+
+pub number-past : (r : List ℕ) (at n : ℕ) → length r ≤ at → numberAt r at n ≡ 0
+unfolding numberAt
+number-past r at zero h = refl
+number-past r at (suc n) h = rw (List·getD-eq-default r 0 {n = at} h, number-past r (suc at) n (omega arith)) (omega arith)
 
 -- a single byte
 pub single : (r : List ℕ) (at : ℕ) → numberAt r at 1 ≡ getD r at 0
@@ -171,3 +185,7 @@ header-back m rest f = λ i. record {
   wait = (ap waitOf (number-back 1 (waitByte (m .wait)) (omega (arith, wait-small (m .wait)))) ∙ wait-back (m .wait)) i;
   armed = (ap markOf (number-back 1 (markByte (m .armed)) (omega (arith, mark-small (m .armed)))) ∙ mark-back (m .armed)) i;
 }
+
+pub counter-back : CounterBack
+unfolding counter bytes numberAt number
+counter-back n rest h = number-back 8 n h

@@ -36,3 +36,12 @@ counter-of κs a x y ws vs p q = (p ∙ sym q, refl)
 
 pub machine-of : Determines 1 record.machine_of.Kinds.ps record.machine_of.Kinds.r record.machine_of.Reads.Post
 machine-of κs a x y ws vs p q = (p ∙ sym q, refl)
+
+pub counter-at : Determines 1 record.counter_at.Kinds.ps record.counter_at.Kinds.r record.counter_at.Reads.Post
+counter-at κs a x y ws vs p q = (p ∙ sym q, refl)
+
+pub wait-byte : Determines 0 record.wait_byte.Kinds.ps record.wait_byte.Kinds.r record.wait_byte.Reads.Post
+wait-byte κs a x y ws vs p q = (p ∙ sym q, refl)
+
+pub mark-byte : Determines 0 record.mark_byte.Kinds.ps record.mark_byte.Kinds.r record.mark_byte.Reads.Post
+mark-byte κs a x y ws vs p q = (p ∙ sym q, refl)

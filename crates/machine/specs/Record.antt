@@ -1,7 +1,7 @@
 -- The machine at the front of a journal's record (document 01, section "Journal"; document 02, [5]): its fields in the record's order, each
 -- in so many bytes, high byte first. The order and the widths are data: what is written and where it is read back follow from them.
 -- Assumes nothing.
-use Prim.Native.Nat.{ℕ, zero, suc, _+_, _*_, _/_, _%_, _^_}
+use Prim.Native.Nat.{ℕ, zero, suc, _+_, _*_, _/_, _%_, _^_, _<_}
 use mathlib.Core.Bool.{Bool, true, false}
 use mathlib.Core.List.{List, [], _∷_, _++_}
 use mathlib.Core.Path.{_≡_}
@@ -163,3 +163,6 @@ HeaderInParts = (m : Machine) → (front m ++ counter (m .cycles)) ++ counter (m
 
 abbrev pub HeaderBack : Type 0
 HeaderBack = (m : Machine) (rest : List ℕ) → MachineFits m → machineOf (header m ++ rest) ≡ m
+
+abbrev pub CounterBack : Type 0
+CounterBack = (n : ℕ) (rest : List ℕ) → n < 2 ^ 64 → numberAt (counter n ++ rest) 0 (width Cycles) ≡ n

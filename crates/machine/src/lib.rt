@@ -12,9 +12,12 @@ pub use record::CYCLES;
 pub use record::HEADER;
 pub use record::INSTRUCTIONS;
 pub use record::WAIT;
+pub use record::counter_at;
 pub use record::counter_of;
 pub use record::front_of;
 pub use record::machine_of;
+pub use record::mark_byte;
+pub use record::wait_byte;
 use registers::Flags;
 use registers::Set;
 

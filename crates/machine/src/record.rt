@@ -2,7 +2,7 @@
 ghost use mathlib.Core.Path.{_≡_};
 ghost use Prim.Native.Nat.{_+_, _^_, _≤_, _<_};
 ghost use lib.ListN.{getD};
-ghost use Rattle.machine.specs.Record.{bytes, numberAt, waitByte, waitOf, markByte, markOf, front, counter, registersOf, machineOf};
+ghost use Rattle.machine.specs.Record.{Cycles, width, numberAt, waitByte, waitOf, markByte, markOf, front, counter, registersOf, machineOf};
 use super::Machine;
 use super::Wait;
 use registers::CCBits;
@@ -41,7 +41,7 @@ pub const INSTRUCTIONS: usize = CYCLES + COUNTER;
 // How many bytes the fields take.
 pub const HEADER: usize = INSTRUCTIONS + COUNTER;
 
-fn wait_byte(wait: Wait) -> u8
+pub fn wait_byte(wait: Wait) -> u8
     ensures { λ r. ⌜ r ≡ waitByte wait ⌝ }
 {
     match wait {
@@ -51,7 +51,7 @@ fn wait_byte(wait: Wait) -> u8
     }
 }
 
-fn mark_byte(armed: bool) -> u8
+pub fn mark_byte(armed: bool) -> u8
     ensures { λ r. ⌜ r ≡ markByte armed ⌝ }
 {
     if armed { 1 } else { 0 }
@@ -121,6 +121,16 @@ fn number_at(r: &[u8], at: usize, n: usize) -> u64
         i += 1;
     }
     v
+}
+
+// The number of a counter's bytes from a place on.
+pub fn counter_at(r: &[u8], at: usize) -> u64
+    ensures { λ v. ⌜ v ≡ numberAt (now (r .entry)) at (width Cycles) ⌝ }
+{
+    if r.len() < at {
+        return 0;
+    }
+    number_at(&r[at..], 0, COUNTER)
 }
 
 fn wait_of(b: u8) -> Wait

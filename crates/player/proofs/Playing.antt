@@ -11,7 +11,7 @@ use Rattle.answers.specs.Numbers.{numberOf, numberOfAnswer}
 use Rattle.answers.specs.declared.Answer.{Answer}
 use Rattle.answers.specs.declared.Answer.the-variants.{Done, Refused}
 use Rattle.answers.specs.declared.Refusal.{Refusal}
-use Rattle.answers.specs.declared.Refusal.the-variants.{MemoryLength, Waiting, Opcode, PastEnd, PostByte, TransferCode, StackTooSmall, ZeroAtVector, JournalFull, NoRecord, JournalLength, DivisionByZero, LeftByte, NoRoom, Malformed, OutputShort, LineShape, Checksum, PastTop, NoEnd, PostByte8F, TooFewRecords, SalvageShort}
+use Rattle.answers.specs.declared.Refusal.the-variants.{MemoryLength, Waiting, Opcode, PastEnd, PostByte, TransferCode, StackTooSmall, ZeroAtVector, JournalFull, NoRecord, JournalLength, DivisionByZero, LeftByte, NoRoom, Malformed, OutputShort, LineShape, Checksum, PastTop, NoEnd, PostByte8F, TooFewRecords, SalvageShort, ListShort}
 use Rattle.text.proofs.Stores.{sets-append}
 use Rattle.text.proofs.Texts.{line-fits}
 use Rattle.machine.specs.declared.Machine.{Machine}
@@ -60,6 +60,7 @@ number-fits (Refused x) = go x
     go PostByte8F = omega arith
     go TooFewRecords = omega arith
     go SalvageShort = omega arith
+    go ListShort = omega arith
 
 pub line-bound : (a : Answer) (m : Machine) → length (callLine a m) ≤ 33
 line-bound a m = line-fits (numberOfAnswer a) (m .regs .pc) (m .regs .cc .reg) (m .cycles) (number-fits a)

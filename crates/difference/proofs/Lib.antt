@@ -1,0 +1,9 @@
+pub mod Tests
+pub mod EachAddress
+pub mod EachField
+pub mod Whole
+pub mod Listing
+pub mod Turns
+pub mod Calls
+pub mod ReadBack
+pub mod Unique

@@ -1,0 +1,3 @@
+pub mod Differences
+pub mod Compare
+pub mod Laws

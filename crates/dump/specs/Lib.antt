@@ -1,0 +1,2 @@
+pub mod Dumps
+pub mod Told
