@@ -18,7 +18,7 @@ use Rattle.disassembly.specs.declared.Disassembled.the-variants.{Line, R
 
 -- an instruction has 1 to 5 bytes
 abbrev pub OneToFive : Type 0
-OneToFive = (mem : List ℕ) (at : ℕ) (i : Instruction) → decodedAt mem at ≡ Taken i → (at < i .next) × (i .next ≤ at + 5)
+OneToFive = (mem : List ℕ) (at : ℕ) (i : Instruction) → Bytes mem → at < 65536 → decodedAt mem at ≡ Taken i → (at < i .next) × (i .next ≤ at + 5)
 
 -- every operand fits its 20 columns, every mnemonic its five
 abbrev pub OperandShort : Type 0
@@ -29,7 +29,7 @@ MnemonicShort = (e : Entry) → length (mnemonicText e) ≤ 5
 
 -- so the text has 48 bytes, and the lent line keeps its length
 abbrev pub TextOf48 : Type 0
-TextOf48 = (mem : List ℕ) (at : ℕ) (i : Instruction) → decodedAt mem at ≡ Taken i → length (lineOf mem at i) ≡ lineLength
+TextOf48 = (mem : List ℕ) (at : ℕ) (i : Instruction) → Bytes mem → at < 65536 → decodedAt mem at ≡ Taken i → length (lineOf mem at i) ≡ lineLength
 
 -- a refused call leaves every byte of the line
 abbrev pub RefusedLine : Type 0
@@ -43,6 +43,6 @@ instructionBytes (suc n) mem at = instructionBytes n mem at ++ (byteAt mem ((at 
 -- of one length at one address, two that print the same line are the same
 abbrev pub LinesApart : Type 0
 LinesApart =
-    (one other line : List ℕ) (at n : ℕ) → Bytes one → Bytes other
+    (one other line : List ℕ) (at n : ℕ) → Bytes one → Bytes other → at < 65536
     → disassembledOf one at (length line) ≡ Line n → disassembledOf other at (length line) ≡ Line n
     → lineAfter one at line ≡ lineAfter other at line → instructionBytes n one at ≡ instructionBytes n other at

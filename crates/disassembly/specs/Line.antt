@@ -35,10 +35,10 @@ lettersOf m = take (m .len) (m .bytes)
 unfoldable pub mnemonicText : Entry → List ℕ
 mnemonicText e = lettersOf (mnemonicOf (e .op) (ltb 2 (e .size)))
 
--- the address in columns 0 to 3, the bytes from 6 on, the mnemonic from 22 on, the operand from 28 on
+-- four texts in their columns: from 0, 6, 22 and 28 on
+unfoldable pub lineWith : List ℕ → List ℕ → List ℕ → List ℕ → List ℕ
+lineWith address bytes name operand = columns 6 address ++ (columns 16 bytes ++ (columns 6 name ++ columns 20 operand))
+
+-- the address, the bytes, the mnemonic and the operand of an instruction
 unfoldable pub lineOf : List ℕ → ℕ → Instruction → List ℕ
-lineOf mem at i =
-    columns 6 (hex4 at)
-    ++ (columns 16 (bytePairs (i .next - at) mem at)
-    ++ (columns 6 (mnemonicText (i .entry))
-    ++ columns 20 (operandText i mem)))
+lineOf mem at i = lineWith (hex4 at) (bytePairs (i .next - at) mem at) (mnemonicText (i .entry)) (operandText i mem)
