@@ -1,10 +1,11 @@
 //! The declarations of include/doorhawser.h. No proof ties them to crates/host: tests/twin.rs holds the layout, and `abi` has to be `ABI`.
 use std::mem::size_of;
 
-pub const ABI: u64 = 1;
+pub const ABI: u64 = 2;
 pub const MEMORY: usize = 65536;
 pub const RECORD: usize = 68;
 pub const DEVICES: usize = 12;
+pub const LINE: usize = 48;
 
 #[repr(C)]
 #[derive(Clone, Copy, Debug, PartialEq, Eq)]
@@ -127,4 +128,5 @@ extern "C" {
     pub fn doorhawser_newest(journal: *const u8, journal_length: usize, records: u64) -> Part;
     pub fn doorhawser_load(memory: *mut u8, memory_length: usize, text: *const u8, text_length: usize) -> Loaded;
     pub fn doorhawser_save(memory: *const u8, memory_length: usize, start: u16, out: *mut u8, out_length: usize) -> Written;
+    pub fn doorhawser_disassemble(memory: *const u8, memory_length: usize, at: u16, line: *mut u8, line_length: usize) -> Written;
 }

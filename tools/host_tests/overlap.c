@@ -16,6 +16,7 @@ static void make(const char *call, uint8_t *m, size_t ml, uint8_t *o, size_t ol)
     if (!strcmp(call, "undo")) doorhawser_undo(m, ml, o, ol, doorhawser_start());
     if (!strcmp(call, "load")) doorhawser_load(m, ml, o, ol);
     if (!strcmp(call, "save")) doorhawser_save(m, ml, 0, o, ol);
+    if (!strcmp(call, "disassemble")) doorhawser_disassemble(m, ml, 0, o, ol);
 }
 
 int main(int argc, char **argv) {

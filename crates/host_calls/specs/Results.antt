@@ -16,7 +16,7 @@ use Rattle.host_calls.specs.declared.HostWritten.{HostWritten}
 
 -- raised with each change of a struct, or of what a call takes
 abbrev pub abiNumber : ℕ
-abiNumber = 1
+abiNumber = 2
 
 -- where the newest record stands (crate journal), and how long it is: 0 where there is none
 unfoldable pub partOf : List ℕ → ℕ → HostPart

@@ -18,7 +18,7 @@ use journal::RECORD;
 use journal::Twin;
 
 // Raised with each change of a struct, or of what a call takes.
-const ABI: u64 = 1;
+const ABI: u64 = 2;
 
 // `count` bytes of the journal from `at` on; 0 bytes where there is no record.
 #[repr(C)]
