@@ -123,11 +123,11 @@ is-address Relative16 mem at e = no cc
 
 -- so 7 is judged by the same byte
 module _ (mem : List ℕ) (r : Set) (i : Instruction) (o : Origin mem i) where
-  ea : ℕ
+  abbrev ea : ℕ
   ea = effectiveOf (i .operand) mem r (i .next) .ea
 
   by-names : (op : RegisterOp) (t : Bool) → namesTwo op ≡ t → fit (Registers op) (i .entry .mode) ≡ true → codeRefused (Registers op) mem ea ≡ codeRefused (Registers op) mem (immediateAt (i .operand))
-  unfolding fit ea
+  unfolding fit
   by-names op false e f = rw e
   by-names op true e f =
       let m : isImmediate (i .entry .mode) ≡ true = rw e at f in
@@ -150,7 +150,7 @@ module _ (mem : List ℕ) (at room : ℕ) where
   abbrev last : ℕ → Bool → ℕ
   last n t = numberOfLine (cond t (Refused OutputShort) (Line n))
 
-  short : (n : ℕ) (t : Bool) → (last n t ≡ 25) ⊎ (last n t ≡ 0)
+  short : (n : ℕ) (t : Bool) → (last n t ≡ numberOf OutputShort) ⊎ (last n t ≡ 0)
   short n true = inl refl
   short n false = inr refl
 
@@ -162,13 +162,13 @@ module _ (mem : List ℕ) (at room : ℕ) where
   unfolding judged
   of-taken i = refl
 
-  among : (i : Instruction) (s t : Bool) → (rest i s t ≡ 4) ⊎ ((rest i s t ≡ 7) ⊎ ((rest i s t ≡ 25) ⊎ (rest i s t ≡ 0)))
+  among : (i : Instruction) (s t : Bool) → (rest i s t ≡ 4) ⊎ ((rest i s t ≡ 7) ⊎ ((rest i s t ≡ numberOf OutputShort) ⊎ (rest i s t ≡ 0)))
   among i true true = inr (inl refl)
   among i true false = inr (inr (short (i .next - at) (ltb room 48)))
   among i false t = inl refl
 
   -- 3, 5 and 24
-  by-decoding : (x : Refusal) → (numberOf x ≡ 4 → ⊥) → (numberOf x ≡ 7 → ⊥) → (numberOf x ≡ 25 → ⊥) → (numberOf x ≡ 0 → ⊥) → (d : Decoded) → (our d ≡ numberOf x) ↔ (d ≡ NotDecoded x)
+  by-decoding : (x : Refusal) → (numberOf x ≡ 4 → ⊥) → (numberOf x ≡ 7 → ⊥) → (numberOf x ≡ numberOf OutputShort → ⊥) → (numberOf x ≡ 0 → ⊥) → (d : Decoded) → (our d ≡ numberOf x) ↔ (d ≡ NotDecoded x)
   by-decoding x a b c e (NotDecoded y) = (λ q. ap NotDecoded (numbers-apart y x q), λ q. let z : y ≡ x = cc in ap numberOf z)
   by-decoding x a b c e (Taken i) =
       (λ q.
@@ -265,9 +265,9 @@ module _ (mem : List ℕ) (m : Machine) (s : Settings) (room : ℕ) (b : Bytes m
 
   as-reached : reached mem m ≡ ofDecoded mem (m .regs) d
   unfolding reached decodedTo d pc
-  as-reached = rw (eq-eqb (length mem) 65536 (runs .sized), runs .running)
+  as-reached = rw (eq-eqb (length mem) 65536 (runs .sized)) (ap (λ (w : Wait). unlessWaiting w mem (m .regs)) (runs .running))
 
-  by-post-byte : (x : Refusal) → (numberOf x ≡ 4 → ⊥) → (numberOf x ≡ 7 → ⊥) → (numberOf x ≡ 25 → ⊥) → (numberOf x ≡ 0 → ⊥) → {A : Type 0} → (d ≡ NotDecoded x) ↔ A → (number ≡ numberOf x) ↔ A
+  by-post-byte : (x : Refusal) → (numberOf x ≡ 4 → ⊥) → (numberOf x ≡ 7 → ⊥) → (numberOf x ≡ numberOf OutputShort → ⊥) → (numberOf x ≡ 0 → ⊥) → {A : Type 0} → (d ≡ NotDecoded x) ↔ A → (number ≡ numberOf x) ↔ A
   by-post-byte x e f g h q = both (through (by-decoding mem pc room x e f g h d)) q
 
   three : Answers mem m s 3 ↔ (number ≡ 3)
@@ -302,24 +302,20 @@ module _ (mem : List ℕ) (m : Machine) (s : Settings) (room : ℕ) (b : Bytes m
       go true q = let z : withPc (found .regs) (j .next) ≡ r = cc in sym (ap (λ (x : Set). x .pc) z)
       go false q = no cc
 
-  abbrev whether : Bool → Decoded → Disassembled
-  whether u (Taken j) = cond u (Refused OutputShort) (Line (j .next - pc))
-  whether u (NotDecoded x) = Refused x
-
-  abbrev numbered : Instruction → Bool → Bool → Bool → Disassembled
-  numbered j s t u = whether u (cond s (cond t (NotDecoded TransferCode) (Taken j)) (NotDecoded PastEnd))
-
-  length-of : (j : Instruction) (n : ℕ) (s t u : Bool) → numbered j s t u ≡ Line n → n ≡ j .next - pc
-  length-of j n true false false q = cc
-  length-of j n true false true q = no cc
-  length-of j n true true u q = no cc
-  length-of j n false t u q = no cc
+  length-of : (j : Instruction) (n : ℕ) (s t : Bool) → answered (m .regs .pc) room (cond s (cond t (NotDecoded TransferCode) (Taken j)) (NotDecoded PastEnd)) ≡ Line n → n ≡ j .next - m .regs .pc
+  length-of j n true false = inner (ltb room 48)
+    where
+      inner : (u : Bool) → cond u (Refused OutputShort) (Line (j .next - m .regs .pc)) ≡ Line n → n ≡ j .next - m .regs .pc
+      inner true q = no cc
+      inner false q = cc
+  length-of j n true true = λ q. no cc
+  length-of j n false t = λ q. no cc
 
   next-of : (e : Decoded) → decodedAt mem (m .regs .pc) ≡ e → (i : Instruction) (r : Set) (ea n : ℕ) → ofDecoded mem (m .regs) e ≡ At i r ea → answered (m .regs .pc) room (judgedFrom mem e) ≡ Line n → r .pc ≡ m .regs .pc + n
-  unfolding judged pc
+  unfolding judged
   next-of (NotDecoded x) e i r ea n p q = no cc
   next-of (Taken j) e i r ea n p q =
-      let k = length-of j n (leb (j .next) 0xFFFF) (codeRefused (j .entry .op) mem (immediateAt (j .operand))) (ltb room 48) q in
+      let k = length-of j n (leb (j .next) 0xFFFF) (codeRefused (j .entry .op) mem (immediateAt (j .operand))) q in
       omega (arith, pc-after j i r ea p, k, one-to-five mem (m .regs .pc) j b l e .0)
 
   pub same : SameAsStep mem m s room

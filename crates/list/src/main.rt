@@ -9,7 +9,7 @@ use libc::STDOUT_FILENO;
 // One byte more than the longest input, a head of five bytes and 1 MiB of text, so that a longer one is seen.
 const INPUT: usize = 0x10_0006;
 
-// 49 bytes for each of at most 65,535 lines: no text is longer (`list-fits`).
+// 49 bytes for each of at most 65,535 lines: no text is longer, as the contract of `list` says.
 const OUT: usize = 49 * 65536;
 
 // Functions of their own, so that the proof of `main` knows their lengths and nothing of their bytes.
@@ -25,7 +25,7 @@ fn out_buffer() -> [u8; OUT]
     [0; OUT]
 }
 
-// Writes the text, and returns its length, which is at most that of the buffer (`list-fits`).
+// Writes the text, and returns its length, which is at most that of the buffer.
 fn list_into(input: &[u8], out: &mut [u8]) -> usize
     ensures { λ r. ⌜ r ≤ 49 * 65536 ⌝ }
 {

@@ -1,7 +1,7 @@
 -- What is printed of a listing: a line of 48 columns and a line feed for each instruction. The input is a head of five bytes, an address, whether
 -- the listing begins there (1) or where a reset leads (0), and a count of lines, and then the text of an S-record file.
 -- Assumes nothing.
-use Prim.Native.Nat.{ℕ, zero, suc, _+_, _-_, _*_, _≤_}
+use Prim.Native.Nat.{ℕ, zero, suc, _+_, _-_, _*_}
 use mathlib.Core.Bool.{Bool, cond, _&&_}
 use mathlib.Core.List.{List, [], _∷_, _++_}
 use lib.Dec.{eqb, leb, ltb}
@@ -14,7 +14,6 @@ use Rattle.answers.specs.declared.Refusal.the-variants.{Malformed}
 use Rattle.text.specs.Hex.{hex2, hex4}
 use Rattle.text.specs.Lines.{decimal, alone, lineFeed}
 use Rattle.srecord.specs.File.{loadedOf, memoryLoaded}
-use Rattle.memory.specs.Fits.{Bytes}
 use Rattle.memory.specs.Map.{byteAt, wordAt}
 use Rattle.registers.specs.ConditionCodes.{ascii}
 use Rattle.decode.specs.declared.instruction.Decoded.{Decoded}
@@ -85,7 +84,3 @@ listPrinted input =
     cond (isListable input)
     (fileListing (eqb (fromByte input) 1) (headWord 0 input) (headWord 3 input) (drop 5 input))
     (alone (numberOf Malformed))
-
--- the law: at most 65,535 lines of 49 bytes
-abbrev pub ListFits : Type 0
-ListFits = (input : List ℕ) → Bytes input → length (listPrinted input) ≤ 49 * 65536

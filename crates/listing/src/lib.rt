@@ -1,7 +1,7 @@
 // A listing: firmware in S-records, a line for each instruction.
 ghost use mathlib.Core.Path.{_≡_};
 ghost use mathlib.Core.List.{[], _∷_, _++_};
-ghost use Prim.Native.Nat.{_+_, _*_, _<_};
+ghost use Prim.Native.Nat.{_+_, _*_, _≤_, _<_};
 ghost use lib.ListN.{length, replicate};
 ghost use lib.Seq.{sets};
 ghost use Rattle.answers.specs.Numbers.{numberOf};
@@ -106,7 +106,7 @@ fn left_after(left: u16, next: u32) -> u16
 // Writes up to `count` lines from an address on, and returns where they end.
 fn put_lines(out: &mut [u8], mem: &[u8], from: u16, count: u16) -> usize
     requires { ⌜ length (now mem) ≡ 65536 ⌝ }
-    ensures { λ r. ⌜ (r ≡ length (listing count (now (mem .entry)) from)) × (now (out .exit) ≡ sets (now (out .entry)) 0 (listing count (now (mem .entry)) from)) ⌝ }
+    ensures { λ r. ⌜ (r ≡ length (listing count (now (mem .entry)) from)) × ((now (out .exit) ≡ sets (now (out .entry)) 0 (listing count (now (mem .entry)) from)) × (r ≤ 49 * 65536)) ⌝ }
 {
     let mut at = from;
     let mut used = 0;
@@ -124,7 +124,7 @@ fn put_lines(out: &mut [u8], mem: &[u8], from: u16, count: u16) -> usize
 
 // The text of an S-record file, with what the head says.
 fn list_text(text: &[u8], out: &mut [u8], given: bool, at: u16, count: u16) -> usize
-    ensures { λ r. ⌜ (r ≡ length (fileListing given at count (now (text .entry)))) × (now (out .exit) ≡ sets (now (out .entry)) 0 (fileListing given at count (now (text .entry)))) ⌝ }
+    ensures { λ r. ⌜ (r ≡ length (fileListing given at count (now (text .entry)))) × ((now (out .exit) ≡ sets (now (out .entry)) 0 (fileListing given at count (now (text .entry)))) × (r ≤ 49 * 65536)) ⌝ }
 {
     let mut mem = zeroed_memory();
     let loaded = srecord::read(&mut mem, text);
@@ -141,7 +141,7 @@ fn list_text(text: &[u8], out: &mut [u8], given: bool, at: u16, count: u16) -> u
 
 // Writes what the program `list` prints at the front of `out`, and returns its length.
 pub fn list(input: &[u8], out: &mut [u8]) -> usize
-    ensures { λ r. ⌜ (r ≡ length (listPrinted (now (input .entry)))) × (now (out .exit) ≡ sets (now (out .entry)) 0 (listPrinted (now (input .entry)))) ⌝ }
+    ensures { λ r. ⌜ (r ≡ length (listPrinted (now (input .entry)))) × ((now (out .exit) ≡ sets (now (out .entry)) 0 (listPrinted (now (input .entry)))) × (r ≤ 49 * 65536)) ⌝ }
 {
     if input.len() < HEAD {
         return put_refusal(out, Refusal::Malformed);

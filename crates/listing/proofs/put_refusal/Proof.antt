@@ -1,32 +1,21 @@
+-- The number and a line feed, whole.
+-- Assumes nothing.
+use mathlib.Core.Path.{_≡_}
 use borrow.Author.Needs.{needs}
+use Rattle.answers.specs.Numbers.{numberOf}
+use Rattle.text.specs.Lines.{alone, said}
+use Rattle.text.proofs.Texts.{alone-fits, text-is-whole}
 use Rattle.listing.proofs.put_refusal.Statement.{statement}
 use Rattle.listing.proofs.put_refusal.Tie as tie
-use Rattle.listing.proofs.put_refusal.Reads as reads
-use Rattle.listing.proofs.put_refusal.Lts as lts
-use Rattle.answers.proofs.Refusal.number.Reads as number-reads
-use Rattle.text.proofs.lines.Text.put.Reads as put-reads
-use Rattle.text.proofs.alone.Reads as alone-reads
 
--- src/lib.rt:38:17
-number-requires : tie.Need-number-requires
-number-requires c κs = search needs
-
--- src/lib.rt:38:5
-alone-requires : tie.Need-alone-requires
-alone-requires c κs = search needs
-
--- src/lib.rt:38:5
-put-requires : tie.Need-put-requires
-put-requires c κs = search needs
-
--- src/lib.rt:35:1
-same-length : tie.Need-same-length
-same-length c = search needs
-
--- src/lib.rt:35:1
 returns : tie.Need-returns
-returns c = ?
+returns c =
+    let x = c .before .before .before .before .before .before .before .args .refusal in
+    let t = c .before .before .before .before .alone in
+    let e : said (t .result) ≡ alone (numberOf x) = rw (t .ensures, c .before .before .before .before .before .number .ensures) (text-is-whole (alone (numberOf x)) (alone-fits (numberOf x))) in
+    rw (← e) (c .before .before .put .ensures)
 
 pub put-refusal-spec : {M : Type 1} → statement M
 put-refusal-spec =
-    tie.close (tie.spec number-requires alone-requires put-requires same-length returns)
+    tie.close
+    (tie.spec (search needs) (search needs) (search needs) (search needs) returns)

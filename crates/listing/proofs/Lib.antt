@@ -1,0 +1,5 @@
+pub mod Numbers
+pub mod Lines
+pub mod Going
+pub mod Bounds
+pub mod Unique
