@@ -46,7 +46,8 @@ module _ (mem : List ℕ) (h : length mem ≡ 65536) (b : Bytes mem) where
       go true e =
           let k = leb-true (nextAt at) 0xFFFF e in
           let m : nextAt at % 65536 ≡ nextAt at = omega arith in
-          rw m
+          let f : suc (n - 1) - 1 ≡ n - 1 = omega arith in
+          rw (m, f)
       go false e = refl
 
   module _ (out₀ whole : List ℕ) where

@@ -1,5 +1,6 @@
 pub mod Numbers
 pub mod Lines
 pub mod Going
+pub mod Files
 pub mod Bounds
 pub mod Unique

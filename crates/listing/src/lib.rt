@@ -1,5 +1,6 @@
 // A listing: firmware in S-records, a line for each instruction.
 ghost use mathlib.Core.Path.{_≡_};
+ghost use mathlib.Core.Bool.{cond};
 ghost use mathlib.Core.List.{[], _∷_, _++_};
 ghost use Prim.Native.Nat.{_+_, _*_, _≤_, _<_};
 ghost use lib.ListN.{length, replicate};
@@ -122,6 +123,13 @@ fn put_lines(out: &mut [u8], mem: &[u8], from: u16, count: u16) -> usize
     used
 }
 
+// The first address: the one that is given, or where a reset leads.
+fn start(given: bool, at: u16, reset: u16) -> u16
+    ensures { λ r. ⌜ r ≡ cond given at reset ⌝ }
+{
+    if given { at } else { reset }
+}
+
 // The text of an S-record file, with what the head says.
 fn list_text(text: &[u8], out: &mut [u8], given: bool, at: u16, count: u16) -> usize
     ensures { λ r. ⌜ (r ≡ length (fileListing given at count (now (text .entry)))) × ((now (out .exit) ≡ sets (now (out .entry)) 0 (fileListing given at count (now (text .entry)))) × (r ≤ 49 * 65536)) ⌝ }
@@ -132,8 +140,7 @@ fn list_text(text: &[u8], out: &mut [u8], given: bool, at: u16, count: u16) -> u
     match answer {
         Answer::Refused(refusal) => put_refusal(out, refusal),
         Answer::Done => {
-            let reset = memory::read_u16(&mem, RESET);
-            let from = if given { at } else { reset };
+            let from = start(given, at, memory::read_u16(&mem, RESET));
             put_lines(out, &mem, from, count)
         }
     }
