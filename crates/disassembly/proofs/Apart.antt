@@ -30,9 +30,9 @@ same-bytes (suc n) one other at h k e =
     let x = byteAt one ((at + n) % 65536) in
     let y = byteAt other ((at + n) % 65536) in
     let t : l ≡ m =
-        sym (take-at l (hex2 x ++ (space ∷ [])) (3 * n) (pairs-length n one at)) ∙ (ap (take (3 * n)) e ∙ take-at m (hex2 y ++ (space ∷ [])) (3 * n) (pairs-length n other at)) in
+    sym (take-at l (hex2 x ++ (space ∷ [])) (3 * n) (pairs-length n one at)) ∙ (ap (take (3 * n)) e ∙ take-at m (hex2 y ++ (space ∷ [])) (3 * n) (pairs-length n other at)) in
     let d : hex2 x ++ (space ∷ []) ≡ hex2 y ++ (space ∷ []) =
-        sym (drop-at l (hex2 x ++ (space ∷ [])) (3 * n) (pairs-length n one at)) ∙ (ap (drop (3 * n)) e ∙ drop-at m (hex2 y ++ (space ∷ [])) (3 * n) (pairs-length n other at)) in
+    sym (drop-at l (hex2 x ++ (space ∷ [])) (3 * n) (pairs-length n one at)) ∙ (ap (drop (3 * n)) e ∙ drop-at m (hex2 y ++ (space ∷ [])) (3 * n) (pairs-length n other at)) in
     let b : x ≡ y = same-byte x y (byte-fits one h ((at + n) % 65536)) (byte-fits other k ((at + n) % 65536)) d in
     let i = same-bytes n one other at h k t in
     ap (λ (z : List ℕ). z ++ (x ∷ [])) i ∙ ap (λ (z : ℕ). instructionBytes n other at ++ (z ∷ [])) b

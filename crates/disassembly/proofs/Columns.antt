@@ -29,7 +29,7 @@ laid p l rest w at e h =
     let f : at + length l ≤ length (p ++ (s ++ rest)) = omega (arith, e) in
     let k : length l ≤ length s = rw (length-replicate w space) h in
     let d : drop (at + length l) (p ++ (s ++ rest)) ≡ replicate (w - length l) space ++ rest =
-        rw (← e) (drop-append-add p (s ++ rest) (length l) ∙ drop-append-le (length l) s rest k ∙ ap (λ (x : List ℕ). x ++ rest) (drop-spaces (length l) w h)) in
+    rw (← e) (drop-append-add p (s ++ rest) (length l) ∙ drop-append-le (length l) s rest k ∙ ap (λ (x : List ℕ). x ++ rest) (drop-spaces (length l) w h)) in
     sets-eq l (p ++ (s ++ rest)) at f
     ∙ rw (d, take-at p (s ++ rest) at e) (simp append-assoc)
 

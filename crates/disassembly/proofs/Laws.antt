@@ -117,8 +117,8 @@ column mem rest at n i e h =
     let tail = replicate (16 - length p) space ++ (columns 6 (mnemonicText (i .entry)) ++ columns 20 (operandText i mem)) in
     let parts = columns 6 (mnemonicText (i .entry)) ++ columns 20 (operandText i mem) in
     let f : lineOf mem at i ++ rest ≡ columns 6 (hex4 at) ++ (p ++ (tail ++ rest)) =
-        ap (λ (m : ℕ). (columns 6 (hex4 at) ++ (columns 16 (bytePairs m mem at) ++ parts)) ++ rest) (sym e)
-        ∙ regrouped (columns 6 (hex4 at)) p (replicate (16 - length p) space) parts rest in
+    ap (λ (m : ℕ). (columns 6 (hex4 at) ++ (columns 16 (bytePairs m mem at) ++ parts)) ++ rest) (sym e)
+    ∙ regrouped (columns 6 (hex4 at)) p (replicate (16 - length p) space) parts rest in
     rw f (ap (take (3 * n)) (drop-at (columns 6 (hex4 at)) (p ++ (tail ++ rest)) 6 refl) ∙ take-at p (tail ++ rest) (3 * n) (pairs-length n mem at))
 
 pub lines-apart : LinesApart

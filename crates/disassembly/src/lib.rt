@@ -37,9 +37,7 @@ fn code_refused(mem: &[u8], op: Op, at: u16) -> bool
     ensures { λ r. ⌜ r ≡ codeRefused op (now (mem .entry)) at ⌝ }
 {
     match op {
-        Op::Registers(on) => {
-            names_two(on) & !operations::transferable(memory::read_u8(mem, at))
-        }
+        Op::Registers(on) => { names_two(on) & !operations::transferable(memory::read_u8(mem, at)) }
         Op::Memory(_) => false,
     }
 }

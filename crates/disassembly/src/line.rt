@@ -15,7 +15,9 @@ pub const LINE: usize = 48;
 
 // Where the bytes, the mnemonic and the operand begin.
 const BYTES: usize = 6;
+
 const MNEMONIC: usize = 22;
+
 const OPERAND: usize = 28;
 
 fn spaces() -> [u8; LINE]

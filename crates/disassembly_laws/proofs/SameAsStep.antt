@@ -170,11 +170,12 @@ module _ (mem : List ℕ) (at room : ℕ) where
   -- 3, 5 and 24
   by-decoding : (x : Refusal) → (numberOf x ≡ 4 → ⊥) → (numberOf x ≡ 7 → ⊥) → (numberOf x ≡ numberOf OutputShort → ⊥) → (numberOf x ≡ 0 → ⊥) → (d : Decoded) → (our d ≡ numberOf x) ↔ (d ≡ NotDecoded x)
   by-decoding x a b c e (NotDecoded y) = (λ q. ap NotDecoded (numbers-apart y x q), λ q. let z : y ≡ x = cc in ap numberOf z)
-  by-decoding x a b c e (Taken i) =
-      (λ q.
-      let n = sym (of-taken i) ∙ q in
-      absurd (⊎-elim (λ p. a (sym n ∙ p)) (λ p. ⊎-elim (λ u. b (sym n ∙ u)) (λ u. ⊎-elim (λ v. c (sym n ∙ v)) (λ v. e (sym n ∙ v)) u) p) (among i (leb (i .next) 0xFFFF) (codeRefused (i .entry .op) mem (immediateAt (i .operand))))),
-      λ q. no cc)
+  by-decoding x a b c e (Taken i) = (
+    λ q.
+        let n = sym (of-taken i) ∙ q in
+        absurd (⊎-elim (λ p. a (sym n ∙ p)) (λ p. ⊎-elim (λ u. b (sym n ∙ u)) (λ u. ⊎-elim (λ v. c (sym n ∙ v)) (λ v. e (sym n ∙ v)) u) p) (among i (leb (i .next) 0xFFFF) (codeRefused (i .entry .op) mem (immediateAt (i .operand))))),
+    λ q. no cc,
+  )
 
   -- 4
   by-next : (i : Instruction) (s : Bool) → leb (i .next) 0xFFFF ≡ s → (t : Bool) → (rest i s t ≡ 4) ↔ (0xFFFF < i .next)

@@ -39,7 +39,7 @@ loop-again c =
     let t = c .before .before .before .before .before .before .before .before .line-at .ensures in (
       omega arith,
       turn (s .args .mem .now) (s .pre) (λ k. omega (arith, c .before .before .before .before .before .before .before .before .before .before .before .shared-slice-known .given k)) (s .args .out .now) (listing (s .args .count) (s .args .mem .now) (s .args .from))
-      (l .left) (l .used) (l .out) (l .at) (l .inv .0) (l .inv .1) (c .before .before .before .before .before .before .before .before .before .loop-test .taken) (t .0) (t .1) (c .before .before .before .before .put .ensures) (c .before .left-after .ensures),
+          (l .left) (l .used) (l .out) (l .at) (l .inv .0) (l .inv .1) (c .before .before .before .before .before .before .before .before .before .loop-test .taken) (t .0) (t .1) (c .before .before .before .before .put .ensures) (c .before .left-after .ensures),
     )
 
 returns : tie.Need-returns Inv-loop μ-loop
