@@ -1,4 +1,4 @@
--- No refusal is numbered 0, none is numbered 6 any more, and no two refusals have one number.
+-- No refusal is numbered 0, none is numbered 6 any more or above 63, and no two refusals have one number.
 -- Assumes nothing.
 use Prim.Native.Nat.{ℕ}
 use mathlib.Core.Bool.{cond}
@@ -6,9 +6,9 @@ use mathlib.Core.List.{List, [], _∷_}
 use mathlib.Core.Path.{_≡_, refl, sym, ap, _∙_}
 use native.Mathlib.Omega.{arith}
 use lib.ListN.{getD}
-use Rattle.answers.specs.Numbers.{numberOf, RefusedByANumber, SixWithdrawn, NumbersApart}
+use Rattle.answers.specs.Numbers.{numberOf, RefusedByANumber, SixWithdrawn, NumbersApart, NumbersSmall}
 use Rattle.answers.specs.declared.Refusal.{Refusal}
-use Rattle.answers.specs.declared.Refusal.the-variants.{MemoryLength, Waiting, Opcode, PastEnd, PostByte, TransferCode, StackTooSmall, ZeroAtVector, JournalFull, NoRecord, JournalLength, DivisionByZero, LeftByte, NoRoom, Malformed, OutputShort, LineShape, Checksum, PastTop, NoEnd, PostByte8F}
+use Rattle.answers.specs.declared.Refusal.the-variants.{MemoryLength, Waiting, Opcode, PastEnd, PostByte, TransferCode, StackTooSmall, ZeroAtVector, JournalFull, NoRecord, JournalLength, DivisionByZero, LeftByte, NoRoom, Malformed, OutputShort, LineShape, Checksum, PastTop, NoEnd, PostByte8F, LineShort}
 
 pub refused-by-a-number : RefusedByANumber
 refused-by-a-number MemoryLength = omega arith
@@ -32,12 +32,37 @@ refused-by-a-number Checksum = omega arith
 refused-by-a-number PastTop = omega arith
 refused-by-a-number NoEnd = omega arith
 refused-by-a-number PostByte8F = omega arith
+refused-by-a-number LineShort = omega arith
+
+pub numbers-small : NumbersSmall
+numbers-small MemoryLength = omega arith
+numbers-small Waiting = omega arith
+numbers-small Opcode = omega arith
+numbers-small PastEnd = omega arith
+numbers-small PostByte = omega arith
+numbers-small TransferCode = omega arith
+numbers-small StackTooSmall = omega arith
+numbers-small ZeroAtVector = omega arith
+numbers-small JournalFull = omega arith
+numbers-small NoRecord = omega arith
+numbers-small JournalLength = omega arith
+numbers-small DivisionByZero = omega arith
+numbers-small LeftByte = omega arith
+numbers-small NoRoom = omega arith
+numbers-small Malformed = omega arith
+numbers-small OutputShort = omega arith
+numbers-small LineShape = omega arith
+numbers-small Checksum = omega arith
+numbers-small PastTop = omega arith
+numbers-small NoEnd = omega arith
+numbers-small PostByte8F = omega arith
+numbers-small LineShort = omega arith
 
 -- the refusal of a number, by the table's places; 6, 18 and 19 are not used
 abbrev refusalOf : ℕ → Refusal
 refusalOf n =
     getD
-    (PostByte8F ∷ MemoryLength ∷ Waiting ∷ Opcode ∷ PastEnd ∷ PostByte ∷ PostByte8F ∷ TransferCode ∷ StackTooSmall ∷ ZeroAtVector ∷ JournalFull ∷ NoRecord ∷ JournalLength ∷ DivisionByZero ∷ LeftByte ∷ NoRoom ∷ Malformed ∷ OutputShort ∷ PostByte8F ∷ PostByte8F ∷ LineShape ∷ Checksum ∷ PastTop ∷ NoEnd ∷ [])
+    (PostByte8F ∷ MemoryLength ∷ Waiting ∷ Opcode ∷ PastEnd ∷ PostByte ∷ PostByte8F ∷ TransferCode ∷ StackTooSmall ∷ ZeroAtVector ∷ JournalFull ∷ NoRecord ∷ JournalLength ∷ DivisionByZero ∷ LeftByte ∷ NoRoom ∷ Malformed ∷ OutputShort ∷ PostByte8F ∷ PostByte8F ∷ LineShape ∷ Checksum ∷ PastTop ∷ NoEnd ∷ PostByte8F ∷ LineShort ∷ [])
     n PostByte8F
 
 back : (x : Refusal) → refusalOf (numberOf x) ≡ x
@@ -62,6 +87,7 @@ back Checksum = refl
 back PastTop = refl
 back NoEnd = refl
 back PostByte8F = refl
+back LineShort = refl
 
 pub numbers-apart : NumbersApart
 numbers-apart x y e = sym (back x) ∙ (ap refusalOf e ∙ back y)

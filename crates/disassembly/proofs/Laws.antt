@@ -11,7 +11,7 @@ use lib.ListN.{length, take, drop, replicate}
 use lib.Seq.{take-at, drop-at}
 use Rattle.text.specs.Hex.{hex4}
 use Rattle.answers.specs.declared.Refusal.{Refusal}
-use Rattle.answers.specs.declared.Refusal.the-variants.{MemoryLength, PastEnd, TransferCode, OutputShort}
+use Rattle.answers.specs.declared.Refusal.the-variants.{MemoryLength, PastEnd, TransferCode, LineShort}
 use Rattle.memory.specs.Fits.{Bytes}
 use Rattle.decode.specs.Decode.{decodedAt}
 use Rattle.decode.specs.declared.instruction.Decoded.{Decoded}

@@ -6,7 +6,7 @@ use mathlib.Core.Bool.{cond}
 use mathlib.Core.List.{List, _++_}
 use lib.Dec.{eqb, leb, ltb}
 use lib.ListN.{length, drop}
-use Rattle.answers.specs.declared.Refusal.the-variants.{MemoryLength, PastEnd, TransferCode, OutputShort}
+use Rattle.answers.specs.declared.Refusal.the-variants.{MemoryLength, PastEnd, TransferCode, LineShort}
 use Rattle.decode.specs.Decode.{decodedAt}
 use Rattle.decode.specs.declared.instruction.Decoded.{Decoded}
 use Rattle.decode.specs.declared.instruction.Decoded.the-variants.{Instruction as Taken, Refused as NotDecoded}
@@ -44,7 +44,7 @@ legible mem at = judgedFrom mem (decodedAt mem at)
 
 -- how long the instruction is, or the refusal
 abbrev pub answered : ℕ → ℕ → Decoded → Disassembled
-answered at room (Taken i) = cond (ltb room lineLength) (Refused OutputShort) (Line (i .next - at))
+answered at room (Taken i) = cond (ltb room lineLength) (Refused LineShort) (Line (i .next - at))
 answered at room (NotDecoded x) = Refused x
 
 unfoldable pub disassembledOf : List ℕ → ℕ → ℕ → Disassembled

@@ -12,7 +12,7 @@ use lib.Dec.{T, eqb, leb, ltb}
 use lib.ListN.{length}
 use Rattle.answers.specs.Numbers.{numberOf}
 use Rattle.answers.specs.declared.Refusal.{Refusal}
-use Rattle.answers.specs.declared.Refusal.the-variants.{MemoryLength, Opcode, PastEnd, PostByte, PostByte8F, TransferCode, OutputShort}
+use Rattle.answers.specs.declared.Refusal.the-variants.{MemoryLength, Opcode, PastEnd, PostByte, PostByte8F, TransferCode, LineShort}
 use Rattle.answers.proofs.Numbers.{numbers-apart}
 use Rattle.registers.specs.RegisterSet.{withPc}
 use Rattle.registers.specs.declared.Set.{Set}
@@ -148,9 +148,9 @@ module _ (mem : List ℕ) (at room : ℕ) where
   our d = numberOfLine (answered at room (judgedFrom mem d))
 
   abbrev last : ℕ → Bool → ℕ
-  last n t = numberOfLine (cond t (Refused OutputShort) (Line n))
+  last n t = numberOfLine (cond t (Refused LineShort) (Line n))
 
-  short : (n : ℕ) (t : Bool) → (last n t ≡ numberOf OutputShort) ⊎ (last n t ≡ 0)
+  short : (n : ℕ) (t : Bool) → (last n t ≡ numberOf LineShort) ⊎ (last n t ≡ 0)
   short n true = inl refl
   short n false = inr refl
 
@@ -162,13 +162,13 @@ module _ (mem : List ℕ) (at room : ℕ) where
   unfolding judged
   of-taken i = refl
 
-  among : (i : Instruction) (s t : Bool) → (rest i s t ≡ 4) ⊎ ((rest i s t ≡ 7) ⊎ ((rest i s t ≡ numberOf OutputShort) ⊎ (rest i s t ≡ 0)))
+  among : (i : Instruction) (s t : Bool) → (rest i s t ≡ 4) ⊎ ((rest i s t ≡ 7) ⊎ ((rest i s t ≡ numberOf LineShort) ⊎ (rest i s t ≡ 0)))
   among i true true = inr (inl refl)
   among i true false = inr (inr (short (i .next - at) (ltb room 48)))
   among i false t = inl refl
 
   -- 3, 5 and 24
-  by-decoding : (x : Refusal) → (numberOf x ≡ 4 → ⊥) → (numberOf x ≡ 7 → ⊥) → (numberOf x ≡ numberOf OutputShort → ⊥) → (numberOf x ≡ 0 → ⊥) → (d : Decoded) → (our d ≡ numberOf x) ↔ (d ≡ NotDecoded x)
+  by-decoding : (x : Refusal) → (numberOf x ≡ 4 → ⊥) → (numberOf x ≡ 7 → ⊥) → (numberOf x ≡ numberOf LineShort → ⊥) → (numberOf x ≡ 0 → ⊥) → (d : Decoded) → (our d ≡ numberOf x) ↔ (d ≡ NotDecoded x)
   by-decoding x a b c e (NotDecoded y) = (λ q. ap NotDecoded (numbers-apart y x q), λ q. let z : y ≡ x = cc in ap numberOf z)
   by-decoding x a b c e (Taken i) = (
     λ q.
@@ -268,7 +268,7 @@ module _ (mem : List ℕ) (m : Machine) (s : Settings) (room : ℕ) (b : Bytes m
   unfolding reached decodedTo d pc
   as-reached = rw (eq-eqb (length mem) 65536 (runs .sized)) (ap (λ (w : Wait). unlessWaiting w mem (m .regs)) (runs .running))
 
-  by-post-byte : (x : Refusal) → (numberOf x ≡ 4 → ⊥) → (numberOf x ≡ 7 → ⊥) → (numberOf x ≡ numberOf OutputShort → ⊥) → (numberOf x ≡ 0 → ⊥) → {A : Type 0} → (d ≡ NotDecoded x) ↔ A → (number ≡ numberOf x) ↔ A
+  by-post-byte : (x : Refusal) → (numberOf x ≡ 4 → ⊥) → (numberOf x ≡ 7 → ⊥) → (numberOf x ≡ numberOf LineShort → ⊥) → (numberOf x ≡ 0 → ⊥) → {A : Type 0} → (d ≡ NotDecoded x) ↔ A → (number ≡ numberOf x) ↔ A
   by-post-byte x e f g h q = both (through (by-decoding mem pc room x e f g h d)) q
 
   three : Answers mem m s 3 ↔ (number ≡ 3)
@@ -306,7 +306,7 @@ module _ (mem : List ℕ) (m : Machine) (s : Settings) (room : ℕ) (b : Bytes m
   length-of : (j : Instruction) (n : ℕ) (s t : Bool) → answered (m .regs .pc) room (cond s (cond t (NotDecoded TransferCode) (Taken j)) (NotDecoded PastEnd)) ≡ Line n → n ≡ j .next - m .regs .pc
   length-of j n true false = inner (ltb room 48)
     where
-      inner : (u : Bool) → cond u (Refused OutputShort) (Line (j .next - m .regs .pc)) ≡ Line n → n ≡ j .next - m .regs .pc
+      inner : (u : Bool) → cond u (Refused LineShort) (Line (j .next - m .regs .pc)) ≡ Line n → n ≡ j .next - m .regs .pc
       inner true q = no cc
       inner false q = cc
   length-of j n true true = λ q. no cc

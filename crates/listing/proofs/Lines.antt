@@ -11,6 +11,7 @@ use lib.ListN.{length, drop, replicate, length-append}
 use lib.Seq.{sets, drop-at}
 use Rattle.answers.specs.Numbers.{numberOf}
 use Rattle.answers.specs.declared.Refusal.{Refusal}
+use Rattle.answers.proofs.Numbers.{numbers-small}
 use Rattle.text.specs.Hex.{hex2, hex4}
 use Rattle.text.specs.Lines.{decimal, lineFeed}
 use Rattle.text.proofs.Decimals.{at-most-three}
@@ -29,7 +30,6 @@ use Rattle.disassembly.specs.declared.Disassembled.the-variants.{Line, Refused}
 use Rattle.disassembly.proofs.Columns.{columns-length, laid, line-length}
 use Rattle.disassembly.proofs.Laws.{Room, room, legible-taken, text-of-48}
 use Rattle.listing.specs.Listing.{refusedText, refusedAt, lineFrom, nextFrom}
-use Rattle.listing.proofs.Numbers.{number-small}
 
 -- ---- four texts over a blank line
 
@@ -65,7 +65,7 @@ parts l n b =
     sym (sets-append l (code "$" ∷ []) (hex2 b ++ (t ++ n)) 28 ∙ (sets-append (sets l 28 (code "$" ∷ [])) (hex2 b) (t ++ n) 29 ∙ sets-append (sets (sets l 28 (code "$" ∷ [])) 29 (hex2 b)) t n 31))
 
 refused-short : (b : ℕ) (x : Refusal) → length (refusedText b x) ≤ 20
-refused-short b x = rw (length-append (ascii "  REFUSED BY ") (decimal (numberOf x))) (omega (arith, at-most-three (numberOf x) (number-small x)))
+refused-short b x = rw (length-append (ascii "  REFUSED BY ") (decimal (numberOf x))) (omega (arith, at-most-three (numberOf x) (omega (arith, numbers-small x))))
 
 module _ (mem : List ℕ) (at : ℕ) (x : Refusal) where
   pub refused-laid : (l₁ l₂ l₃ l₄ : List ℕ) → l₁ ≡ sets (replicate 48 space ++ (lineFeed ∷ [])) 0 (hex4 at) → l₂ ≡ sets l₁ 6 (hex2 (byteAt mem at)) → l₃ ≡ sets l₂ 22 (ascii "FCB")

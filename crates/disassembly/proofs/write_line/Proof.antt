@@ -12,8 +12,8 @@ use Rattle.disassembly.specs.Operands.{operandText}
 use Rattle.disassembly.specs.Line.{space, lineLength, bytePairs, mnemonicText, lineOf}
 use Rattle.disassembly.proofs.Widths.{operand-short, mnemonic-short}
 use Rattle.disassembly.proofs.Columns.{pairs-length, lent-rest, whole, whole-length}
-use Rattle.disassembly.proofs.line.write_line.Statement.{statement}
-use Rattle.disassembly.proofs.line.write_line.Tie as tie
+use Rattle.disassembly.proofs.write_line.Statement.{statement}
+use Rattle.disassembly.proofs.write_line.Tie as tie
 
 returns : tie.Need-returns
 unfolding lineOf
