@@ -3,7 +3,7 @@
 use Prim.Native.Nat.{ℕ, _+_, _-_, _≤_, _<_}
 use mathlib.Core.Path.{_≡_, refl, sym, ap, subst, _∙_}
 use mathlib.Core.Bool.{Bool, true, false, cond, not, _&&_, _||_}
-use mathlib.Core.List.{List}
+use mathlib.Core.List.{List, reverse}
 use mathlib.Core.Logic.{_↔_, _⊎_, inl, inr, ⊎-elim}
 use native.Mathlib.Nat.{mod-add-mod}
 use native.Mathlib.Omega.{arith}
@@ -15,7 +15,10 @@ use Rattle.answers.specs.declared.Refusal.{Refusal}
 use Rattle.answers.specs.declared.Refusal.the-variants.{MemoryLength, Opcode, PastEnd, PostByte, PostByte8F, TransferCode, LineShort}
 use Rattle.answers.proofs.Numbers.{numbers-apart}
 use Rattle.registers.specs.RegisterSet.{withPc}
+use Rattle.registers.specs.ConditionCodes.{bitAt}
 use Rattle.registers.specs.declared.Set.{Set}
+use Rattle.registers.specs.declared.Stack.{Stack}
+use Rattle.registers.specs.declared.Stack.the-variants.{S as stackS, U as stackU}
 use Rattle.memory.specs.Fits.{Bytes}
 use Rattle.memory.specs.Map.{byteAt}
 use Rattle.machine.specs.declared.Machine.{Machine}
@@ -55,17 +58,29 @@ use Rattle.addressing.specs.declared.Addressed.{Addressed}
 use Rattle.addressing.specs.declared.Resolved.the-variants.{At as Resolves, Refused as NoAddress}
 use Rattle.operations.specs.Refusals.{namesTwo, codeRefused}
 use Rattle.operations.specs.Transfers.{transferable}
+use Rattle.stack.specs.Pushing.{order, chosen}
 use Rattle.calls.specs.Steps.{Reached, At, NotReached, addressed, ofDecoded, decodedTo, unlessWaiting, reached}
 use Rattle.refusals.specs.Steps.{Runs, NextPast, Met, StepRefused, Answers}
 use Rattle.refusals.proofs.Steps.{steps-refused}
+use Rattle.disassembly.specs.Names.{nameText, slotText, listText}
 use Rattle.disassembly.specs.Disassembly.{immediateAt, judged, judgedFrom, legible, answered, disassembledOf}
 use Rattle.disassembly.specs.declared.Disassembled.{Disassembled}
 use Rattle.disassembly.specs.declared.Disassembled.the-variants.{Line, Refused}
 use Rattle.disassembly.proofs.Spans.{one-to-five}
-use Rattle.disassembly_laws.specs.SameAsStep.{numberOfLine, OfInstruction, SameAsStep, DisassemblesAsStep, TargetOfStep}
+use Rattle.disassembly_laws.specs.SameAsStep.{numberOfLine, OfInstruction, SameAsStep, DisassemblesAsStep, TargetOfStep, commaBetween, ListsWhatIsPulled}
 
 pub target-of-step : TargetOfStep
 target-of-step r next n = mod-add-mod next 65536 n
+
+-- one test of the 256 post-bytes for each stack
+all-listed : (stack : Stack) → values (λ (post : ℕ). listText stack post) 0 256 ≡ values (λ (post : ℕ). commaBetween (chosen post (reverse (order stack)))) 0 256
+unfolding slotText nameText chosen bitAt
+all-listed stackS = refl
+all-listed stackU = refl
+
+pub lists-what-is-pulled : ListsWhatIsPulled
+lists-what-is-pulled stack post l =
+    alike (λ (post : ℕ). listText stack post) (λ (post : ℕ). commaBetween (chosen post (reverse (order stack)))) 256 (all-listed stack) post l
 
 no : {A : Type 0} → _≡_ {A = ℕ} 0 1 → A
 no z = absurd (omega arith)

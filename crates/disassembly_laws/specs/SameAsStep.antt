@@ -1,22 +1,26 @@
--- A disassembly reads the instruction as a step does (document 02, request [7]): the same refusals, the same length, the same targets. All over
+-- A disassembly reads the instruction as a step does (document 02, request [7]): the same refusals, length, targets and registers. All over
 -- the definitions of both, so that what changes in decoding changes in both.
 -- Assumes nothing.
 use Prim.Native.Nat.{ℕ, _+_, _<_}
 use mathlib.Core.Bool.{_||_}
-use mathlib.Core.List.{List}
+use mathlib.Core.List.{List, [], _∷_, _++_, reverse}
 use mathlib.Core.Logic.{_↔_}
 use mathlib.Core.Path.{_≡_}
 use lib.Dec.{T, eqb}
 use Rattle.answers.specs.Numbers.{numberOf}
+use Rattle.registers.specs.declared.Name.{Name}
 use Rattle.registers.specs.declared.Set.{Set}
+use Rattle.registers.specs.declared.Stack.{Stack}
 use Rattle.memory.specs.Fits.{Bytes}
 use Rattle.machine.specs.declared.Machine.{Machine}
 use Rattle.machine.specs.declared.Settings.{Settings}
 use Rattle.decode.specs.declared.instruction.Instruction.{Instruction}
 use Rattle.addressing.specs.Address.{programRelative}
+use Rattle.stack.specs.Pushing.{order, chosen}
 use Rattle.calls.specs.Steps.{At, reached}
 use Rattle.refusals.specs.Steps.{Runs, Answers}
 use Rattle.disassembly.specs.Figures.{target}
+use Rattle.disassembly.specs.Names.{nameText, comma, listText}
 use Rattle.disassembly.specs.Disassembly.{disassembledOf}
 use Rattle.disassembly.specs.declared.Disassembled.{Disassembled}
 use Rattle.disassembly.specs.declared.Disassembled.the-variants.{Line, Refused}
@@ -43,3 +47,12 @@ DisassemblesAsStep = (mem : List ℕ) (m : Machine) (s : Settings) (room : ℕ) 
 -- the target of a branch, and of n,PCR, is the effective address of the step
 abbrev pub TargetOfStep : Type 0
 TargetOfStep = (r : Set) (next n : ℕ) → programRelative r next n .ea ≡ target next n
+
+-- the list of PSH and PUL has the registers that a step pulls, in the order in which it pulls them, a comma between
+abbrev pub commaBetween : List Name → List ℕ
+commaBetween [] = []
+commaBetween (name ∷ []) = nameText name
+commaBetween (name ∷ next ∷ rest) = nameText name ++ (comma ∷ commaBetween (next ∷ rest))
+
+abbrev pub ListsWhatIsPulled : Type 0
+ListsWhatIsPulled = (stack : Stack) (post : ℕ) → post < 256 → listText stack post ≡ commaBetween (chosen post (reverse (order stack)))

@@ -10,6 +10,7 @@ use lib.Seq.{sets, take-suc, take-all, length-take-le}
 use Rattle.answers.specs.Numbers.{numberOfAnswer}
 use Rattle.answers.specs.declared.Answer.{Answer}
 use Rattle.answers.specs.declared.Answer.the-variants.{Done, Refused}
+use Rattle.answers.specs.declared.Refusal.{Refusal}
 use Rattle.answers.proofs.Numbers.{numbers-small}
 use Rattle.text.proofs.Stores.{sets-append}
 use Rattle.text.proofs.Texts.{line-fits}
