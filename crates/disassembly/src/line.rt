@@ -10,11 +10,11 @@ use text::Text;
 pub const LINE: usize = 48;
 
 // Where the bytes, the mnemonic and the operand begin.
-const BYTES: usize = 6;
+pub const BYTES: usize = 6;
 
 const MNEMONIC: usize = 22;
 
-const OPERAND: usize = 28;
+pub const OPERAND: usize = 28;
 
 pub fn spaces() -> [u8; LINE]
     ensures { λ r. ⌜ r ≡ replicate lineLength space ⌝ }
