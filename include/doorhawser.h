@@ -19,7 +19,7 @@
  * What the prover does not see, and the host owes:
  *   - Pointers and lengths. A pointer with its length names bytes that are there, to be read, and written unless it is const. With length
  *     0 the pointer may be null.
- *   - Overlap. Two buffers that are lent to one call have no byte in common: memory and journal, memory and text, memory and output, text, output and list. Where
+ *   - Overlap. Two buffers that are lent to one call have no byte in common: memory and journal, memory and text, memory and output, memory and line, text, output and list. Where
  *     they have, nothing is reported: the calls are answered 0, and undo silently fails to restore. DOORHAWSER_DEBUG, below, looks.
  *   - Other writers. Nobody else writes a lent buffer during a call. The journal's bytes are the calls' own: between calls the host may
  *     copy and move them, and changes none. A host that changes memory between calls gets back by undo what the calls changed, and no more.
@@ -45,7 +45,7 @@ extern "C" {
 
 /* Raised by each change of a struct below, or of what a call takes. */
 enum { DOORHAWSER_ABI = 3 };
-enum { DOORHAWSER_MEMORY = 65536, DOORHAWSER_RECORD = 70, DOORHAWSER_DEVICES = 12 }; /* a record has at most 70 bytes */
+enum { DOORHAWSER_MEMORY = 65536, DOORHAWSER_RECORD = 70, DOORHAWSER_DEVICES = 12, DOORHAWSER_LINE = 48 }; /* a record has at most 70 bytes */
 
 enum { DOORHAWSER_BOUGHT = 0, DOORHAWSER_MANUAL = 1 };                     /* flags: as the bought emulator sets them, or by the manual */
 enum { DOORHAWSER_RUNNING = 0, DOORHAWSER_CWAI = 1, DOORHAWSER_SYNC = 2 }; /* wait */
@@ -71,6 +71,7 @@ enum {
     DOORHAWSER_PAST_TOP = 22,        /* load: data past FFFF */
     DOORHAWSER_NO_END = 23,          /* load: no S9 */
     DOORHAWSER_POST_BYTE_8F = 24,    /* a post-byte of low form 8F other than 9F */
+    DOORHAWSER_LINE_SHORT = 25,      /* disassemble: the line is shorter than 48 bytes */
     DOORHAWSER_TOO_FEW_RECORDS = 26, /* drop of more records than are held */
     DOORHAWSER_SALVAGE_SHORT = 29,   /* salvage: the output or the list is too short */
     DOORHAWSER_UNNAMED = 64          /* wait, armed, flags or which outside its range, or a spare field not 0; judged before all others */
@@ -231,6 +232,11 @@ doorhawser_written doorhawser_save(const uint8_t *memory, size_t memory_length, 
 doorhawser_salvaged doorhawser_salvage(const uint8_t *text, size_t text_length, uint8_t *out, size_t out_length, uint8_t *list,
                                        size_t list_length);
 
+/* The text of the instruction at an address, in the first 48 bytes of `line` (docs/DISASSEMBLY.md); the others stay. `count` is how many bytes
+ * the instruction has, 1 to 5; 0 where it is refused, by 1, 3, 4, 5, 24, 7 or 25, and then every byte of the line stays. The instruction is
+ * decoded as a step decodes it; no register is read and no pointer is followed. */
+doorhawser_written doorhawser_disassemble(const uint8_t *memory, size_t memory_length, uint16_t at, uint8_t *line, size_t line_length);
+
 /* Where in memory the byte lies that the processor reads at an address: FFE0-FFFF is read 4000 lower. */
 static inline uint16_t doorhawser_place(uint16_t at) {
     return at >= 0xFFE0 ? (uint16_t)(at - 0x4000) : at;
@@ -298,6 +304,12 @@ static inline doorhawser_salvaged doorhawser_debug_salvage(const char *file, int
     return doorhawser_salvage(text, text_length, out, out_length, list, list_length);
 }
 
+static inline doorhawser_written doorhawser_debug_disassemble(const char *file, int line_number, const uint8_t *memory,
+                                                              size_t memory_length, uint16_t at, uint8_t *line, size_t line_length) {
+    doorhawser_apart(file, line_number, "doorhawser_disassemble", memory, memory_length, line, line_length);
+    return doorhawser_disassemble(memory, memory_length, at, line, line_length);
+}
+
 /* Variadic, so that a struct may be written out in a call: its commas are not the macro's. */
 #define doorhawser_step(...) doorhawser_debug_step(__FILE__, __LINE__, __VA_ARGS__)
 #define doorhawser_interrupt(...) doorhawser_debug_interrupt(__FILE__, __LINE__, __VA_ARGS__)
@@ -306,6 +318,7 @@ static inline doorhawser_salvaged doorhawser_debug_salvage(const char *file, int
 #define doorhawser_load(...) doorhawser_debug_load(__FILE__, __LINE__, __VA_ARGS__)
 #define doorhawser_save(...) doorhawser_debug_save(__FILE__, __LINE__, __VA_ARGS__)
 #define doorhawser_salvage(...) doorhawser_debug_salvage(__FILE__, __LINE__, __VA_ARGS__)
+#define doorhawser_disassemble(...) doorhawser_debug_disassemble(__FILE__, __LINE__, __VA_ARGS__)
 #endif
 
 #ifdef __cplusplus

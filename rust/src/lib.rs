@@ -375,6 +375,19 @@ impl Twin {
         out.truncate(w.count as usize);
         out
     }
+
+    /// The text of the instruction at an address, without the spaces at its end, and how many bytes the instruction has. docs/DISASSEMBLY.md
+    /// has its columns.
+    pub fn disassemble(&self, at: u16) -> Result<(String, u16), Refused> {
+        let mut line = [b' '; raw::LINE];
+        // Safety: the line is a buffer of its own, with its length; memory is only read.
+        let w = unsafe { raw::doorhawser_disassemble(self.memory.as_ptr(), MEMORY, at, line.as_mut_ptr(), line.len()) };
+        if w.answer == 0 {
+            Ok((String::from_utf8_lossy(&line).trim_end().to_string(), w.count as u16))
+        } else {
+            Err(Refused(w.answer))
+        }
+    }
 }
 
 impl fmt::Debug for Twin {

@@ -5,6 +5,7 @@ pub const ABI: u64 = 3;
 pub const MEMORY: usize = 65536;
 pub const RECORD: usize = 70;
 pub const DEVICES: usize = 12;
+pub const LINE: usize = 48;
 
 #[repr(C)]
 #[derive(Clone, Copy, Debug, PartialEq, Eq)]
@@ -145,4 +146,5 @@ extern "C" {
         list: *mut u8,
         list_length: usize,
     ) -> Salvaged;
+    pub fn doorhawser_disassemble(memory: *const u8, memory_length: usize, at: u16, line: *mut u8, line_length: usize) -> Written;
 }

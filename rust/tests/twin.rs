@@ -175,6 +175,15 @@ fn records_are_read_and_written() {
 }
 
 #[test]
+fn an_instruction_is_disassembled() {
+    let mut t = twin(Flags::Manual, 0);
+    put(&mut t, 0x1000, &[0x6E, 0x9F, 0x21, 0x00, 0x87]); // JMP [2100], and no opcode
+    assert_eq!(t.disassemble(0x1000), Ok(("1000  6E 9F 21 00     JMP   [$2100]".to_string(), 4)));
+    assert_eq!(t.disassemble(0x1004), Err(Refused(3)));
+    assert_eq!(t.disassemble(0xFFFF), Err(Refused(4)));
+}
+
+#[test]
 fn words_wrap_at_the_top() {
     let mut t = twin(Flags::Manual, 0);
     put(&mut t, 0xBFFF, &[0xAB]);

@@ -174,6 +174,7 @@ static void nulls(void) {
     HOLD(doorhawser_save(NULL, 0, 0, NULL, 0).answer == DOORHAWSER_MEMORY_LENGTH);
     HOLD(doorhawser_save(memory, sizeof memory, 0, NULL, 0).answer == DOORHAWSER_OUTPUT_SHORT);
     HOLD(doorhawser_salvage(NULL, 0, NULL, 0, NULL, 0).answer == DOORHAWSER_SALVAGE_SHORT);
+    HOLD(doorhawser_disassemble(NULL, 0, 0, NULL, 0).answer == DOORHAWSER_MEMORY_LENGTH);
     HOLD(kept());
     done("null with length 0");
 }
@@ -441,6 +442,37 @@ static void journals(void) {
     done("calls taken back");
 }
 
+/* ---- disassembly */
+
+/* what is written at an address, and what is refused: nothing else is touched */
+static void told(uint16_t at, size_t length, uint64_t answer, uint64_t count, const char *text) {
+    uint8_t line[64], was[64];
+    fill(line, sizeof line);
+    memcpy(was, line, sizeof line);
+    doorhawser_written w = doorhawser_disassemble(memory, sizeof memory, at, line, length);
+    HOLD(w.answer == answer && w.count == count);
+    size_t written = answer ? 0 : DOORHAWSER_LINE;
+    if (text) HOLD(strlen(text) == written && !memcmp(line, text, written));
+    HOLD(!memcmp(line + written, was + written, sizeof line - written));
+}
+
+static void lines(void) {
+    static const uint8_t code[] = {0xA6, 0x9D, 0xFF, 0xFC, 0x87, 0xA6, 0x92, 0xA6, 0xBF, 0x1F, 0x08, 0x10, 0x83, 0x12, 0x34};
+    memset(memory, 0, sizeof memory);
+    memcpy(memory + 0x1000, code, sizeof code);
+    told(0x1000, 48, 0, 4, "1000  A6 9D FF FC     LDA   [$1000,PCR]         ");
+    told(0x1000, 64, 0, 4, "1000  A6 9D FF FC     LDA   [$1000,PCR]         ");
+    told(0x1000, 47, DOORHAWSER_LINE_SHORT, 0, NULL);
+    told(0x1004, 64, DOORHAWSER_OPCODE, 0, NULL);
+    told(0x1005, 64, DOORHAWSER_POST_BYTE, 0, NULL);
+    told(0x1007, 64, DOORHAWSER_POST_BYTE_8F, 0, NULL);
+    told(0x1009, 47, DOORHAWSER_TRANSFER_CODE, 0, NULL);
+    told(0x100B, 48, 0, 4, "100B  10 83 12 34     CMPD  #$1234              ");
+    told(0xFFFE, 48, DOORHAWSER_PAST_END, 0, NULL);
+    told(0xFFFD, 48, 0, 2, "FFFD  00 00           NEG   <$00                ");
+    done("disassembly");
+}
+
 /* ---- S-records */
 
 static void records(void) {
@@ -529,6 +561,7 @@ int main(void) {
     names();
     runs();
     journals();
+    lines();
     records();
     salvages();
     return 0;

@@ -19,6 +19,7 @@ static void make(const char *call, uint8_t *m, size_t ml, uint8_t *o, size_t ol)
     if (!strcmp(call, "salvage")) doorhawser_salvage(m, ml, o, ol, NULL, 0);
     if (!strcmp(call, "salvage, text and list")) doorhawser_salvage(m, ml, NULL, 0, o, ol);
     if (!strcmp(call, "salvage, output and list")) doorhawser_salvage(NULL, 0, m, ml, o, ol);
+    if (!strcmp(call, "disassemble")) doorhawser_disassemble(m, ml, 0, o, ol);
 }
 
 int main(int argc, char **argv) {

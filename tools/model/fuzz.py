@@ -737,12 +737,12 @@ def shrink(cmd, data, budget=500):
     return pack(sett, pieces, ops)
 
 
-def built():
-    """The run program as rt runs it: for x86-64, under the kit's own loader and C library; elsewhere the kit has an emulator."""
+def built(program='run'):
+    """A program as rt runs it: for x86-64, under the kit's own loader and C library; elsewhere the kit has an emulator."""
     guide = subprocess.run(['rt', 'doc'], capture_output=True, text=True, check=True).stdout.strip()
     kit = os.path.join(os.path.dirname(os.path.dirname(guide)), 'on', platform.machine(), 'toolchain')
     root = os.path.dirname(os.path.dirname(os.path.dirname(os.path.abspath(__file__))))
-    words = [kit + '/lib/ld-linux-x86-64.so.2', '--library-path', kit + '/lib', root + '/target/bin/run']
+    words = [kit + '/lib/ld-linux-x86-64.so.2', '--library-path', kit + '/lib', root + '/target/bin/' + program]
     return [kit + '/bin/qemu-x86_64', *words] if os.access(kit + '/bin/qemu-x86_64', os.X_OK) else words
 
 

@@ -1,4 +1,4 @@
--- No refusal is numbered 0, none is numbered 6 any more, and no two refusals have one number.
+-- No refusal is numbered 0, none is numbered 6 any more or above 63, and no two refusals have one number.
 -- Assumes nothing.
 use Prim.Native.Nat.{ℕ}
 use mathlib.Core.Bool.{cond}
@@ -6,9 +6,9 @@ use mathlib.Core.List.{List, [], _∷_}
 use mathlib.Core.Path.{_≡_, refl, sym, ap, _∙_}
 use native.Mathlib.Omega.{arith}
 use lib.ListN.{getD}
-use Rattle.answers.specs.Numbers.{numberOf, RefusedByANumber, SixWithdrawn, NumbersApart}
+use Rattle.answers.specs.Numbers.{numberOf, RefusedByANumber, SixWithdrawn, NumbersApart, NumbersSmall}
 use Rattle.answers.specs.declared.Refusal.{Refusal}
-use Rattle.answers.specs.declared.Refusal.the-variants.{MemoryLength, Waiting, Opcode, PastEnd, PostByte, TransferCode, StackTooSmall, ZeroAtVector, JournalFull, NoRecord, JournalLength, DivisionByZero, LeftByte, NoRoom, Malformed, OutputShort, LineShape, Checksum, PastTop, NoEnd, PostByte8F, TooFewRecords, SalvageShort, ListShort}
+use Rattle.answers.specs.declared.Refusal.the-variants.{MemoryLength, Waiting, Opcode, PastEnd, PostByte, TransferCode, StackTooSmall, ZeroAtVector, JournalFull, NoRecord, JournalLength, DivisionByZero, LeftByte, NoRoom, Malformed, OutputShort, LineShape, Checksum, PastTop, NoEnd, PostByte8F, TooFewRecords, SalvageShort, ListShort, LineShort}
 
 pub refused-by-a-number : RefusedByANumber
 refused-by-a-number MemoryLength = omega arith
@@ -32,15 +32,43 @@ refused-by-a-number Checksum = omega arith
 refused-by-a-number PastTop = omega arith
 refused-by-a-number NoEnd = omega arith
 refused-by-a-number PostByte8F = omega arith
+refused-by-a-number LineShort = omega arith
 refused-by-a-number TooFewRecords = omega arith
 refused-by-a-number ListShort = omega arith
 refused-by-a-number SalvageShort = omega arith
 
--- the refusal of a number, by the table's places; 6, 18, 19, 25 and 28 are not used
+pub numbers-small : NumbersSmall
+numbers-small MemoryLength = omega arith
+numbers-small Waiting = omega arith
+numbers-small Opcode = omega arith
+numbers-small PastEnd = omega arith
+numbers-small PostByte = omega arith
+numbers-small TransferCode = omega arith
+numbers-small StackTooSmall = omega arith
+numbers-small ZeroAtVector = omega arith
+numbers-small JournalFull = omega arith
+numbers-small NoRecord = omega arith
+numbers-small JournalLength = omega arith
+numbers-small DivisionByZero = omega arith
+numbers-small LeftByte = omega arith
+numbers-small NoRoom = omega arith
+numbers-small Malformed = omega arith
+numbers-small OutputShort = omega arith
+numbers-small LineShape = omega arith
+numbers-small Checksum = omega arith
+numbers-small PastTop = omega arith
+numbers-small NoEnd = omega arith
+numbers-small PostByte8F = omega arith
+numbers-small LineShort = omega arith
+numbers-small TooFewRecords = omega arith
+numbers-small ListShort = omega arith
+numbers-small SalvageShort = omega arith
+
+-- the refusal of a number, by the table's places; 6, 18, 19 and 28 are not used
 abbrev refusalOf : ℕ → Refusal
 refusalOf n =
     getD
-    (SalvageShort ∷ MemoryLength ∷ Waiting ∷ Opcode ∷ PastEnd ∷ PostByte ∷ SalvageShort ∷ TransferCode ∷ StackTooSmall ∷ ZeroAtVector ∷ JournalFull ∷ NoRecord ∷ JournalLength ∷ DivisionByZero ∷ LeftByte ∷ NoRoom ∷ Malformed ∷ OutputShort ∷ SalvageShort ∷ SalvageShort ∷ LineShape ∷ Checksum ∷ PastTop ∷ NoEnd ∷ PostByte8F ∷ SalvageShort ∷ TooFewRecords ∷ ListShort ∷ [])
+    (SalvageShort ∷ MemoryLength ∷ Waiting ∷ Opcode ∷ PastEnd ∷ PostByte ∷ SalvageShort ∷ TransferCode ∷ StackTooSmall ∷ ZeroAtVector ∷ JournalFull ∷ NoRecord ∷ JournalLength ∷ DivisionByZero ∷ LeftByte ∷ NoRoom ∷ Malformed ∷ OutputShort ∷ SalvageShort ∷ SalvageShort ∷ LineShape ∷ Checksum ∷ PastTop ∷ NoEnd ∷ PostByte8F ∷ LineShort ∷ TooFewRecords ∷ ListShort ∷ [])
     n SalvageShort
 
 back : (x : Refusal) → refusalOf (numberOf x) ≡ x
@@ -65,6 +93,7 @@ back Checksum = refl
 back PastTop = refl
 back NoEnd = refl
 back PostByte8F = refl
+back LineShort = refl
 back TooFewRecords = refl
 back SalvageShort = refl
 back ListShort = refl

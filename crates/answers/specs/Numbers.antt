@@ -6,7 +6,7 @@ use mathlib.Core.Path.{_≡_}
 use Rattle.answers.specs.declared.Answer.{Answer}
 use Rattle.answers.specs.declared.Answer.the-variants.{Done, Refused}
 use Rattle.answers.specs.declared.Refusal.{Refusal}
-use Rattle.answers.specs.declared.Refusal.the-variants.{MemoryLength, Waiting, Opcode, PastEnd, PostByte, TransferCode, StackTooSmall, ZeroAtVector, JournalFull, NoRecord, JournalLength, DivisionByZero, LeftByte, NoRoom, Malformed, OutputShort, LineShape, Checksum, PastTop, NoEnd, PostByte8F, TooFewRecords, SalvageShort, ListShort}
+use Rattle.answers.specs.declared.Refusal.the-variants.{MemoryLength, Waiting, Opcode, PastEnd, PostByte, TransferCode, StackTooSmall, ZeroAtVector, JournalFull, NoRecord, JournalLength, DivisionByZero, LeftByte, NoRoom, Malformed, OutputShort, LineShape, Checksum, PastTop, NoEnd, PostByte8F, TooFewRecords, SalvageShort, ListShort, LineShort}
 
 abbrev pub numberOf : Refusal → ℕ
 -- memory is not 65,536 bytes
@@ -51,6 +51,8 @@ numberOf PastTop = 22
 numberOf NoEnd = 23
 -- [2]: a post-byte of low form 8F that is not 9F
 numberOf PostByte8F = 24
+-- [7]: the lent line is shorter than 48 bytes
+numberOf LineShort = 25
 -- [9]: drop of more records than are held
 numberOf TooFewRecords = 26
 -- [10]: the list is too short for all entries
@@ -73,3 +75,7 @@ SixWithdrawn = (x : Refusal) → numberOf x ≢ 6
 
 abbrev pub NumbersApart : Type 0
 NumbersApart = (x y : Refusal) → numberOf x ≡ numberOf y → x ≡ y
+
+-- documents 01 and 02 number up to 63
+abbrev pub NumbersSmall : Type 0
+NumbersSmall = (x : Refusal) → numberOf x < 64

@@ -6,10 +6,10 @@ use mathlib.Core.Bool.{Bool, true, false, _&&_, false≢true}
 use native.Mathlib.Omega.{arith}
 use borrow.Author.Tests.{ltb-true, eqb-true}
 use lib.Dec.{ltb, eqb}
-use Rattle.answers.specs.Numbers.{numberOf}
 use Rattle.answers.specs.declared.Answer.the-variants.{Done, Refused}
 use Rattle.answers.specs.declared.Refusal.{Refusal}
 use Rattle.answers.specs.declared.Refusal.the-variants.{MemoryLength, Waiting, Opcode, PastEnd, PostByte, TransferCode, StackTooSmall, ZeroAtVector, JournalFull, NoRecord, JournalLength, DivisionByZero, LeftByte, NoRoom, Malformed, OutputShort, LineShape, Checksum, PastTop, NoEnd, PostByte8F, TooFewRecords, SalvageShort, ListShort}
+use Rattle.answers.proofs.Numbers.{numbers-small}
 use Rattle.registers.specs.declared.Flags.{Flags}
 use Rattle.registers.specs.declared.Flags.the-variants.{Bought, Manual}
 use Rattle.machine.specs.Record.{waitByte, waitOf, markByte, markOf}
@@ -26,35 +26,9 @@ use Rattle.host.specs.declared.HostTwin.{HostTwin}
 
 -- ---- 64 is no number of a call
 
-below : (x : Refusal) → numberOf x < 64
-below MemoryLength = omega arith
-below Waiting = omega arith
-below Opcode = omega arith
-below PastEnd = omega arith
-below PostByte = omega arith
-below TransferCode = omega arith
-below StackTooSmall = omega arith
-below ZeroAtVector = omega arith
-below JournalFull = omega arith
-below NoRecord = omega arith
-below JournalLength = omega arith
-below DivisionByZero = omega arith
-below LeftByte = omega arith
-below NoRoom = omega arith
-below Malformed = omega arith
-below OutputShort = omega arith
-below LineShape = omega arith
-below Checksum = omega arith
-below PastTop = omega arith
-below NoEnd = omega arith
-below PostByte8F = omega arith
-below TooFewRecords = omega arith
-below SalvageShort = omega arith
-below ListShort = omega arith
-
 pub unnamed-apart : UnnamedApart
 unnamed-apart Done = omega arith
-unnamed-apart (Refused x) = below x
+unnamed-apart (Refused x) = numbers-small x
 
 -- ---- numbers
 

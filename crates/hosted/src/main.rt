@@ -164,6 +164,18 @@ fn salvage() {
     played::number(wide(list[7]));
 }
 
+// The instruction at 1000, in a line of 48 bytes and in one of 47.
+fn lines(mem: &Memory) {
+    let mut line = [0u8; 48];
+    let told = host_disassemble::doorhawser_disassemble(mem, 0x1000, &mut line);
+    played::number(told.answer);
+    played::number(told.count);
+    let mut short = [0u8; 47];
+    let refused = host_disassemble::doorhawser_disassemble(mem, 0x1000, &mut short);
+    played::number(refused.answer);
+    played::number(refused.count);
+}
+
 fn main() {
     let mut mem = [0u8; 0x10000];
     let mut journal = [0u8; 206];
@@ -177,6 +189,7 @@ fn main() {
     forget(&mut mem, &mut journal, again);
     save(&mem);
     salvage();
+    lines(&mem);
     unrecorded(&mut mem, none);
     unnamed(&mut mem, &mut journal, none);
 }

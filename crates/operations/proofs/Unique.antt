@@ -6,6 +6,7 @@ use Rattle.operations.proofs
 use Rattle.operations.proofs.branches
 use Rattle.operations.proofs.eight_bit
 use Rattle.operations.proofs.codes
+use Rattle.operations.proofs.transfers
 use Rattle.operations.proofs.words
 
 pub change : Determines 1 proofs.change.Kinds.ps proofs.change.Kinds.r proofs.change.Reads.Post
@@ -34,3 +35,9 @@ with-codes κs a x y ws vs p q = (p ∙ sym q, refl)
 
 pub store16 : Determines 0 words.store16.Kinds.ps words.store16.Kinds.r words.store16.Reads.Post
 store16 κs a x y ws vs p q = (p ∙ sym q, refl)
+
+pub transferable : Determines 0 transfers.transferable.Kinds.ps transfers.transferable.Kinds.r transfers.transferable.Reads.Post
+transferable κs a x y ws vs p q = (p ∙ sym q, refl)
+
+pub transfer-name : Determines 0 transfers.transfer_name.Kinds.ps transfers.transfer_name.Kinds.r transfers.transfer_name.Reads.Post
+transfer-name κs a x y ws vs p q = (p ∙ sym q, refl)

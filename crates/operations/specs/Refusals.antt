@@ -8,6 +8,8 @@ use Rattle.answers.specs.Numbers.{numberOf}
 use Rattle.registers.specs.declared.Flags.{Flags}
 use Rattle.registers.specs.declared.Set.{Set}
 use Rattle.memory.specs.Map.{byteAt}
+use Rattle.opcodes.specs.declared.Op.{Op}
+use Rattle.opcodes.specs.declared.Op.the-variants.{Registers, Memory}
 use Rattle.opcodes.specs.declared.RegisterOp.{RegisterOp}
 use Rattle.opcodes.specs.declared.RegisterOp.the-variants.{Alu, OnAcc, TestAcc, TestMemory, Addd, Subd, Load16, Cmp16, Lea, Branch, Jmp, Nop, Daa, Sex, Mul, Abx, Andcc, Orcc, Exg, Tfr}
 use Rattle.operations.specs.Change.{changedOf}
@@ -40,6 +42,11 @@ namesTwo Andcc = false
 namesTwo Orcc = false
 namesTwo Exg = true
 namesTwo Tfr = true
+
+-- 7: the post-byte of TFR or EXG, which stands at ea, names no two registers of one size
+abbrev pub codeRefused : Op → List ℕ → ℕ → Bool
+codeRefused (Registers op) mem ea = namesTwo op && not (transferable (byteAt mem ea))
+codeRefused (Memory op) mem ea = false
 
 -- the law: the byte at the effective address is the post-byte of TFR and EXG
 abbrev pub ChangeRefusesExactly : Type 0

@@ -20,6 +20,8 @@ pub use eight_bit::store8;
 use opcodes::RegisterOp;
 use registers::Flags;
 use registers::Set;
+pub use transfers::transfer_name;
+pub use transfers::transferable;
 pub use words::store16;
 
 // Result of an instruction that only changes registers. TFR and EXG alone may be refused.

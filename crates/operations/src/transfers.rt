@@ -7,7 +7,7 @@ use registers::Name;
 use registers::Set;
 
 // Codes 0 to 5 name words and 8 to B bytes; both have to be of one size.
-fn transferable(m: u8) -> bool
+pub fn transferable(m: u8) -> bool
     ensures { λ r. ⌜ r ≡ transferable m ⌝ }
 {
     let from = m / 16;
@@ -15,7 +15,7 @@ fn transferable(m: u8) -> bool
     ((from < 6) & (to < 6)) | ((7 < from) & (from < 12) & (7 < to) & (to < 12))
 }
 
-fn transfer_name(code: u8) -> Name
+pub fn transfer_name(code: u8) -> Name
     ensures { λ r. ⌜ r ≡ transferName code ⌝ }
 {
     match code {

@@ -7,11 +7,12 @@ use native.Mathlib.Omega.{arith}
 use native.Mathlib.Numerals.{add-one}
 use lib.ListN.{length, getD, take, length-append}
 use lib.Seq.{sets, take-suc, take-all, length-take-le}
-use Rattle.answers.specs.Numbers.{numberOf, numberOfAnswer}
+use Rattle.answers.specs.Numbers.{numberOfAnswer}
 use Rattle.answers.specs.declared.Answer.{Answer}
 use Rattle.answers.specs.declared.Answer.the-variants.{Done, Refused}
 use Rattle.answers.specs.declared.Refusal.{Refusal}
 use Rattle.answers.specs.declared.Refusal.the-variants.{MemoryLength, Waiting, Opcode, PastEnd, PostByte, TransferCode, StackTooSmall, ZeroAtVector, JournalFull, NoRecord, JournalLength, DivisionByZero, LeftByte, NoRoom, Malformed, OutputShort, LineShape, Checksum, PastTop, NoEnd, PostByte8F, TooFewRecords, SalvageShort, ListShort}
+use Rattle.answers.proofs.Numbers.{numbers-small}
 use Rattle.text.proofs.Stores.{sets-append}
 use Rattle.text.proofs.Texts.{line-fits}
 use Rattle.machine.specs.declared.Machine.{Machine}
@@ -34,33 +35,7 @@ use Rattle.player.specs.declared.plays.Wanted.the-variants.{Call as Call
 -- an answer's number is a byte
 number-fits : (a : Answer) → numberOfAnswer a < 256
 number-fits Done = omega arith
-number-fits (Refused x) = go x
-  where
-    go : (x : Refusal) → numberOf x < 256
-    go MemoryLength = omega arith
-    go Waiting = omega arith
-    go Opcode = omega arith
-    go PastEnd = omega arith
-    go PostByte = omega arith
-    go TransferCode = omega arith
-    go StackTooSmall = omega arith
-    go ZeroAtVector = omega arith
-    go JournalFull = omega arith
-    go NoRecord = omega arith
-    go JournalLength = omega arith
-    go DivisionByZero = omega arith
-    go LeftByte = omega arith
-    go NoRoom = omega arith
-    go Malformed = omega arith
-    go OutputShort = omega arith
-    go LineShape = omega arith
-    go Checksum = omega arith
-    go PastTop = omega arith
-    go NoEnd = omega arith
-    go PostByte8F = omega arith
-    go TooFewRecords = omega arith
-    go SalvageShort = omega arith
-    go ListShort = omega arith
+number-fits (Refused x) = omega (arith, numbers-small x)
 
 pub line-bound : (a : Answer) (m : Machine) → length (callLine a m) ≤ 33
 line-bound a m = line-fits (numberOfAnswer a) (m .regs .pc) (m .regs .cc .reg) (m .cycles) (number-fits a)

@@ -18,7 +18,7 @@ use Rattle.opcodes.specs.declared.Op.the-variants.{Registers, Memory}
 use Rattle.opcodes.specs.declared.Software.the-variants.{Swi as SWI, Swi2 as SWI2, Swi3 as SWI3}
 use Rattle.operations.specs.EightBit.{onMemory}
 use Rattle.operations.specs.Change.{changedOf}
-use Rattle.operations.specs.Refusals.{numberOfChanged, namesTwo}
+use Rattle.operations.specs.Refusals.{numberOfChanged, namesTwo, codeRefused}
 use Rattle.operations.specs.Transfers.{transferable}
 use Rattle.operations.specs.Words.{store16}
 use Rattle.operations.specs.declared.Changed.{Changed}
@@ -30,7 +30,7 @@ use Rattle.vectors.specs.Table.{softwareVector}
 use Rattle.vectors.proofs.Laws.{vectors-refuse-exactly}
 use Rattle.evaluate.specs.Evaluate.{effectOf, evaluateOf}
 use Rattle.evaluate.specs.Room.{isSmall}
-use Rattle.refusals.specs.Operations.{codeRefused, leadsToZero}
+use Rattle.refusals.specs.Operations.{leadsToZero}
 
 -- n is 7, 8 or 9 exactly where its table says so, and otherwise 0
 pub record Numbered (n : ℕ) (seven eight nine : Bool) : Type 0 where

@@ -37,11 +37,12 @@ use Rattle.addressing.specs.declared.Resolved.{Resolved}
 use Rattle.addressing.specs.declared.Resolved.the-variants.{At as Addressed, Refused as NoAddress}
 use Rattle.addressing.proofs.Refusals.{resolve-refuses, next-refused}
 use Rattle.evaluate.specs.Arming.{arms}
+use Rattle.operations.specs.Refusals.{codeRefused}
 use Rattle.evaluate.specs.Evaluate.{evaluateOf}
 use Rattle.evaluate.specs.Room.{isSmall}
 use Rattle.cycles.specs.Cycles.{cyclesOf}
 use Rattle.calls.specs.Steps.{Reached, At, NotReached, addressed, ofDecoded, decodedTo, unlessWaiting, reached, finishedAs, finished, planned, stepPlan}
-use Rattle.refusals.specs.Operations.{codeRefused, leadsToZero}
+use Rattle.refusals.specs.Operations.{leadsToZero}
 use Rattle.refusals.specs.Steps.{Runs, NextPast, Met, StepsRefused}
 use Rattle.refusals.proofs.Operations.{operation-number}
 

@@ -1,5 +1,5 @@
--- What the operation itself refuses once its address is found: 7, 8 and 9. A table for each number; 8 has
--- evaluate/specs/Room.antt, isSmall. r are the registers with PC at the next instruction, ea is the effective address.
+-- What the operation itself refuses once its address is found: 9. The table of 7 is codeRefused of operations/specs/Refusals.antt, that of 8
+-- isSmall of evaluate/specs/Room.antt. r are the registers with PC at the next instruction, ea is the effective address.
 -- Assumes nothing.
 use Prim.Native.Nat.{ℕ}
 use mathlib.Core.Bool.{Bool, true, false, not, _&&_}
@@ -13,15 +13,8 @@ use Rattle.opcodes.specs.declared.MemoryOp.{MemoryOp}
 use Rattle.opcodes.specs.declared.MemoryOp.the-variants.{OnMemory, Store8, Store16, Bsr, Jsr, Rts, Rti, Swi, Cwai, Sync, Push, Pull}
 use Rattle.opcodes.specs.declared.Op.{Op}
 use Rattle.opcodes.specs.declared.Op.the-variants.{Registers, Memory}
-use Rattle.operations.specs.Refusals.{namesTwo}
-use Rattle.operations.specs.Transfers.{transferable}
 use Rattle.stack.specs.Frames.{framed}
 use Rattle.vectors.specs.Table.{addressOf, softwareVector}
-
--- 7: the post-byte of TFR or EXG, which stands at ea, names no two registers of one size
-abbrev pub codeRefused : Op → List ℕ → ℕ → Bool
-codeRefused (Registers op) mem ea = namesTwo op && not (transferable (byteAt mem ea))
-codeRefused (Memory op) mem ea = false
 
 -- memory once SWI, SWI2 or SWI3 has stacked all registers
 abbrev pub afterFrame : Settings → List ℕ → Set → List ℕ

@@ -20,9 +20,10 @@ use Rattle.decode.specs.Decode.{located, decodedAt}
 use Rattle.decode.specs.Laws.{Unnamed, PrefixAtTop, CutShort, Formless}
 use Rattle.decode.specs.declared.instruction.Decoded.{Decoded}
 use Rattle.decode.specs.declared.instruction.Decoded.the-variants.{Instruction, Refused as NotDecoded}
+use Rattle.operations.specs.Refusals.{codeRefused}
 use Rattle.evaluate.specs.Room.{isSmall}
 use Rattle.calls.specs.Steps.{Reached, At, NotReached, reached, stepOf}
-use Rattle.refusals.specs.Operations.{codeRefused, leadsToZero}
+use Rattle.refusals.specs.Operations.{leadsToZero}
 
 -- a step is answered by the number n
 abbrev pub Answers : List ℕ → Machine → Settings → ℕ → Type 0

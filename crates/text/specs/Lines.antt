@@ -6,7 +6,7 @@ use mathlib.Core.Path.{_≡_}
 use mathlib.Core.Bool.{cond}
 use mathlib.Core.List.{List, [], _∷_, _++_}
 use lib.Dec.{ltb}
-use lib.ListN.{length, take, replicate}
+use lib.ListN.{length, take, set, replicate}
 use lib.Seq.{sets}
 use Rattle.text.specs.Hex.{hex2, hex4}
 use Rattle.text.specs.declared.lines.Text.{Text}
@@ -38,13 +38,24 @@ alone n = decimal n ++ (lineFeed ∷ [])
 unfoldable pub textOf : List ℕ → Text
 textOf l = record { bytes = sets (replicate 33 0) 0 l; len = min (length l) 33 }
 
+-- a text with one byte more, if there is room, and with several
+abbrev extended : Text → ℕ → Text
+extended t b = cond (ltb (t .len) 33) (record { bytes = set (t .bytes) (t .len) b; len = t .len + 1 }) t
+
+unfoldable pub grown : Text → List ℕ → Text
+grown t [] = t
+grown t (b ∷ bs) = grown (extended t b) bs
+
 -- the bytes that are used
 abbrev pub said : Text → List ℕ
 said t = take (t .len) (t .bytes)
 
--- the laws: an answer is a byte, so its line has at most 33 bytes; a text of at most 33 bytes is whole
+-- the laws: an answer is a byte, so its line has at most 33 bytes; a text of at most 33 bytes is whole, and grows as a list does
 abbrev pub LineFits : Type 0
 LineFits = (answer pc cc cycles : ℕ) → answer < 256 → length (line answer pc cc cycles) ≤ 33
 
 abbrev pub TextIsWhole : Type 0
 TextIsWhole = (l : List ℕ) → length l ≤ 33 → said (textOf l) ≡ l
+
+abbrev pub TextGrows : Type 0
+TextGrows = (l bs : List ℕ) → grown (textOf l) bs ≡ textOf (l ++ bs)

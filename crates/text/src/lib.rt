@@ -12,7 +12,11 @@ pub use hex::value;
 pub use lines::Text;
 pub use lines::alone;
 pub use lines::decimal;
+pub use lines::empty;
 pub use lines::line;
+pub use lines::with_byte;
+pub use lines::with_decimal;
+pub use lines::with_hex;
 
 // Writes a part at a place. What would lie past the end is left out.
 pub fn put(out: &mut [u8], at: usize, part: &[u8])

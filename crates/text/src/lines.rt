@@ -1,11 +1,10 @@
 // Decimal numbers and the lines that are printed, as values.
 ghost use mathlib.Core.Path.{_≡_};
-ghost use mathlib.Core.List.{List, [], _∷_, _++_};
-ghost use Prim.Native.Nat.{ℕ};
+ghost use mathlib.Core.List.{[], _∷_};
 ghost use lib.ListN.{length};
 ghost use lib.Seq.{sets};
 ghost use Rattle.text.specs.Hex.{hex2 as Hex·hex2};
-ghost use Rattle.text.specs.Lines.{decimal as Lines·decimal, line as Lines·line, alone as Lines·alone, textOf, said};
+ghost use Rattle.text.specs.Lines.{decimal as Lines·decimal, line as Lines·line, alone as Lines·alone, textOf, grown, said};
 use crate::hex2;
 use crate::put;
 
@@ -34,7 +33,8 @@ impl Text {
     }
 }
 
-fn empty() -> Text
+// No byte is used.
+pub fn empty() -> Text
     ensures { λ r. ⌜ r ≡ textOf [] ⌝ }
 {
     Text {
@@ -44,8 +44,8 @@ fn empty() -> Text
 }
 
 // A text with one byte more, if there is room.
-fn with_byte(text: Text, b: u8) -> Text
-    ensures { λ r. ⌜ ((l : List ℕ) → text ≡ textOf l → r ≡ textOf (l ++ (b ∷ []))) ⌝ }
+pub fn with_byte(text: Text, b: u8) -> Text
+    ensures { λ r. ⌜ r ≡ grown text (b ∷ []) ⌝ }
 {
     let at = text.len;
     let mut bytes = text.bytes;
@@ -56,15 +56,15 @@ fn with_byte(text: Text, b: u8) -> Text
     text
 }
 
-fn with_hex(text: Text, b: u8) -> Text
-    ensures { λ r. ⌜ ((l : List ℕ) → text ≡ textOf l → r ≡ textOf (l ++ Hex·hex2 b)) ⌝ }
+pub fn with_hex(text: Text, b: u8) -> Text
+    ensures { λ r. ⌜ r ≡ grown text (Hex·hex2 b) ⌝ }
 {
     let digits = hex2(b);
     with_byte(with_byte(text, digits[0]), digits[1])
 }
 
-fn with_decimal(text: Text, n: u64) -> Text
-    ensures { λ r. ⌜ ((l : List ℕ) → text ≡ textOf l → r ≡ textOf (l ++ Lines·decimal n)) ⌝ }
+pub fn with_decimal(text: Text, n: u64) -> Text
+    ensures { λ r. ⌜ r ≡ grown text (Lines·decimal n) ⌝ }
 {
     if n < 10 {
         return with_byte(text, b'0' + n as u8);

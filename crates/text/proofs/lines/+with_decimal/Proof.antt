@@ -1,12 +1,14 @@
 -- The digits before the last one are those of the tenth part. The measure is the number.
 -- Assumes nothing.
-use Prim.Native.Nat.{ℕ, _<_}
-use mathlib.Core.List.{append-assoc}
+use Prim.Native.Nat.{ℕ, _+_, _/_, _%_, _<_}
+use mathlib.Core.List.{[], _∷_}
 use native.Mathlib.Omega.{arith}
 use borrow.Author.Needs.{needs}
 use borrow.Fn.Kinds.{In}
 use borrow.Fn.PlainCycle.{Measures, is, falls, and}
+use Rattle.text.specs.Lines.{decimal}
 use Rattle.text.proofs.Decimals.{short, long}
+use Rattle.text.proofs.Texts.{grown-grown}
 use Rattle.text.proofs.lines.with_decimal.Reads as with-decimal
 use Rattle.text.proofs.lines.with_decimal.Kinds as kinds
 use Rattle.text.proofs.lines.+with_decimal.Lts-with_decimal as lts
@@ -30,9 +32,11 @@ pub +with-decimal-spec : {M : Type 1} → statement M
     (λ c. omega arith)
     (λ c. omega arith)
     (λ c κs. search needs)
-    (λ c l e. rw (short (c .before .before .args .n) (c .before .if1 .taken)) (c .with-byte .ensures l e))
+    (λ c. rw (short (c .before .before .args .n) (c .before .if1 .taken)) (c .with-byte .ensures))
     (λ c κs. (omega arith, tt))
     (λ c. omega arith)
     (λ c. omega arith)
     (λ c κs. search needs)
-    (λ c l e. rw (long (c .before .before .before .args .n) (omega arith) (omega arith), ← append-assoc) (c .with-byte2 .ensures _ (c .before .with-decimal .ensures l e)))
+    (λ c.
+    let a = c .before .before .before .args in
+    rw (long (a .n) (omega arith) (omega arith), ← (grown-grown (a .text) (decimal (a .n / 10)) ((48 + a .n % 10) ∷ [])), ← (c .before .with-decimal .ensures)) (c .with-byte2 .ensures))

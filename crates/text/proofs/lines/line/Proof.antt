@@ -3,6 +3,7 @@
 use mathlib.Core.List.{append-assoc}
 use borrow.Author.Needs.{needs}
 use Rattle.text.specs.Lines.{line}
+use Rattle.text.proofs.Texts.{text-grows}
 use Rattle.text.proofs.lines.line.Statement.{statement}
 use Rattle.text.proofs.lines.line.Tie as tie
 
@@ -10,10 +11,19 @@ returns : tie.Need-returns
 unfolding line
 returns c =
     let d = c .before .before .before .before in
-    let number = d .before .before .before .with-byte .ensures _ (d .before .before .before .before .decimal .ensures) in
-    let word = d .with-byte2 .ensures _ (d .before .with-hex2 .ensures _ (d .before .before .with-hex .ensures _ number)) in
-    let codes = c .before .before .with-byte3 .ensures _ (c .before .before .before .with-hex3 .ensures _ word) in
-    simp append-assoc at (c .with-byte4 .ensures _ (c .before .with-decimal .ensures _ codes))
+    let e = d .before .before .before in
+    rw (
+      c .with-byte4 .ensures,
+      c .before .with-decimal .ensures,
+      c .before .before .with-byte3 .ensures,
+      c .before .before .before .with-hex3 .ensures,
+      d .with-byte2 .ensures,
+      d .before .with-hex2 .ensures,
+      d .before .before .with-hex .ensures,
+      e .with-byte .ensures,
+      e .before .decimal .ensures,
+    )
+    (simp (text-grows, append-assoc))
 
 pub line-spec : {M : Type 1} → statement M
 line-spec =

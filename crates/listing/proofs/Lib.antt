@@ -1,0 +1,5 @@
+pub mod Lines
+pub mod Going
+pub mod Files
+pub mod Bounds
+pub mod Unique
