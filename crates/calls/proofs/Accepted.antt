@@ -1,4 +1,4 @@
--- A step while waiting, a masked interrupt and a reset, whole.
+-- A step while waiting, an interrupt that is held off and a reset, whole.
 -- Assumes nothing.
 use Prim.Native.Nat.{ℕ}
 use mathlib.Core.Bool.{Bool, true, false, cond}
@@ -12,16 +12,16 @@ use Rattle.answers.specs.Numbers.{numberOfAnswer}
 use Rattle.answers.specs.declared.Refusal.the-variants.{MemoryLength, Waiting}
 use Rattle.registers.specs.declared.Flags.{Flags}
 use Rattle.memory.specs.Map.{wordAt}
-use Rattle.machine.specs.Machine.{settingsOf}
+use Rattle.machine.specs.Machine.{withRegisters, settingsOf}
 use Rattle.machine.specs.declared.Machine.{Machine}
 use Rattle.machine.specs.declared.Settings.{Settings}
 use Rattle.machine.specs.declared.Wait.{Wait}
 use Rattle.machine.specs.declared.Wait.the-variants.{Running, Cwai, Sync}
 use Rattle.vectors.specs.Service.{vectored}
 use Rattle.calls.specs.Accepted.{WaitsRefused, MaskedStays, ResetAccepted, ResetRefusesExactly, AnyFlags}
-use Rattle.calls.specs.Plans.{refusedWith, accepted, withRegisters}
+use Rattle.calls.specs.Plans.{refusedWith, accepted}
 use Rattle.calls.specs.Steps.{unlessWaiting, reached, planned, stepPlan}
-use Rattle.calls.specs.Interrupts.{vectorOf, isMasked, taken, afterMasked, takenBy, interruptPlan}
+use Rattle.calls.specs.Interrupts.{vectorOf, isHeldOff, taken, afterHeldOff, takenBy, interruptPlan}
 use Rattle.calls.specs.declared.InterruptType.{InterruptType}
 use Rattle.calls.specs.Resets.{resetTo, resetPlan}
 
@@ -58,8 +58,8 @@ any-flags = record {
 }
   where
     go : (mem : List ℕ) (m : Machine) (top : ℕ) (f g : Flags) (i : InterruptType) (w : Wait)
-        → cond (eqb (length mem) 65536) (cond (isMasked i (m .regs .cc)) (accepted (withRegisters m (m .regs) (afterMasked (m .wait)))) (takenBy m (taken w mem (settingsOf top f) (m .regs) (vectorOf i)))) (refusedWith m MemoryLength)
-        ≡ cond (eqb (length mem) 65536) (cond (isMasked i (m .regs .cc)) (accepted (withRegisters m (m .regs) (afterMasked (m .wait)))) (takenBy m (taken w mem (settingsOf top g) (m .regs) (vectorOf i)))) (refusedWith m MemoryLength)
+        → cond (eqb (length mem) 65536) (cond (isHeldOff i m) (accepted (withRegisters m (m .regs) (afterHeldOff (m .wait)))) (takenBy m (taken w mem (settingsOf top f) (m .regs) (vectorOf i)))) (refusedWith m MemoryLength)
+        ≡ cond (eqb (length mem) 65536) (cond (isHeldOff i m) (accepted (withRegisters m (m .regs) (afterHeldOff (m .wait)))) (takenBy m (taken w mem (settingsOf top g) (m .regs) (vectorOf i)))) (refusedWith m MemoryLength)
     go mem m top f g i Running = refl
     go mem m top f g i Cwai = refl
     go mem m top f g i Sync = refl

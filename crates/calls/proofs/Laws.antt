@@ -1,5 +1,5 @@
--- Laws of every call: a refused one changes nothing, at most twelve bytes are written, machine and writes fit their widths, and wait state
--- and counters move as they should.
+-- Laws of every call: a refused one changes nothing, at most twelve bytes are written, machine and writes fit their widths, and wait state,
+-- mark and counters move as they should.
 -- Assumes nothing.
 use Prim.Native.Nat.{ℕ, _+_, _≤_, _<_}
 use mathlib.Core.Path.{_≡_, refl, sym, ap, _∙_}
@@ -17,12 +17,12 @@ use Rattle.registers.specs.Fits.{Fits}
 use Rattle.registers.specs.RegisterSet.{afterReset}
 use Rattle.registers.specs.declared.Set.{Set}
 use Rattle.memory.specs.Fits.{Bytes, AllFit}
-use Rattle.memory.specs.Map.{wordAt}
+use Rattle.memory.specs.Map.{byteAt, wordAt}
 use Rattle.memory.specs.Writes.{writesOf, listed, stored, reported}
 use Rattle.memory.proofs.Fits.{none-fit, listed-fit, word-fits}
 use Rattle.memory.proofs.Folds.{listed-back}
 use Rattle.memory.proofs.Twelve.{Full, none-full, at-most-twelve}
-use Rattle.machine.specs.Machine.{MachineFits}
+use Rattle.machine.specs.Machine.{withRegisters, marked, MachineFits}
 use Rattle.machine.specs.declared.Effect.{Effect}
 use Rattle.machine.specs.declared.Machine.{Machine}
 use Rattle.machine.specs.declared.Settings.{Settings}
@@ -47,17 +47,20 @@ use Rattle.vectors.specs.Table.{addressOf}
 use Rattle.vectors.specs.declared.table.Vector.{Vector}
 use Rattle.vectors.specs.declared.table.Vector.the-variants.{Reset}
 use Rattle.vectors.proofs.Sound.{vectors-sound}
+use Rattle.evaluate.specs.Arming.{arms}
 use Rattle.evaluate.specs.Evaluate.{evaluateOf}
 use Rattle.evaluate.specs.Waits.{waitAfter}
 use Rattle.evaluate.proofs.Sound.{evaluated-sound}
 use Rattle.evaluate.proofs.Waits.{cwai-alone, sync-alone}
-use Rattle.calls.specs.Cycles.{extraOf, cyclesOf}
-use Rattle.calls.specs.Plans.{refusedWith, accepted, withRegisters, carriedOut, memoryWith, PlanFits, NothingChanged}
+use Rattle.cycles.specs.Bills.{BoundedAt}
+use Rattle.cycles.specs.Cycles.{extraOf, cyclesOf}
+use Rattle.cycles.proofs.Bills.{instruction-bounded}
+use Rattle.calls.specs.Plans.{refusedWith, accepted, carriedOut, memoryWith, PlanFits, NothingChanged}
 use Rattle.calls.specs.Steps.{Reached, At, NotReached, addressed, ofDecoded, decodedTo, unlessWaiting, reached, finishedAs, finished, planned, stepPlan}
-use Rattle.calls.specs.Interrupts.{vectorOf, isMasked, taken, afterMasked, ofEffect, interruptPlan}
+use Rattle.calls.specs.Interrupts.{vectorOf, isHeldOff, taken, afterHeldOff, ofEffect, interruptPlan}
 use Rattle.calls.specs.Resets.{resetTo, resetPlan}
 use Rattle.calls.specs.Calls.{Call, step, interrupt, reset, settingsIn, planOf, RefusedCall, FewWrites, CallFits}
-use Rattle.calls.specs.Moves.{Moved, MovedBy, StepMoves, Still, InterruptStill, ResetStill}
+use Rattle.calls.specs.Moves.{Moved, MovedBy, StepMoves, BoundedBy, StepBounded, Still, InterruptStill, ResetStill}
 use Rattle.calls.specs.declared.InterruptType.{InterruptType}
 use Rattle.calls.specs.declared.Plan.{Plan}
 
@@ -96,18 +99,18 @@ weaker f t = record { few = t .few; waits = t .waits; refused = t .refused; regi
 -- ---- a step
 
 -- an operation that is carried out, by the entry e
-module _ {P : Type 0} (m : Machine) (h : P → MachineFits m) (e : Entry) (cost : ℕ) (f : Effect) (r : Set) (s : Sound P r (waitAfter (e .op)) f) where
-  as-whole : (a : Answer) → (a ≡ Done → f .wait ≡ waitAfter (e .op)) → Whole P (Moved e cost m) m (finishedAs a m cost f)
+module _ {P : Type 0} (m : Machine) (h : P → MachineFits m) (e : Entry) (cost : ℕ) (mark : Bool) (f : Effect) (r : Set) (s : Sound P r (waitAfter (e .op)) f) where
+  as-whole : (a : Answer) → (a ≡ Done → f .wait ≡ waitAfter (e .op)) → Whole P (Moved e cost mark m) m (finishedAs a m cost mark f)
   as-whole Done w = record {
     few = record { places = s .few };
     refused = λ x d. not-done (sym d);
     fits = λ g. record { registers = s .registers g; cycles = mod-lt (m .cycles + cost) (lit< tt); instructions = mod-lt (m .instructions + 1) (lit< tt) };
     widths = s .widths;
-    moves = λ d. record { cycles = refl; instructions = refl; cwai = rw (w refl) (cwai-alone (e .op)); sync = rw (w refl) (sync-alone (e .op)) };
+    moves = λ d. record { cycles = refl; instructions = refl; cwai = rw (w refl) (cwai-alone (e .op)); sync = rw (w refl) (sync-alone (e .op)); armed = refl };
   }
   as-whole (Refused y) w = refused-whole m h y
 
-  finished-whole : Whole P (Moved e cost m) m (finished m cost f)
+  finished-whole : Whole P (Moved e cost mark m) m (finished m cost mark f)
   unfolding finished
   finished-whole = as-whole (f .answer) (s .waits)
 
@@ -141,7 +144,7 @@ module _ (mem : List ℕ) (m : Machine) where
   planned-whole : (s : Settings) (a : Reached) → (Provided mem m → ReachedFits a) → Whole (Provided mem m) (MovedBy mem a m) m (planned mem m s a)
   unfolding cyclesOf
   planned-whole s (At i r ea) k =
-      finished-whole m (λ g. g .machine) (i .entry) (i .entry .cycles + extraOf i mem r ea) _ r
+      finished-whole m (λ g. g .machine) (i .entry) (i .entry .cycles + extraOf i mem r ea) (arms (i .entry .op) (byteAt mem ea)) _ r
       (weaker (λ g. record { registers = k g .0; bytes = g .bytes; address = k g .1 }) (evaluated-sound (i .entry .op) s mem r ea))
   planned-whole s (NotReached x) k = refused-whole m (λ g. g .machine) x
 
@@ -151,23 +154,23 @@ module _ (mem : List ℕ) (m : Machine) where
 
   -- ---- interrupts and reset
 
-  -- registers changed and nothing written
-  accepted-whole : (r : Set) (w : Wait) → (Provided mem m → Fits r) → Whole (Provided mem m) (Still m) m (accepted (withRegisters m r w))
-  accepted-whole r w h = record {
+  -- registers, wait and mark changed and nothing written
+  accepted-whole : (r : Set) (w : Wait) (a : Bool) → (Provided mem m → Fits r) → Whole (Provided mem m) (Still a m) m (accepted (marked (withRegisters m r w) a))
+  accepted-whole r w a h = record {
     few = none-full;
     refused = λ x e. not-done (sym e);
     fits = λ g. record { registers = h g; cycles = g .machine .cycles; instructions = g .machine .instructions };
     widths = λ g. none-fit;
-    moves = λ d. record { cycles = refl; instructions = refl };
+    moves = λ d. record { cycles = refl; instructions = refl; armed = refl };
   }
 
-  effect-whole : (e : Effect) → Sound (Provided mem m) (m .regs) Running e → (a : Answer) → Whole (Provided mem m) (Still m) m (ofEffect m e a)
+  effect-whole : (e : Effect) → Sound (Provided mem m) (m .regs) Running e → (a : Answer) → Whole (Provided mem m) (Still (m .armed) m) m (ofEffect m e a)
   effect-whole e s Done = record {
     few = record { places = s .few };
     refused = λ x d. not-done (sym d);
     fits = λ g. record { registers = s .registers g; cycles = g .machine .cycles; instructions = g .machine .instructions };
     widths = s .widths;
-    moves = λ d. record { cycles = refl; instructions = refl };
+    moves = λ d. record { cycles = refl; instructions = refl; armed = refl };
   }
   effect-whole e s (Refused x) = refused-whole m (λ g. g .machine) x
 
@@ -180,28 +183,28 @@ module _ (mem : List ℕ) (m : Machine) where
   taken-sound s v Sync = weaker given (vectors-sound mem s (m .regs) 0 .running v)
   taken-sound s v Cwai = weaker given (vectors-sound mem s (m .regs) 0 .inCwai v)
 
-  interrupt-whole : (s : Settings) (i : InterruptType) → Whole (Provided mem m) (Still m) m (interruptPlan mem m s i)
+  interrupt-whole : (s : Settings) (i : InterruptType) → Whole (Provided mem m) (Still (m .armed) m) m (interruptPlan mem m s i)
   unfolding interruptPlan
-  interrupt-whole s i = go (eqb (length mem) 65536) (isMasked i (m .regs .cc))
+  interrupt-whole s i = go (eqb (length mem) 65536) (isHeldOff i m)
     where
       e : Effect
       e = taken (m .wait) mem s (m .regs) (vectorOf i)
 
       go : (l k : Bool)
-          → Whole (Provided mem m) (Still m) m (cond l (cond k (accepted (withRegisters m (m .regs) (afterMasked (m .wait)))) (ofEffect m e (e .answer))) (refusedWith m MemoryLength))
-      go true true = accepted-whole (m .regs) (afterMasked (m .wait)) (λ g. g .machine .registers)
+          → Whole (Provided mem m) (Still (m .armed) m) m (cond l (cond k (accepted (withRegisters m (m .regs) (afterHeldOff (m .wait)))) (ofEffect m e (e .answer))) (refusedWith m MemoryLength))
+      go true true = accepted-whole (m .regs) (afterHeldOff (m .wait)) (m .armed) (λ g. g .machine .registers)
       go true false = effect-whole e (taken-sound s (vectorOf i) (m .wait)) (e .answer)
       go false k = refused-whole m (λ g. g .machine) MemoryLength
 
   cleared-fits : Fits afterReset
   cleared-fits = record { x = lit< tt; y = lit< tt; u = lit< tt; s = lit< tt; pc = lit< tt; a = lit< tt; b = lit< tt; dp = lit< tt; cc = lit< tt }
 
-  reset-whole : Whole (Provided mem m) (Still m) m (resetPlan mem m)
+  reset-whole : Whole (Provided mem m) (Still false m) m (resetPlan mem m)
   unfolding resetPlan
   reset-whole = go (eqb (length mem) 65536) (wordAt mem (addressOf Reset)) (λ g. word-fits mem (g .bytes) (addressOf Reset))
     where
-      go : (l : Bool) (pc : ℕ) → (Provided mem m → pc < 65536) → Whole (Provided mem m) (Still m) m (cond l (resetTo m pc) (refusedWith m MemoryLength))
-      go true pc h = accepted-whole (jumped afterReset pc) Running (λ g. jumped-fits afterReset cleared-fits pc (h g))
+      go : (l : Bool) (pc : ℕ) → (Provided mem m → pc < 65536) → Whole (Provided mem m) (Still false m) m (cond l (resetTo m pc) (refusedWith m MemoryLength))
+      go true pc h = accepted-whole (jumped afterReset pc) Running false (λ g. jumped-fits afterReset cleared-fits pc (h g))
       go false pc h = refused-whole m (λ g. g .machine) MemoryLength
 
 -- ---- what follows
@@ -241,16 +244,38 @@ call-fits (reset t) mem m h b = whole-fits (resetPlan mem m) (reset-whole mem m)
 pub step-moves : StepMoves
 step-moves mem m s d = step-whole mem m s .moves d
 
--- a refused call leaves the counters with the machine
-still : {P : Type 0} {m : Machine} (p : Plan) → Whole P (Still m) m p → Still m (p .machine)
+-- how much a step costs: its instruction was decoded
+pub step-bounded : StepBounded
+unfolding reached decodedTo
+step-bounded mem m b = go (eqb (length mem) 65536)
+  where
+    of-address : (i : Instruction) (a : Resolved) → BoundedAt mem (Taken i) → BoundedBy mem (addressed i a)
+    of-address i (Addressed a) k = k (a .regs) (a .ea)
+    of-address i (NoAddress x) k = tt
+
+    of-decoded : (d : Decoded) → BoundedAt mem d → BoundedBy mem (ofDecoded mem (m .regs) d)
+    of-decoded (Taken i) k = of-address i (resolvedOf mem (m .regs) (i .operand) (i .next)) k
+    of-decoded (NotDecoded x) k = tt
+
+    waiting : (w : Wait) → BoundedBy mem (unlessWaiting w mem (m .regs))
+    waiting Running = of-decoded (decodedAt mem (m .regs .pc)) (instruction-bounded mem (m .regs .pc) b)
+    waiting Cwai = tt
+    waiting Sync = tt
+
+    go : (t : Bool) → BoundedBy mem (cond t (unlessWaiting (m .wait) mem (m .regs)) (NotReached MemoryLength))
+    go true = waiting (m .wait)
+    go false = tt
+
+-- a refused call leaves counters and mark with the machine
+still : {P : Type 0} {m : Machine} (p : Plan) → Whole P (Still (m .armed) m) m p → Still (m .armed) m (p .machine)
 still {m = m} p w = go (p .answer) refl
   where
-    go : (a : Answer) → p .answer ≡ a → Still m (p .machine)
+    go : (a : Answer) → p .answer ≡ a → Still (m .armed) m (p .machine)
     go Done e = w .moves e
-    go (Refused x) e = rw (w .refused x e) (record { cycles = refl; instructions = refl })
+    go (Refused x) e = rw (w .refused x e) (record { cycles = refl; instructions = refl; armed = refl })
 
 pub interrupt-still : InterruptStill
 interrupt-still mem m s i = still (interruptPlan mem m s i) (interrupt-whole mem m s i)
 
 pub reset-still : ResetStill
-reset-still mem m = still (resetPlan mem m) (reset-whole mem m)
+reset-still mem m d = reset-whole mem m .moves d

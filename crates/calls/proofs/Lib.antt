@@ -1,6 +1,4 @@
-pub mod Arms
 pub mod Laws
-pub mod Bills
 pub mod Accepted
 pub mod Room
 pub mod Parting

@@ -2,6 +2,7 @@
 -- Assumes nothing.
 use Prim.Native.Nat.{ℕ}
 use mathlib.Core.Path.{_≡_, refl, ap}
+use mathlib.Core.Bool.{Bool}
 use mathlib.Core.List.{List}
 use native.Mathlib.Omega.{arith}
 use Rattle.answers.specs.declared.Answer.{Answer}
@@ -19,12 +20,13 @@ use Rattle.machine.specs.declared.Machine.{Machine}
 use Rattle.operations.specs.EightBit.{onMemory}
 use Rattle.operations.specs.Parting.{EffectsPart, with-operand, on-accumulator}
 use Rattle.operations.proofs.Parting.{same-registers}
+use Rattle.evaluate.specs.Arming.{arms}
 use Rattle.evaluate.specs.Evaluate.{evaluateOf}
 use Rattle.evaluate.specs.Parting.{InstructionParts, on-registers, on-memory}
 use Rattle.evaluate.proofs.Parting.{instructions-part}
 use Rattle.calls.specs.Parting.{PlansPart, PartsAt, StepsPart}
 use Rattle.calls.specs.Plans.{refusedWith}
-use Rattle.calls.specs.Cycles.{cyclesOf}
+use Rattle.cycles.specs.Cycles.{cyclesOf}
 use Rattle.calls.specs.Steps.{Reached, At, NotReached, reached, finishedAs, finished, planned, stepPlan}
 use Rattle.calls.specs.declared.Plan.{Plan}
 use Rattle.calls.proofs.Laws.{ReachedFits, reached-fits}
@@ -36,17 +38,18 @@ same e n = record {
   cycles = ap (λ (h : Plan). h .machine .cycles) e;
   instructions = ap (λ (h : Plan). h .machine .instructions) e;
   wait = ap (λ (h : Plan). h .machine .wait) e;
+  armed = ap (λ (h : Plan). h .machine .armed) e;
   registers = same-registers (ap (λ (h : Plan). h .machine .regs) e) n;
 }
 
 -- an instruction that both settings carry out, or both refuse
-module _ (m : Machine) (cycles : ℕ) (e f : Effect) {Case : Type 0} (p : EffectsPart e f Case) where
-  finished-part : (Case → e .answer ≡ Done) → PlansPart (finished m cycles e) (finished m cycles f) Case
+module _ (m : Machine) (cycles : ℕ) (mark : Bool) (e f : Effect) {Case : Type 0} (p : EffectsPart e f Case) where
+  finished-part : (Case → e .answer ≡ Done) → PlansPart (finished m cycles mark e) (finished m cycles mark f) Case
   unfolding finished
   finished-part d = go (e .answer) (f .answer) (p .answer) d
     where
-      go : (v w : Answer) → v ≡ w → (Case → v ≡ Done) → PlansPart (finishedAs v m cycles e) (finishedAs w m cycles f) Case
-      go Done Done q h = record { writes = p .writes; answer = refl; cycles = refl; instructions = refl; wait = p .wait; registers = p .registers }
+      go : (v w : Answer) → v ≡ w → (Case → v ≡ Done) → PlansPart (finishedAs v m cycles mark e) (finishedAs w m cycles mark f) Case
+      go Done Done q h = record { writes = p .writes; answer = refl; cycles = refl; instructions = refl; wait = p .wait; armed = refl; registers = p .registers }
       go Done (Refused y) q h = let z : _≡_ {A = ℕ} 0 1 = cc in absurd (omega arith)
       go (Refused x) Done q h = let z : _≡_ {A = ℕ} 0 1 = cc in absurd (omega arith)
       go (Refused x) (Refused y) q h =
@@ -65,5 +68,5 @@ unfolding stepPlan
 steps-part mem m top l h = go (reached mem m) (reached-fits mem m l h)
   where
     go : (a : Reached) → ReachedFits a → PlansPart (planned mem m (settingsOf top Bought) a) (planned mem m (settingsOf top Manual) a) (PartsAt mem a)
-    go (At i r ea) k = finished-part m (cyclesOf i mem r ea) _ _ (instructions-part (i .entry .op) top mem r ea (k .0 .a) (k .0 .b) (byte-fits mem l ea)) (parts-done (i .entry .op) top mem r ea)
+    go (At i r ea) k = finished-part m (cyclesOf i mem r ea) (arms (i .entry .op) (byteAt mem ea)) _ _ (instructions-part (i .entry .op) top mem r ea (k .0 .a) (k .0 .b) (byte-fits mem l ea)) (parts-done (i .entry .op) top mem r ea)
     go (NotReached x) k = same refl (λ c. c)

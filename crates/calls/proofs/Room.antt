@@ -16,6 +16,7 @@ use Rattle.answers.specs.declared.Refusal.{Refusal}
 use Rattle.answers.specs.declared.Refusal.the-variants.{MemoryLength, PastEnd}
 use Rattle.memory.specs.Map.{byteAt, wordAt}
 use Rattle.memory.specs.Writes.{listed, stored}
+use Rattle.machine.specs.Machine.{withRegisters}
 use Rattle.machine.specs.declared.Effect.{Effect}
 use Rattle.machine.specs.declared.Machine.{Machine}
 use Rattle.machine.specs.declared.Settings.{Settings}
@@ -31,6 +32,7 @@ use Rattle.addressing.specs.Address.{resolvedOf}
 use Rattle.addressing.specs.declared.Resolved.{Resolved}
 use Rattle.addressing.specs.declared.Resolved.the-variants.{At as Addressed, Refused as NoAddress}
 use Rattle.addressing.proofs.Refusals.{resolve-refuses}
+use Rattle.evaluate.specs.Arming.{arms}
 use Rattle.evaluate.specs.Evaluate.{evaluateOf}
 use Rattle.evaluate.proofs.Room.{small-exactly}
 use Rattle.stack.specs.Frames.{stackedBy, framed as stacked}
@@ -39,10 +41,10 @@ use Rattle.vectors.specs.Service.{served}
 use Rattle.vectors.specs.Table.{addressOf, isEntire}
 use Rattle.vectors.specs.declared.table.Vector.{Vector}
 use Rattle.vectors.proofs.Laws.{vectors-refuse-exactly}
-use Rattle.calls.specs.Cycles.{cyclesOf}
-use Rattle.calls.specs.Plans.{refusedWith, accepted, withRegisters}
+use Rattle.cycles.specs.Cycles.{cyclesOf}
+use Rattle.calls.specs.Plans.{refusedWith, accepted}
 use Rattle.calls.specs.Steps.{Reached, At, NotReached, addressed, ofDecoded, decodedTo, unlessWaiting, reached, finishedAs, finished, planned, stepPlan}
-use Rattle.calls.specs.Interrupts.{vectorOf, isMasked, taken, afterMasked, ofEffect, interruptPlan}
+use Rattle.calls.specs.Interrupts.{vectorOf, isHeldOff, taken, afterHeldOff, ofEffect, interruptPlan}
 use Rattle.calls.specs.Room.{smallAt, StepSmallExactly, smallFrame, smallInterrupt, InterruptSmallExactly}
 use Rattle.calls.specs.declared.InterruptType.{InterruptType}
 
@@ -84,11 +86,11 @@ reached-other mem m = go (eqb (length mem) 65536)
 
 -- ---- the operation's answer is the step's
 
-done : (m : Machine) (cycles : ℕ) (e : Effect) → isEight (finished m cycles e .answer) ≡ isEight (e .answer)
+done : (m : Machine) (cycles : ℕ) (mark : Bool) (e : Effect) → isEight (finished m cycles mark e .answer) ≡ isEight (e .answer)
 unfolding finished
-done m cycles e = go (e .answer)
+done m cycles mark e = go (e .answer)
   where
-    go : (a : Answer) → isEight (finishedAs a m cycles e .answer) ≡ isEight a
+    go : (a : Answer) → isEight (finishedAs a m cycles mark e .answer) ≡ isEight a
     go Done = refl
     go (Refused x) = refl
 
@@ -97,7 +99,7 @@ unfolding stepPlan
 step-small-exactly mem m s = go (reached mem m) (reached-other mem m)
   where
     go : (a : Reached) → OtherReached a → isEight (planned mem m s a .answer) ≡ smallAt mem a
-    go (At i r ea) k = done m (cyclesOf i mem r ea) (evaluateOf (i .entry .op) s mem r ea) ∙ small-exactly (i .entry .op) s mem r ea
+    go (At i r ea) k = done m (cyclesOf i mem r ea) (arms (i .entry .op) (byteAt mem ea)) (evaluateOf (i .entry .op) s mem r ea) ∙ small-exactly (i .entry .op) s mem r ea
     go (NotReached x) k = k
 
 -- ---- an interrupt
@@ -142,20 +144,20 @@ module _ (mem : List ℕ) (m : Machine) (s : Settings) (v : Vector) where
 
 pub interrupt-small-exactly : InterruptSmallExactly
 unfolding interruptPlan
-interrupt-small-exactly mem m s i = go (eqb (length mem) 65536) (isMasked i (m .regs .cc))
+interrupt-small-exactly mem m s i = go (eqb (length mem) 65536) (isHeldOff i m)
   where
     e : Effect
     e = taken (m .wait) mem s (m .regs) (vectorOf i)
 
     go : (b c : Bool)
-        → isEight (cond b (cond c (accepted (withRegisters m (m .regs) (afterMasked (m .wait)))) (ofEffect m e (e .answer))) (refusedWith m MemoryLength) .answer)
+        → isEight (cond b (cond c (accepted (withRegisters m (m .regs) (afterHeldOff (m .wait)))) (ofEffect m e (e .answer))) (refusedWith m MemoryLength) .answer)
         ≡ cond b (cond c false (smallFrame (m .wait) (m .regs .s) (vectorOf i))) false
     go true true = refl
     go true false = answered m e (e .answer) ∙ framed mem m s (vectorOf i) (m .wait)
     go false c = refl
 
 -- the number, where the frame does not fit
-pub small-interrupt : (mem : List ℕ) (m : Machine) (s : Settings) (i : InterruptType) → length mem ≡ 65536 → isMasked i (m .regs .cc) ≡ false → m .wait ≢ Cwai
+pub small-interrupt : (mem : List ℕ) (m : Machine) (s : Settings) (i : InterruptType) → length mem ≡ 65536 → isHeldOff i m ≡ false → m .wait ≢ Cwai
     → m .regs .s < bytesPushed (stackedBy (isEntire (vectorOf i))) → numberOfAnswer (interruptPlan mem m s i .answer) ≡ 8
 small-interrupt mem m s i size k n l =
     eqb-true (numberOfAnswer (interruptPlan mem m s i .answer)) 8 (interrupt-small-exactly mem m s i ∙ rw (eq-eqb (length mem) 65536 size, k) (go (m .wait) refl))

@@ -1,7 +1,7 @@
--- Calls whose whole plan is one equation: a step while waiting, a masked interrupt, a reset. What an interrupt and a reset do not depend on.
+-- Calls whose whole plan is one equation: a step while waiting, an interrupt that is held off, a reset. What an interrupt and a reset do not depend on.
 -- Assumes nothing.
 use Prim.Native.Nat.{ℕ, _+_, _*_}
-use mathlib.Core.Bool.{true, cond}
+use mathlib.Core.Bool.{true, false, cond}
 use mathlib.Core.List.{List}
 use mathlib.Core.Logic.{_≢_}
 use mathlib.Core.Path.{_≡_}
@@ -12,14 +12,14 @@ use Rattle.answers.specs.declared.Refusal.the-variants.{Waiting}
 use Rattle.registers.specs.RegisterSet.{afterReset}
 use Rattle.memory.specs.Map.{byteAt}
 use Rattle.registers.specs.declared.Flags.{Flags}
-use Rattle.machine.specs.Machine.{settingsOf}
+use Rattle.machine.specs.Machine.{withRegisters, marked, settingsOf}
 use Rattle.machine.specs.declared.Machine.{Machine}
 use Rattle.machine.specs.declared.Settings.{Settings}
 use Rattle.machine.specs.declared.Wait.the-variants.{Running}
 use Rattle.operations.specs.Branches.{jumped}
-use Rattle.calls.specs.Plans.{refusedWith, accepted, withRegisters}
+use Rattle.calls.specs.Plans.{refusedWith, accepted}
 use Rattle.calls.specs.Steps.{stepPlan}
-use Rattle.calls.specs.Interrupts.{isMasked, afterMasked, interruptPlan}
+use Rattle.calls.specs.Interrupts.{isHeldOff, afterHeldOff, interruptPlan}
 use Rattle.calls.specs.Resets.{resetPlan, resetOf}
 use Rattle.calls.specs.declared.InterruptType.{InterruptType}
 
@@ -27,17 +27,18 @@ use Rattle.calls.specs.declared.InterruptType.{InterruptType}
 abbrev pub WaitsRefused : Type 0
 WaitsRefused = (mem : List ℕ) (m : Machine) (s : Settings) → length mem ≡ 65536 → m .wait ≢ Running → stepPlan mem m s ≡ refusedWith m Waiting
 
--- a masked interrupt is answered 0: neither 8 nor 9 is judged, no register changes, and SYNC alone ends
+-- a masked interrupt, or an NMI before S is loaded, is answered 0: neither 8 nor 9 is judged, no register and not the mark changes, and SYNC
+-- alone ends
 abbrev pub MaskedStays : Type 0
 MaskedStays =
-    (mem : List ℕ) (m : Machine) (s : Settings) (i : InterruptType) → length mem ≡ 65536 → isMasked i (m .regs .cc) ≡ true
-    → interruptPlan mem m s i ≡ accepted (withRegisters m (m .regs) (afterMasked (m .wait)))
+    (mem : List ℕ) (m : Machine) (s : Settings) (i : InterruptType) → length mem ≡ 65536 → isHeldOff i m ≡ true
+    → interruptPlan mem m s i ≡ accepted (withRegisters m (m .regs) (afterHeldOff (m .wait)))
 
--- a reset is never refused: PC is the word at FFFE, whatever it leads to
+-- a reset is never refused: PC is the word at FFFE, whatever it leads to, and NMI is held off again
 abbrev pub ResetAccepted : Type 0
 ResetAccepted =
     (mem : List ℕ) (m : Machine) → length mem ≡ 65536
-    → resetPlan mem m ≡ accepted (withRegisters m (jumped afterReset (256 * byteAt mem 0xFFFE + byteAt mem 0xFFFF)) Running)
+    → resetPlan mem m ≡ accepted (marked (withRegisters m (jumped afterReset (256 * byteAt mem 0xFFFE + byteAt mem 0xFFFF)) Running) false)
 
 -- so 1 alone refuses it
 abbrev pub ResetRefusesExactly : Type 0

@@ -1,8 +1,8 @@
--- IRQ, FIRQ and NMI (document 01, section "Interrupts, SWI, reset"). The frame, the masks and the vector are those of the software
--- interrupts (crate vectors).
+-- IRQ, FIRQ and NMI (document 01, section "Interrupts, SWI, reset"; document 02, [5]). The frame, the masks and the vector are those of the
+-- software interrupts (crate vectors).
 -- Assumes nothing.
 use Prim.Native.Nat.{ℕ}
-use mathlib.Core.Bool.{Bool, false, cond}
+use mathlib.Core.Bool.{Bool, not, cond}
 use mathlib.Core.List.{List}
 use lib.Dec.{eqb}
 use lib.ListN.{length}
@@ -11,9 +11,9 @@ use Rattle.answers.specs.declared.Answer.the-variants.{Done, Refused}
 use Rattle.answers.specs.declared.Refusal.the-variants.{MemoryLength}
 use Rattle.registers.specs.ConditionCodes.{flag}
 use Rattle.registers.specs.declared.CCBit.the-variants.{I, F}
-use Rattle.registers.specs.declared.CCBits.{CCBits}
 use Rattle.registers.specs.declared.Set.{Set}
 use Rattle.machine.specs.Effect.{changes}
+use Rattle.machine.specs.Machine.{withRegisters}
 use Rattle.machine.specs.declared.Effect.{Effect}
 use Rattle.machine.specs.declared.Machine.{Machine}
 use Rattle.machine.specs.declared.Settings.{Settings}
@@ -22,7 +22,7 @@ use Rattle.machine.specs.declared.Wait.the-variants.{Running, Cwai, Sync}
 use Rattle.vectors.specs.Service.{vectored, served}
 use Rattle.vectors.specs.declared.table.Vector.{Vector}
 use Rattle.vectors.specs.declared.table.Vector.the-variants.{Irq as IRQ, Firq as FIRQ, Nmi as NMI}
-use Rattle.calls.specs.Plans.{refusedWith, accepted, withRegisters, carriedOut, memoryWith}
+use Rattle.calls.specs.Plans.{refusedWith, accepted, carriedOut, memoryWith}
 use Rattle.calls.specs.declared.InterruptType.{InterruptType}
 use Rattle.calls.specs.declared.InterruptType.the-variants.{Irq, Firq, Nmi}
 use Rattle.calls.specs.declared.Plan.{Plan}
@@ -33,23 +33,23 @@ vectorOf Irq = IRQ
 vectorOf Firq = FIRQ
 vectorOf Nmi = NMI
 
--- I masks IRQ, F masks FIRQ; NMI is never masked
-abbrev pub isMasked : InterruptType → CCBits → Bool
-isMasked Irq cc = flag I cc
-isMasked Firq cc = flag F cc
-isMasked Nmi cc = false
+-- an interrupt that is held off: I masks IRQ and F masks FIRQ; NMI is never masked, and is held off until S is loaded
+abbrev pub isHeldOff : InterruptType → Machine → Bool
+isHeldOff Irq m = flag I (m .regs .cc)
+isHeldOff Firq m = flag F (m .regs .cc)
+isHeldOff Nmi m = not (m .armed)
 
--- an interrupt that is not masked. In CWAI the frame is stacked already: nothing is stacked again, and S is not tested
+-- an interrupt that is not held off. In CWAI the frame is stacked already: nothing is stacked again, and S is not tested
 abbrev pub taken : Wait → List ℕ → Settings → Set → Vector → Effect
 taken Running mem s r v = served mem s r v
 taken Sync mem s r v = served mem s r v
 taken Cwai mem s r v = vectored mem s r (changes r) v
 
--- a masked one ends SYNC and nothing else
-abbrev pub afterMasked : Wait → Wait
-afterMasked Running = Running
-afterMasked Cwai = Cwai
-afterMasked Sync = Running
+-- one that is held off ends SYNC and nothing else
+abbrev pub afterHeldOff : Wait → Wait
+afterHeldOff Running = Running
+afterHeldOff Cwai = Cwai
+afterHeldOff Sync = Running
 
 abbrev pub ofEffect : Machine → Effect → Answer → Plan
 ofEffect m e Done = record { writes = e .writes; machine = withRegisters m (e .regs) Running; answer = Done }
@@ -58,11 +58,11 @@ ofEffect m e (Refused x) = refusedWith m x
 abbrev pub takenBy : Machine → Effect → Plan
 takenBy m e = ofEffect m e (e .answer)
 
--- 1 unless memory has 65,536 bytes; then, unless it is masked, 8 and 9 as they are met
+-- 1 unless memory has 65,536 bytes; then, unless it is held off, 8 and 9 as they are met
 unfoldable pub interruptPlan : List ℕ → Machine → Settings → InterruptType → Plan
 interruptPlan mem m s i =
     cond (eqb (length mem) 65536)
-    (cond (isMasked i (m .regs .cc)) (accepted (withRegisters m (m .regs) (afterMasked (m .wait))))
+    (cond (isHeldOff i m) (accepted (withRegisters m (m .regs) (afterHeldOff (m .wait))))
     (takenBy m (taken (m .wait) mem s (m .regs) (vectorOf i))))
     (refusedWith m MemoryLength)
 

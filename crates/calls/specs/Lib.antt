@@ -1,11 +1,9 @@
 pub mod Plans
-pub mod Cycles
 pub mod Steps
 pub mod Interrupts
 pub mod Resets
 pub mod Calls
 pub mod Accepted
-pub mod Bills
 pub mod Moves
 pub mod Room
 pub mod Parting

@@ -21,6 +21,7 @@ pub record PlansPart (p q : Plan) (Case : Type 0) : Type 0 where
   pub cycles : p .machine .cycles ≡ q .machine .cycles
   pub instructions : p .machine .instructions ≡ q .machine .instructions
   pub wait : p .machine .wait ≡ q .machine .wait
+  pub armed : p .machine .armed ≡ q .machine .armed
   pub registers : PartInV (p .machine .regs) (q .machine .regs) Case
 
 -- the case: an operation is reached that parts at its registers and the byte at its address

@@ -5,13 +5,11 @@ use mathlib.Core.List.{List, []}
 use mathlib.Core.Path.{_≡_}
 use Rattle.answers.specs.declared.Answer.the-variants.{Done, Refused}
 use Rattle.answers.specs.declared.Refusal.{Refusal}
-use Rattle.registers.specs.declared.Set.{Set}
 use Rattle.memory.specs.Fits.{AllFit}
 use Rattle.memory.specs.Writes.{writesOf, listed, stored, reported}
 use Rattle.machine.specs.Machine.{MachineFits}
 use Rattle.machine.specs.declared.Machine.{Machine}
 use Rattle.machine.specs.declared.Settings.{Settings}
-use Rattle.machine.specs.declared.Wait.{Wait}
 use Rattle.calls.specs.declared.Plan.{Plan}
 use Rattle.calls.specs.declared.Report.{Report}
 
@@ -21,10 +19,6 @@ refusedWith m x = record { writes = writesOf []; machine = m; answer = Refused x
 -- the machine changes, and nothing is written
 abbrev pub accepted : Machine → Plan
 accepted m = record { writes = writesOf []; machine = m; answer = Done }
-
--- neither counter moves
-abbrev pub withRegisters : Machine → Set → Wait → Machine
-withRegisters m r w = record { cycles = m .cycles; instructions = m .instructions; regs = r; wait = w }
 
 -- a plan carried out: the device writes in order, the machine and the answer; and memory
 abbrev pub carriedOut : Settings → Plan → Report

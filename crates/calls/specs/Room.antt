@@ -18,7 +18,7 @@ use Rattle.stack.specs.Pushing.{bytesPushed}
 use Rattle.vectors.specs.Table.{isEntire}
 use Rattle.vectors.specs.declared.table.Vector.{Vector}
 use Rattle.calls.specs.Steps.{Reached, At, NotReached, reached, stepPlan}
-use Rattle.calls.specs.Interrupts.{vectorOf, isMasked, interruptPlan}
+use Rattle.calls.specs.Interrupts.{vectorOf, isHeldOff, interruptPlan}
 use Rattle.calls.specs.declared.InterruptType.{InterruptType}
 
 -- a step: where an operation is reached that pushes
@@ -37,7 +37,7 @@ smallFrame Cwai s v = false
 
 abbrev pub smallInterrupt : List ℕ → Machine → InterruptType → Bool
 smallInterrupt mem m i =
-    cond (eqb (length mem) 65536) (cond (isMasked i (m .regs .cc)) false (smallFrame (m .wait) (m .regs .s) (vectorOf i))) false
+    cond (eqb (length mem) 65536) (cond (isHeldOff i m) false (smallFrame (m .wait) (m .regs .s) (vectorOf i))) false
 
 abbrev pub InterruptSmallExactly : Type 0
 InterruptSmallExactly =

@@ -1,7 +1,7 @@
 -- A step (document 01, "Numbers returned" gives the order of refusals): 1, 2, then decoding, the address, the operation.
 -- Assumes nothing.
 use Prim.Native.Nat.{ℕ, _+_, _%_, _^_}
-use mathlib.Core.Bool.{cond}
+use mathlib.Core.Bool.{Bool, cond, _||_}
 use mathlib.Core.List.{List}
 use lib.Dec.{eqb}
 use lib.ListN.{length}
@@ -10,6 +10,7 @@ use Rattle.answers.specs.declared.Answer.the-variants.{Done, Refused}
 use Rattle.answers.specs.declared.Refusal.{Refusal}
 use Rattle.answers.specs.declared.Refusal.the-variants.{MemoryLength, Waiting}
 use Rattle.registers.specs.declared.Set.{Set}
+use Rattle.memory.specs.Map.{byteAt}
 use Rattle.machine.specs.declared.Effect.{Effect}
 use Rattle.machine.specs.declared.Machine.{Machine}
 use Rattle.machine.specs.declared.Settings.{Settings}
@@ -22,8 +23,9 @@ use Rattle.decode.specs.declared.instruction.Instruction.{Instruction}
 use Rattle.addressing.specs.Address.{resolvedOf}
 use Rattle.addressing.specs.declared.Resolved.{Resolved}
 use Rattle.addressing.specs.declared.Resolved.the-variants.{At as Addressed, Refused as NoAddress}
+use Rattle.evaluate.specs.Arming.{arms}
 use Rattle.evaluate.specs.Evaluate.{evaluateOf}
-use Rattle.calls.specs.Cycles.{cyclesOf}
+use Rattle.cycles.specs.Cycles.{cyclesOf}
 use Rattle.calls.specs.Plans.{refusedWith, carriedOut, memoryWith}
 use Rattle.calls.specs.declared.Plan.{Plan}
 use Rattle.calls.specs.declared.Report.{Report}
@@ -58,20 +60,27 @@ reached mem m = cond (eqb (length mem) 65536) (unlessWaiting (m .wait) mem (m .r
 
 -- ---- the operation
 
--- an instruction that is carried out: instructions and 1, cycles and what the step costs, both wrapping
-abbrev pub afterInstruction : Machine → ℕ → Set → Wait → Machine
-afterInstruction m cycles r w =
-    record { cycles = (m .cycles + cycles) % 2 ^ 64; instructions = (m .instructions + 1) % 2 ^ 64; regs = r; wait = w }
+-- an instruction that is carried out: instructions and 1, cycles and what the step costs, both wrapping; armed where it was so or the
+-- instruction arms
+abbrev pub afterInstruction : Machine → ℕ → Bool → Set → Wait → Machine
+afterInstruction m cycles a r w =
+    record {
+      cycles = (m .cycles + cycles) % 2 ^ 64;
+      instructions = (m .instructions + 1) % 2 ^ 64;
+      regs = r;
+      wait = w;
+      armed = m .armed || a;
+    }
 
-abbrev pub finishedAs : Answer → Machine → ℕ → Effect → Plan
-finishedAs Done m cycles e = record { writes = e .writes; machine = afterInstruction m cycles (e .regs) (e .wait); answer = Done }
-finishedAs (Refused x) m cycles e = refusedWith m x
+abbrev pub finishedAs : Answer → Machine → ℕ → Bool → Effect → Plan
+finishedAs Done m cycles a e = record { writes = e .writes; machine = afterInstruction m cycles a (e .regs) (e .wait); answer = Done }
+finishedAs (Refused x) m cycles a e = refusedWith m x
 
-unfoldable pub finished : Machine → ℕ → Effect → Plan
-finished m cycles e = finishedAs (e .answer) m cycles e
+unfoldable pub finished : Machine → ℕ → Bool → Effect → Plan
+finished m cycles a e = finishedAs (e .answer) m cycles a e
 
 abbrev pub operated : List ℕ → Machine → Settings → Instruction → Set → ℕ → Plan
-operated mem m s i r ea = finished m (cyclesOf i mem r ea) (evaluateOf (i .entry .op) s mem r ea)
+operated mem m s i r ea = finished m (cyclesOf i mem r ea) (arms (i .entry .op) (byteAt mem ea)) (evaluateOf (i .entry .op) s mem r ea)
 
 abbrev pub planned : List ℕ → Machine → Settings → Reached → Plan
 planned mem m s (At i r ea) = operated mem m s i r ea

@@ -1,14 +1,12 @@
 // IRQ, FIRQ and NMI.
 ghost use mathlib.Core.Path.{_≡_};
-ghost use Rattle.calls.specs.Plans.{withRegisters};
-ghost use Rattle.calls.specs.Interrupts.{vectorOf, isMasked, taken, afterMasked, ofEffect, interruptPlan, interruptOf, memoryAfterInterrupt};
+ghost use Rattle.calls.specs.Interrupts.{vectorOf, isHeldOff, taken, afterHeldOff, ofEffect, interruptPlan, interruptOf, memoryAfterInterrupt};
 use super::InterruptType;
 use super::Plan;
 use super::Report;
 use super::plans::accept;
 use super::plans::carry_out;
 use super::plans::refused;
-use super::plans::with_registers;
 use answers::Answer;
 use answers::Refusal;
 use machine::Effect;
@@ -16,7 +14,6 @@ use machine::Machine;
 use machine::Settings;
 use machine::Wait;
 use registers::CCBit;
-use registers::CCBits;
 use registers::Set;
 use vectors::Vector;
 
@@ -30,13 +27,15 @@ fn vector_of(which: InterruptType) -> Vector
     }
 }
 
-fn is_masked(which: InterruptType, cc: CCBits) -> bool
-    ensures { λ r. ⌜ r ≡ isMasked which cc ⌝ }
+// IRQ and FIRQ by their mask, NMI until S is loaded.
+fn is_held_off(which: InterruptType, machine: Machine) -> bool
+    ensures { λ r. ⌜ r ≡ isHeldOff which machine ⌝ }
 {
+    let regs = machine.regs;
     match which {
-        InterruptType::Irq => cc.is_set(CCBit::I),
-        InterruptType::Firq => cc.is_set(CCBit::F),
-        InterruptType::Nmi => false,
+        InterruptType::Irq => regs.cc.is_set(CCBit::I),
+        InterruptType::Firq => regs.cc.is_set(CCBit::F),
+        InterruptType::Nmi => !machine.armed,
     }
 }
 
@@ -51,8 +50,8 @@ fn take(mem: &[u8], settings: Settings, wait: Wait, regs: Set, vector: Vector) -
     }
 }
 
-fn after_masked(wait: Wait) -> Wait
-    ensures { λ r. ⌜ r ≡ afterMasked wait ⌝ }
+fn after_held_off(wait: Wait) -> Wait
+    ensures { λ r. ⌜ r ≡ afterHeldOff wait ⌝ }
 {
     match wait {
         Wait::Running => Wait::Running,
@@ -71,13 +70,13 @@ fn finish(machine: Machine, effect: Effect) -> Plan
         Answer::Refused(refusal) => refused(machine, refusal),
         Answer::Done => Plan {
             writes,
-            machine: with_registers(machine, regs, Wait::Running),
+            machine: machine.with_registers(regs, Wait::Running),
             answer,
         },
     }
 }
 
-// What an interrupt will do: 1 by the memory's length; then, unless it is masked, 8 and 9 as they are met.
+// What an interrupt will do: 1 by the memory's length; then, unless it is held off, 8 and 9 as they are met.
 pub fn plan_interrupt(
     mem: &[u8],
     machine: Machine,
@@ -91,8 +90,8 @@ pub fn plan_interrupt(
     }
     let regs = machine.regs;
     let wait = machine.wait;
-    if is_masked(which, regs.cc) {
-        accept(with_registers(machine, regs, after_masked(wait)))
+    if is_held_off(which, machine) {
+        accept(machine.with_registers(regs, after_held_off(wait)))
     } else {
         finish(machine, take(mem, settings, wait, regs, vector_of(which)))
     }

@@ -1,15 +1,13 @@
 // A call's plan, and how it is carried out. Not public: a plan is carried out where it was made.
 ghost use mathlib.Core.Path.{_≡_};
-ghost use Rattle.calls.specs.Plans.{refusedWith, accepted, withRegisters, carriedOut, memoryWith};
+ghost use Rattle.calls.specs.Plans.{refusedWith, accepted, carriedOut, memoryWith};
 use super::Plan;
 use super::Report;
 use answers::Answer;
 use answers::Refusal;
 use machine::Machine;
 use machine::Settings;
-use machine::Wait;
 use memory::Writes;
-use registers::Set;
 
 // A refused call leaves the machine and writes nothing.
 pub fn refused(machine: Machine, refusal: Refusal) -> Plan
@@ -30,18 +28,6 @@ pub fn accept(machine: Machine) -> Plan
         writes: Writes::none(),
         machine,
         answer: Answer::Done,
-    }
-}
-
-// Neither counter moves.
-pub fn with_registers(machine: Machine, regs: Set, wait: Wait) -> Machine
-    ensures { λ r. ⌜ r ≡ withRegisters machine regs wait ⌝ }
-{
-    Machine {
-        cycles: machine.cycles,
-        instructions: machine.instructions,
-        regs,
-        wait,
     }
 }
 

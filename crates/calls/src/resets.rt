@@ -1,4 +1,4 @@
-// Reset. Neither a mask nor the byte that the vector leads to is looked at: 1 alone refuses it.
+// Reset: NMI is held off from here on. Neither a mask nor the byte that the vector leads to is looked at: 1 alone refuses it.
 ghost use mathlib.Core.Path.{_≡_};
 ghost use Rattle.calls.specs.Resets.{resetPlan, resetOf, memoryAfterReset};
 use super::Plan;
@@ -6,7 +6,6 @@ use super::Report;
 use super::plans::accept;
 use super::plans::carry_out;
 use super::plans::refused;
-use super::plans::with_registers;
 use answers::Refusal;
 use machine::Machine;
 use machine::Settings;
@@ -22,7 +21,7 @@ pub fn plan_reset(mem: &[u8], machine: Machine) -> Plan
     }
     let pc = memory::read_u16(mem, Vector::Reset.address());
     let regs = operations::jump(Set::reset(), pc);
-    accept(with_registers(machine, regs, Wait::Running))
+    accept(machine.with_registers(regs, Wait::Running).marked(false))
 }
 
 pub fn reset(mem: &mut [u8], machine: Machine, settings: Settings) -> Report

@@ -3,20 +3,22 @@ ghost use mathlib.Core.Path.{_≡_};
 ghost use Rattle.machine.specs.Effect.{changes};
 ghost use Prim.Native.Nat.{_+_};
 ghost use Rattle.decode.specs.declared.instruction.Decoded.the-variants.{Instruction as Decodes};
+ghost use Rattle.evaluate.specs.Arming.{arms};
 ghost use Rattle.evaluate.specs.Evaluate.{evaluateOf};
-ghost use Rattle.calls.specs.Cycles.{operationExtra};
+ghost use Rattle.memory.specs.Map.{byteAt};
+ghost use Rattle.cycles.specs.Cycles.{operationExtra};
 ghost use Rattle.calls.specs.Steps.{afterInstruction, finished, ofDecoded, decodedTo, planned, stepPlan, stepOf, memoryAfterStep};
 use super::Plan;
 use super::Report;
-use super::cycles::cost;
-use super::cycles::memory_extra;
-use super::cycles::operand_extra;
-use super::cycles::registers_extra;
 use super::plans::carry_out;
 use super::plans::refused;
 use addressing::Resolved;
 use answers::Answer;
 use answers::Refusal;
+use cycles::cost;
+use cycles::memory_extra;
+use cycles::operand_extra;
+use cycles::registers_extra;
 use decode::Decoded;
 use decode::Instruction;
 use machine::Effect;
@@ -29,31 +31,32 @@ use opcodes::Op;
 use operations::Changed;
 use registers::Set;
 
-// An instruction that is carried out counts once, and its cycles are added.
-fn advance(machine: Machine, cycles: u16, regs: Set, wait: Wait) -> Machine
-    ensures { λ r. ⌜ r ≡ afterInstruction machine cycles regs wait ⌝ }
+// An instruction that is carried out counts once, and its cycles are added; once NMI is armed, it stays so.
+fn advance(machine: Machine, cycles: u16, arms: bool, regs: Set, wait: Wait) -> Machine
+    ensures { λ r. ⌜ r ≡ afterInstruction machine cycles arms regs wait ⌝ }
 {
     Machine {
         cycles: std::num::wrapping_add_u64(machine.cycles, cycles as u64),
         instructions: std::num::wrapping_add_u64(machine.instructions, 1),
         regs,
         wait,
+        armed: machine.armed | arms,
     }
 }
 
 // An instruction that changes registers alone: no list of writes is carried along for it.
-fn change(machine: Machine, cycles: u16, regs: Set) -> Plan
-    ensures { λ r. ⌜ r ≡ finished machine cycles (changes regs) ⌝ }
+fn change(machine: Machine, cycles: u16, arms: bool, regs: Set) -> Plan
+    ensures { λ r. ⌜ r ≡ finished machine cycles arms (changes regs) ⌝ }
 {
     Plan {
         writes: Writes::none(),
-        machine: advance(machine, cycles, regs, Wait::Running),
+        machine: advance(machine, cycles, arms, regs, Wait::Running),
         answer: Answer::Done,
     }
 }
 
-fn finish(machine: Machine, cycles: u16, effect: Effect) -> Plan
-    ensures { λ r. ⌜ r ≡ finished machine cycles effect ⌝ }
+fn finish(machine: Machine, cycles: u16, arms: bool, effect: Effect) -> Plan
+    ensures { λ r. ⌜ r ≡ finished machine cycles arms effect ⌝ }
 {
     let answer = effect.answer;
     let writes = effect.writes;
@@ -63,7 +66,7 @@ fn finish(machine: Machine, cycles: u16, effect: Effect) -> Plan
         Answer::Refused(refusal) => refused(machine, refusal),
         Answer::Done => Plan {
             writes,
-            machine: advance(machine, cycles, regs, wait),
+            machine: advance(machine, cycles, arms, regs, wait),
             answer,
         },
     }
@@ -79,7 +82,7 @@ fn operate(
     regs: Set,
     ea: u16,
 ) -> Plan
-    ensures { λ r. ⌜ r ≡ finished machine (entry .cycles + (extra + operationExtra (entry .op) (entry .mode) (now (mem .entry)) regs ea)) (evaluateOf (entry .op) settings (now (mem .entry)) regs ea) ⌝ }
+    ensures { λ r. ⌜ r ≡ finished machine (entry .cycles + (extra + operationExtra (entry .op) (entry .mode) (now (mem .entry)) regs ea)) (arms (entry .op) (byteAt (now (mem .entry)) ea)) (evaluateOf (entry .op) settings (now (mem .entry)) regs ea) ⌝ }
 {
     let op = entry.op;
     let mode = entry.mode;
@@ -87,15 +90,17 @@ fn operate(
     match op {
         Op::Registers(on) => {
             let cycles = cost(entry.cycles, extra, registers_extra(on, mode, regs.cc));
+            let arms = evaluate::registers_arm(on, mem, ea);
             match operations::change(on, flags, mem, regs, ea) {
-                Changed::After(after) => change(machine, cycles, after),
+                Changed::After(after) => change(machine, cycles, arms, after),
                 Changed::Refused(refusal) => refused(machine, refusal),
             }
         }
         Op::Memory(on) => {
             let cycles = cost(entry.cycles, extra, memory_extra(on, mem, regs, ea));
+            let arms = evaluate::memory_arms(on, mem, ea);
             let effect = evaluate::evaluate_memory(on, settings, mem, regs, ea);
-            finish(machine, cycles, effect)
+            finish(machine, cycles, arms, effect)
         }
     }
 }

@@ -1,4 +1,5 @@
 pub mod Waits
+pub mod Arming
 pub mod Sound
 pub mod Room
 pub mod Parting

@@ -1,5 +1,6 @@
 pub mod Evaluate
 pub mod Waits
+pub mod Arming
 pub mod Sound
 pub mod Room
 pub mod Parting

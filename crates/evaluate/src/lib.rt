@@ -1,7 +1,11 @@
 // What an instruction does: chooses the function of its operation, in `operations`, `stack` or `vectors`.
 // The registers come with PC at the next instruction and the index register changed; `ea` is the effective address.
+mod arms;
+
 ghost use mathlib.Core.Path.{_≡_};
 ghost use Rattle.evaluate.specs.Evaluate.{memoryOf, evaluateOf};
+pub use arms::memory_arms;
+pub use arms::registers_arm;
 use machine::Effect;
 use machine::Settings;
 use opcodes::MemoryOp;

@@ -1,6 +1,7 @@
 -- What is read back from a record's header is what was written; its numbers byte by byte.
 -- Assumes nothing.
 use mathlib.Core.Path.{_≡_, refl, sym, ap, _∙_}
+use mathlib.Core.Bool.{Bool, true, false}
 use mathlib.Core.List.{List, [], _∷_, _++_}
 use Prim.Native.Nat.{ℕ, zero, suc, _+_, _*_, _/_, _%_, _^_, _≤_, _<_}
 use native.Mathlib.Nat.{mod-one, mod-eq-of-lt, pow-succ', pow-suc, one-le-pow, pow-le-pow-right}
@@ -11,7 +12,7 @@ use lib.Dec.{lit<, lit≤}
 use lib.ListN.{length, getD}
 use Rattle.registers.specs.Fits.{Fits}
 use Rattle.machine.specs.Machine.{MachineFits}
-use Rattle.machine.specs.Record.{bytes, numberAt, Cycles, waitByte, waitOf, width, offset, header, front, counter, machineOf, headerLength, HeaderInParts, HeaderBack}
+use Rattle.machine.specs.Record.{bytes, numberAt, Cycles, waitByte, waitOf, markByte, markOf, width, offset, header, front, counter, machineOf, headerLength, HeaderInParts, HeaderBack}
 use Rattle.machine.specs.declared.Machine.{Machine}
 use Rattle.machine.specs.declared.Wait.{Wait}
 use Rattle.machine.specs.declared.Wait.the-variants.{Running, Cwai, Sync}
@@ -100,13 +101,24 @@ wait-rest zero h k = absurd (h refl)
 wait-rest (suc zero) h k = absurd (k refl)
 wait-rest (suc (suc n)) h k = refl
 
+-- ---- the mark
+
+mark-back : (a : Bool) → markOf (markByte a) ≡ a
+unfolding markOf
+mark-back true = refl
+mark-back false = refl
+
+pub mark-small : (a : Bool) → markByte a ≤ 1
+mark-small true = lit≤ tt
+mark-small false = lit≤ tt
+
 -- ---- the header
 
 -- byte by byte
 pub spelled : (m : Machine) → Fits (m .regs)
     → front m
     ≡ let r = m .regs in
-    r .a ∷ r .b ∷ r .x / 256 ∷ r .x % 256 ∷ r .y / 256 ∷ r .y % 256 ∷ r .u / 256 ∷ r .u % 256 ∷ r .s / 256 ∷ r .s % 256 ∷ r .pc / 256 ∷ r .pc % 256 ∷ r .dp ∷ r .cc .reg ∷ waitByte (m .wait) ∷ []
+    r .a ∷ r .b ∷ r .x / 256 ∷ r .x % 256 ∷ r .y / 256 ∷ r .y % 256 ∷ r .u / 256 ∷ r .u % 256 ∷ r .s / 256 ∷ r .s % 256 ∷ r .pc / 256 ∷ r .pc % 256 ∷ r .dp ∷ r .cc .reg ∷ waitByte (m .wait) ∷ markByte (m .armed) ∷ []
 unfolding front
 spelled m f =
     let r = m .regs in
@@ -121,6 +133,7 @@ spelled m f =
       one (r .dp) (f .dp),
       one (r .cc .reg) (f .cc),
       one (waitByte (m .wait)) (omega (arith, wait-small (m .wait))),
+      one (markByte (m .armed)) (omega (arith, mark-small (m .armed))),
     )
 
 pub header-in-parts : HeaderInParts
@@ -156,4 +169,5 @@ header-back m rest f = λ i. record {
     cc = record { reg = number-back 1 (m .regs .cc .reg) (f .registers .cc) i };
   };
   wait = (ap waitOf (number-back 1 (waitByte (m .wait)) (omega (arith, wait-small (m .wait)))) ∙ wait-back (m .wait)) i;
+  armed = (ap markOf (number-back 1 (markByte (m .armed)) (omega (arith, mark-small (m .armed)))) ∙ mark-back (m .armed)) i;
 }

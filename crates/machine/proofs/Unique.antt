@@ -10,6 +10,12 @@ use Rattle.machine.proofs.record
 pub fresh : Determines 0 Machine.fresh.Kinds.ps Machine.fresh.Kinds.r Machine.fresh.Reads.Post
 fresh κs a x y ws vs p q = (p ∙ sym q, refl)
 
+pub with-registers : Determines 0 Machine.with_registers.Kinds.ps Machine.with_registers.Kinds.r Machine.with_registers.Reads.Post
+with-registers κs a x y ws vs p q = (p ∙ sym q, refl)
+
+pub marked : Determines 0 Machine.marked.Kinds.ps Machine.marked.Kinds.r Machine.marked.Reads.Post
+marked κs a x y ws vs p q = (p ∙ sym q, refl)
+
 pub settings : Determines 0 Settings.new.Kinds.ps Settings.new.Kinds.r Settings.new.Reads.Post
 settings κs a x y ws vs p q = (p ∙ sym q, refl)
 

@@ -1,16 +1,27 @@
--- The machine (document 01, section "The machine"): registers, wait state and two counters of 64 bits.
+-- The machine (document 01, section "The machine"; document 02, [5]): registers, wait state, armed mark and two counters of 64 bits.
 -- Assumes nothing.
 use Prim.Native.Nat.{ℕ, _^_, _<_}
+use mathlib.Core.Bool.{Bool, false}
 use Rattle.registers.specs.Fits.{Fits}
 use Rattle.registers.specs.RegisterSet.{afterReset}
 use Rattle.registers.specs.declared.Flags.{Flags}
+use Rattle.registers.specs.declared.Set.{Set}
 use Rattle.machine.specs.declared.Machine.{Machine}
 use Rattle.machine.specs.declared.Settings.{Settings}
+use Rattle.machine.specs.declared.Wait.{Wait}
 use Rattle.machine.specs.declared.Wait.the-variants.{Running}
 
--- a fresh machine: running, counters and all registers 0, CC 50
+-- a fresh machine: running and unarmed, counters and all registers 0, CC 50
 abbrev pub fresh : Machine
-fresh = record { cycles = 0; instructions = 0; regs = afterReset; wait = Running }
+fresh = record { cycles = 0; instructions = 0; regs = afterReset; wait = Running; armed = false }
+
+-- a machine with other registers and another wait state: neither counter nor the mark moves
+abbrev pub withRegisters : Machine → Set → Wait → Machine
+withRegisters m r w = record { cycles = m .cycles; instructions = m .instructions; regs = r; wait = w; armed = m .armed }
+
+-- a machine with another mark
+abbrev pub marked : Machine → Bool → Machine
+marked m a = record { cycles = m .cycles; instructions = m .instructions; regs = m .regs; wait = m .wait; armed = a }
 
 abbrev pub settingsOf : ℕ → Flags → Settings
 settingsOf top f = record { «ram_top» = top; flags = f }

@@ -1,10 +1,13 @@
--- The machine at the front of a journal's record (document 01, section "Journal"): its fields in the record's order, each in so many bytes,
--- high byte first. The order and the widths are data: what is written and where it is read back follow from them.
+-- The machine at the front of a journal's record (document 01, section "Journal"; document 02, [5]): its fields in the record's order, each
+-- in so many bytes, high byte first. The order and the widths are data: what is written and where it is read back follow from them.
 -- Assumes nothing.
 use Prim.Native.Nat.{ℕ, zero, suc, _+_, _*_, _/_, _%_, _^_}
+use mathlib.Core.Bool.{Bool, true, false}
 use mathlib.Core.List.{List, [], _∷_, _++_}
 use mathlib.Core.Path.{_≡_}
+use lib.Dec.{eqb}
 use lib.ListN.{getD, take}
+use Rattle.registers.specs.declared.Set.{Set}
 use Rattle.machine.specs.Machine.{MachineFits}
 use Rattle.machine.specs.declared.Machine.{Machine}
 use Rattle.machine.specs.declared.Wait.{Wait}
@@ -25,11 +28,11 @@ numberAt r at (suc n) = getD r at 0 * 256 ^ n + numberAt r (suc at) n
 -- ---- the fields
 
 pub data Field : Type 0 where
-  A B X Y U S PC DP CC Waiting Cycles Instructions : Field
+  A B X Y U S PC DP CC Waiting Armed Cycles Instructions : Field
 
 -- the record's order
 abbrev pub fields : List Field
-fields = A ∷ B ∷ X ∷ Y ∷ U ∷ S ∷ PC ∷ DP ∷ CC ∷ Waiting ∷ Cycles ∷ Instructions ∷ []
+fields = A ∷ B ∷ X ∷ Y ∷ U ∷ S ∷ PC ∷ DP ∷ CC ∷ Waiting ∷ Armed ∷ Cycles ∷ Instructions ∷ []
 
 -- a field's place in that order
 abbrev pub rank : Field → ℕ
@@ -43,8 +46,9 @@ rank PC = 6
 rank DP = 7
 rank CC = 8
 rank Waiting = 9
-rank Cycles = 10
-rank Instructions = 11
+rank Armed = 10
+rank Cycles = 11
+rank Instructions = 12
 
 -- its bytes
 abbrev pub width : Field → ℕ
@@ -58,6 +62,7 @@ width PC = 2
 width DP = 1
 width CC = 1
 width Waiting = 1
+width Armed = 1
 width Cycles = 8
 width Instructions = 8
 
@@ -72,6 +77,14 @@ waitOf zero = Running
 waitOf (suc zero) = Cwai
 waitOf (suc (suc n)) = Sync
 
+-- unarmed 0, armed 1; undo refuses a byte above 1 before it is read back
+abbrev pub markByte : Bool → ℕ
+markByte false = 0
+markByte true = 1
+
+unfoldable pub markOf : ℕ → Bool
+markOf n = eqb n 1
+
 -- what the machine has in a field
 abbrev pub fieldOf : Field → Machine → ℕ
 fieldOf A m = m .regs .a
@@ -84,6 +97,7 @@ fieldOf PC m = m .regs .pc
 fieldOf DP m = m .regs .dp
 fieldOf CC m = m .regs .cc .reg
 fieldOf Waiting m = waitByte (m .wait)
+fieldOf Armed m = markByte (m .armed)
 fieldOf Cycles m = m .cycles
 fieldOf Instructions m = m .instructions
 
@@ -119,24 +133,28 @@ headerLength = widths fields
 abbrev pub held : Field → List ℕ → ℕ
 held f r = numberAt r (offset f) (width f)
 
+abbrev pub registersOf : List ℕ → Set
+registersOf r =
+    record {
+      x = held X r;
+      y = held Y r;
+      u = held U r;
+      s = held S r;
+      pc = held PC r;
+      a = held A r;
+      b = held B r;
+      dp = held DP r;
+      cc = record { reg = held CC r };
+    }
+
 unfoldable pub machineOf : List ℕ → Machine
 machineOf r =
     record {
       cycles = held Cycles r;
       instructions = held Instructions r;
-      regs =
-          record {
-            x = held X r;
-            y = held Y r;
-            u = held U r;
-            s = held S r;
-            pc = held PC r;
-            a = held A r;
-            b = held B r;
-            dp = held DP r;
-            cc = record { reg = held CC r };
-          };
+      regs = registersOf r;
       wait = waitOf (held Waiting r);
+      armed = markOf (held Armed r);
     }
 
 -- the laws: the header is the fields before the counters and the two counters; what is read back is what was written, whatever follows it

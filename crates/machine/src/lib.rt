@@ -1,12 +1,13 @@
-// The machine: registers, wait state and counters; the settings given with each call; what an instruction does to it.
+// The machine: registers, wait state, armed mark and counters; the settings given with each call; what an instruction does to it.
 mod record;
 
 ghost use mathlib.Core.Path.{_≡_};
-ghost use Rattle.machine.specs.Machine.{fresh, settingsOf};
+ghost use Rattle.machine.specs.Machine.{fresh, withRegisters, marked, settingsOf};
 ghost use Rattle.machine.specs.Effect.{changes, stores, refuses};
 use answers::Answer;
 use answers::Refusal;
 use memory::Writes;
+pub use record::ARMED;
 pub use record::CYCLES;
 pub use record::HEADER;
 pub use record::INSTRUCTIONS;
@@ -29,6 +30,8 @@ pub struct Machine {
     pub instructions: u64,
     pub regs: Set,
     pub wait: Wait,
+    // S was loaded since the last reset: NMI is let in.
+    pub armed: bool,
 }
 
 // Given with each call.
@@ -46,7 +49,8 @@ pub struct Effect {
 }
 
 impl Machine {
-    // Running, counters and registers 0, IRQ and FIRQ masked.
+    // Running and unarmed, counters and registers 0, IRQ and FIRQ masked. Every machine that is not read back from bytes is made from this
+    // one, by the two functions below: a new field is added here.
     pub fn fresh() -> Machine
         ensures { λ r. ⌜ r ≡ fresh ⌝ }
     {
@@ -55,7 +59,29 @@ impl Machine {
             instructions: 0,
             regs: Set::reset(),
             wait: Wait::Running,
+            armed: false,
         }
+    }
+
+    // Counters and mark stay.
+    pub fn with_registers(self, regs: Set, wait: Wait) -> Machine
+        ensures { λ r. ⌜ r ≡ withRegisters self regs wait ⌝ }
+    {
+        Machine {
+            cycles: self.cycles,
+            instructions: self.instructions,
+            regs,
+            wait,
+            armed: self.armed,
+        }
+    }
+
+    // The mark alone changes.
+    pub fn marked(mut self, armed: bool) -> Machine
+        ensures { λ r. ⌜ r ≡ marked self armed ⌝ }
+    {
+        self.armed = armed;
+        self
     }
 }
 

@@ -2,7 +2,7 @@
 ghost use mathlib.Core.Path.{_≡_};
 ghost use Prim.Native.Nat.{_+_, _^_, _≤_, _<_};
 ghost use lib.ListN.{getD};
-ghost use Rattle.machine.specs.Record.{bytes, numberAt, waitByte, waitOf, front, counter, machineOf};
+ghost use Rattle.machine.specs.Record.{bytes, numberAt, waitByte, waitOf, markByte, markOf, front, counter, registersOf, machineOf};
 use super::Machine;
 use super::Wait;
 use registers::CCBits;
@@ -29,7 +29,9 @@ const CC: usize = DP + 1;
 
 pub const WAIT: usize = CC + 1;
 
-pub const CYCLES: usize = WAIT + 1;
+pub const ARMED: usize = WAIT + 1;
+
+pub const CYCLES: usize = ARMED + 1;
 
 // The bytes of a counter.
 const COUNTER: usize = 8;
@@ -49,13 +51,20 @@ fn wait_byte(wait: Wait) -> u8
     }
 }
 
+fn mark_byte(armed: bool) -> u8
+    ensures { λ r. ⌜ r ≡ markByte armed ⌝ }
+{
+    if armed { 1 } else { 0 }
+}
+
 // The fields before the counters. The counters are apart from them, since the compiler stores an array of eight shifted bytes as one
-// number and one of 31 byte by byte (docs/PERFORMANCE.md).
+// number and one of 32 byte by byte (docs/PERFORMANCE.md).
 pub fn front_of(machine: Machine) -> [u8; CYCLES]
     ensures { λ r. ⌜ r ≡ front machine ⌝ }
 {
     let wait = machine.wait;
     let w = wait_byte(wait);
+    let mark = mark_byte(machine.armed);
     let regs = machine.regs;
     let cc = regs.cc.get_as_byte();
     [
@@ -74,6 +83,7 @@ pub fn front_of(machine: Machine) -> [u8; CYCLES]
         regs.dp,
         cc,
         w,
+        mark,
     ]
 }
 
@@ -125,34 +135,48 @@ fn wait_of(b: u8) -> Wait
     Wait::Sync
 }
 
-// The machine that a record holds.
-pub fn machine_of(r: &[u8]) -> Machine
-    ensures { λ m. ⌜ m ≡ machineOf (now (r .entry)) ⌝ }
+fn mark_of(b: u8) -> bool
+    ensures { λ r. ⌜ r ≡ markOf b ⌝ }
+{
+    b == 1
+}
+
+// The registers that a record holds.
+fn registers_of(r: &[u8]) -> Set
+    ensures { λ regs. ⌜ regs ≡ registersOf (now (r .entry)) ⌝ }
 {
     let x = number_at(r, X, 2) as u16;
     let y = number_at(r, Y, 2) as u16;
     let u = number_at(r, U, 2) as u16;
     let s = number_at(r, S, 2) as u16;
     let pc = number_at(r, PC, 2) as u16;
-    let wait = wait_of(byte_at(r, WAIT));
-    let cycles = number_at(r, CYCLES, COUNTER);
-    let instructions = number_at(r, INSTRUCTIONS, COUNTER);
-    Machine {
-        cycles,
-        instructions,
-        regs: Set {
-            x,
-            y,
-            u,
-            s,
-            pc,
-            a: byte_at(r, A),
-            b: byte_at(r, B),
-            dp: byte_at(r, DP),
-            cc: CCBits {
-                reg: byte_at(r, CC),
-            },
+    Set {
+        x,
+        y,
+        u,
+        s,
+        pc,
+        a: byte_at(r, A),
+        b: byte_at(r, B),
+        dp: byte_at(r, DP),
+        cc: CCBits {
+            reg: byte_at(r, CC),
         },
+    }
+}
+
+// The machine that a record holds.
+pub fn machine_of(r: &[u8]) -> Machine
+    ensures { λ m. ⌜ m ≡ machineOf (now (r .entry)) ⌝ }
+{
+    let regs = registers_of(r);
+    let wait = wait_of(byte_at(r, WAIT));
+    let armed = mark_of(byte_at(r, ARMED));
+    Machine {
+        cycles: number_at(r, CYCLES, COUNTER),
+        instructions: number_at(r, INSTRUCTIONS, COUNTER),
+        regs,
         wait,
+        armed,
     }
 }

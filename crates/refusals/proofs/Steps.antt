@@ -36,9 +36,10 @@ use Rattle.addressing.specs.Address.{resolvedOf}
 use Rattle.addressing.specs.declared.Resolved.{Resolved}
 use Rattle.addressing.specs.declared.Resolved.the-variants.{At as Addressed, Refused as NoAddress}
 use Rattle.addressing.proofs.Refusals.{resolve-refuses, next-refused}
+use Rattle.evaluate.specs.Arming.{arms}
 use Rattle.evaluate.specs.Evaluate.{evaluateOf}
 use Rattle.evaluate.specs.Room.{isSmall}
-use Rattle.calls.specs.Cycles.{cyclesOf}
+use Rattle.cycles.specs.Cycles.{cyclesOf}
 use Rattle.calls.specs.Steps.{Reached, At, NotReached, addressed, ofDecoded, decodedTo, unlessWaiting, reached, finishedAs, finished, planned, stepPlan}
 use Rattle.refusals.specs.Operations.{codeRefused, leadsToZero}
 use Rattle.refusals.specs.Steps.{Runs, NextPast, Met, StepsRefused}
@@ -56,11 +57,11 @@ abbrev whole : List ℕ → Settings → Reached → ℕ
 whole mem s (At i r ea) = numberOfAnswer (evaluateOf (i .entry .op) s mem r ea .answer)
 whole mem s (NotReached x) = numberOf x
 
-done : (m : Machine) (cycles : ℕ) (e : Effect) → numberOfAnswer (finished m cycles e .answer) ≡ numberOfAnswer (e .answer)
+done : (m : Machine) (cycles : ℕ) (mark : Bool) (e : Effect) → numberOfAnswer (finished m cycles mark e .answer) ≡ numberOfAnswer (e .answer)
 unfolding finished
-done m cycles e = go (e .answer)
+done m cycles mark e = go (e .answer)
   where
-    go : (a : Answer) → numberOfAnswer (finishedAs a m cycles e .answer) ≡ numberOfAnswer a
+    go : (a : Answer) → numberOfAnswer (finishedAs a m cycles mark e .answer) ≡ numberOfAnswer a
     go Done = refl
     go (Refused x) = refl
 
@@ -69,7 +70,7 @@ unfolding stepPlan
 step-number mem m s = go (reached mem m)
   where
     go : (a : Reached) → numberOfAnswer (planned mem m s a .answer) ≡ whole mem s a
-    go (At i r ea) = done m (cyclesOf i mem r ea) (evaluateOf (i .entry .op) s mem r ea)
+    go (At i r ea) = done m (cyclesOf i mem r ea) (arms (i .entry .op) (byteAt mem ea)) (evaluateOf (i .entry .op) s mem r ea)
     go (NotReached x) = refl
 
 -- ---- decoding and the address

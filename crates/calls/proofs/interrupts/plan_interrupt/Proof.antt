@@ -1,4 +1,4 @@
--- 1, then the mask, then the interrupt itself.
+-- 1, then whether it is held off, then the interrupt itself.
 -- Assumes nothing.
 use borrow.Author.Tests.{eq-eqb, ne-eqb}
 use Rattle.calls.specs.Interrupts.{interruptPlan}
@@ -12,11 +12,11 @@ returns c = rw (c .refused .ensures, ne-eqb _ 65536 (c .before .if1 .taken))
 
 returns-2 : tie.Need-returns-2
 unfolding interruptPlan
-returns-2 c = rw (c .accept .ensures, c .before .with-registers .ensures, c .before .before .after-masked .ensures, eq-eqb _ 65536 (c .before .before .before .before .before .before .if1 .left), ← (c .before .before .before .before .is-masked .ensures), c .before .before .before .if2 .taken)
+returns-2 c = rw (c .accept .ensures, c .before .with-registers .ensures, c .before .before .after-held-off .ensures, eq-eqb _ 65536 (c .before .before .before .before .before .before .if1 .left), ← (c .before .before .before .before .is-held-off .ensures), c .before .before .before .if2 .taken)
 
 returns-3 : tie.Need-returns-3
 unfolding interruptPlan
-returns-3 c = rw (c .finish .ensures, c .before .take .ensures, c .before .before .vector-of .ensures, eq-eqb _ 65536 (c .before .before .before .before .before .before .if1 .left), ← (c .before .before .before .before .is-masked .ensures), c .before .before .before .if2 .left)
+returns-3 c = rw (c .finish .ensures, c .before .take .ensures, c .before .before .vector-of .ensures, eq-eqb _ 65536 (c .before .before .before .before .before .before .if1 .left), ← (c .before .before .before .before .is-held-off .ensures), c .before .before .before .if2 .left)
 
 pub plan-interrupt-spec : {M : Type 1} → statement M
 plan-interrupt-spec = tie.close (tie.spec (search needs) returns (search needs) (search needs) (search needs) (search needs) (search needs) (search needs) (search needs) returns-2 returns-3)

@@ -15,13 +15,14 @@ unfolding resetPlan
 returns-2 c =
     rw (
       c .accept .ensures,
-      c .before .with-registers .ensures,
-      c .before .before .jump .ensures,
-      c .before .before .before .reset .ensures,
-      c .before .before .before .before .read-u16 .ensures,
-      c .before .before .before .before .before .address .ensures,
-      eq-eqb _ 65536 (c .before .before .before .before .before .before .if1 .left),
+      c .before .marked .ensures,
+      c .before .before .with-registers .ensures,
+      c .before .before .before .jump .ensures,
+      c .before .before .before .before .reset .ensures,
+      c .before .before .before .before .before .read-u16 .ensures,
+      c .before .before .before .before .before .before .address .ensures,
+      eq-eqb _ 65536 (c .before .before .before .before .before .before .before .if1 .left),
     )
 
 pub plan-reset-spec : {M : Type 1} → statement M
-plan-reset-spec = tie.close (tie.spec (search needs) returns (search needs) (search needs) (search needs) (search needs) (search needs) (search needs) returns-2)
+plan-reset-spec = tie.close (tie.spec (search needs) returns (search needs) (search needs) (search needs) (search needs) (search needs) (search needs) (search needs) returns-2)

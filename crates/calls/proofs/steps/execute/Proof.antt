@@ -1,6 +1,6 @@
 -- The address, then the operation.
 -- Assumes nothing.
-use Rattle.calls.specs.Cycles.{cyclesOf}
+use Rattle.cycles.specs.Cycles.{cyclesOf}
 use borrow.Author.Needs.{needs}
 use Rattle.calls.proofs.steps.execute.Statement.{statement}
 use Rattle.calls.proofs.steps.execute.Tie as tie

@@ -10,7 +10,7 @@ use Rattle.machine.proofs.record.front_of.Tie as tie
 
 returns : tie.Need-returns
 returns c =
-    let m = c .before .before .before .before .before .before .before .before .before .before .before .before .before .args .machine in
+    let m = c .before .before .before .before .before .before .before .before .before .before .before .before .before .before .args .machine in
     let f : Fits (m .regs) =
     record {
       x = omega arith;
@@ -23,7 +23,7 @@ returns c =
       dp = omega arith;
       cc = omega (arith, c .before .before .before .before .before .before .before .before .before .before .get-as-byte .ensures);
     } in
-    rw (c .before .before .before .before .before .before .before .before .before .before .before .before .wait-byte .ensures, c .before .before .before .before .before .before .before .before .before .before .get-as-byte .ensures) (sym (spelled m f))
+    rw (c .before .before .before .before .before .before .before .before .before .before .before .before .before .wait-byte .ensures, c .before .before .before .before .before .before .before .before .before .before .before .before .mark-byte .ensures, c .before .before .before .before .before .before .before .before .before .before .get-as-byte .ensures) (sym (spelled m f))
 
 pub front-of-spec : {M : Type 1} → statement M
-front-of-spec = tie.close (tie.spec (search needs) (search needs) (search needs) (search needs) (search needs) (search needs) (search needs) (search needs) (search needs) (search needs) (search needs) (search needs) returns)
+front-of-spec = tie.close (tie.spec (search needs) (search needs) (search needs) (search needs) (search needs) (search needs) (search needs) (search needs) (search needs) (search needs) (search needs) (search needs) (search needs) returns)

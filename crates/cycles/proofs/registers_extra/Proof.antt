@@ -1,9 +1,9 @@
 -- A branch, or no extra.
 -- Assumes nothing.
 use borrow.Author.Needs.{needs}
-use Rattle.calls.proofs.Arms.{no-branch}
-use Rattle.calls.proofs.cycles.registers_extra.Statement.{statement}
-use Rattle.calls.proofs.cycles.registers_extra.Tie as tie
+use Rattle.cycles.proofs.Arms.{no-branch}
+use Rattle.cycles.proofs.registers_extra.Statement.{statement}
+use Rattle.cycles.proofs.registers_extra.Tie as tie
 
 returns : tie.Need-returns
 returns c = rw (c .branch-extra .ensures, c .before .before .op .given .1)

@@ -1,9 +1,9 @@
 -- RTI, a push or a pull, or no extra.
 -- Assumes nothing.
 use borrow.Author.Needs.{needs}
-use Rattle.calls.proofs.Arms.{stacks, no-pull}
-use Rattle.calls.proofs.cycles.memory_extra.Statement.{statement}
-use Rattle.calls.proofs.cycles.memory_extra.Tie as tie
+use Rattle.cycles.proofs.Arms.{stacks, no-pull}
+use Rattle.cycles.proofs.memory_extra.Statement.{statement}
+use Rattle.cycles.proofs.memory_extra.Tie as tie
 
 returns : tie.Need-returns
 returns c = rw (c .return-extra .ensures, c .before .enum-told .given .1)

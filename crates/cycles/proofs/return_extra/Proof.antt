@@ -2,9 +2,9 @@
 -- Assumes nothing.
 use mathlib.Core.Bool.{true, false}
 use borrow.Author.Needs.{needs}
-use Rattle.calls.proofs.Arms.{by-e}
-use Rattle.calls.proofs.cycles.return_extra.Statement.{statement}
-use Rattle.calls.proofs.cycles.return_extra.Tie as tie
+use Rattle.cycles.proofs.Arms.{by-e}
+use Rattle.cycles.proofs.return_extra.Statement.{statement}
+use Rattle.cycles.proofs.return_extra.Tie as tie
 
 returns : tie.Need-returns
 returns c = by-e _ _ (rw (c .before .before .set-from-byte .ensures, c .before .before .before .read-u8 .ensures) at (c .before .is-set .ensures)) true (c .if1 .taken)

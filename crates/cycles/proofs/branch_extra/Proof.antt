@@ -1,9 +1,9 @@
 -- By the mode, and of a long branch by its condition.
 -- Assumes nothing.
 use borrow.Author.Needs.{needs}
-use Rattle.calls.proofs.Arms.{not-long, long}
-use Rattle.calls.proofs.cycles.branch_extra.Statement.{statement}
-use Rattle.calls.proofs.cycles.branch_extra.Tie as tie
+use Rattle.cycles.proofs.Arms.{not-long, long}
+use Rattle.cycles.proofs.branch_extra.Statement.{statement}
+use Rattle.cycles.proofs.branch_extra.Tie as tie
 
 returns : tie.Need-returns
 returns c = rw (c .enum-told2 .given .1, c .before .before .enum-told .given .1)

@@ -1,22 +1,18 @@
--- What a step can cost, by one test over the opcode table, and what each post-byte adds, by one test over all of them.
+-- What an instruction can cost, by one test over the opcode table, and what each post-byte adds, by one test over all of them.
 -- Assumes nothing.
 use Prim.Native.Nat.{ℕ, _+_, _≤_, _<_}
 use mathlib.Core.Path.{_≡_, refl, subst}
 use mathlib.Core.Bool.{Bool, true, false, cond, _&&_}
 use mathlib.Core.List.{List, [], _∷_}
 use native.Mathlib.Omega.{arith}
-use lib.Dec.{T, eqb, leb, leb→le, lit≤}
-use lib.ListN.{length}
-use Rattle.answers.specs.declared.Refusal.the-variants.{MemoryLength, PastEnd}
+use lib.Dec.{T, leb, leb→le, lit≤}
+use Rattle.answers.specs.declared.Refusal.the-variants.{PastEnd}
 use Rattle.registers.specs.ConditionCodes.{coded, flag, bitAt}
 use Rattle.registers.specs.declared.CCBit.the-variants.{E}
 use Rattle.registers.specs.declared.CCBits.{CCBits}
 use Rattle.registers.specs.declared.Set.{Set}
 use Rattle.memory.specs.Fits.{Bytes}
 use Rattle.memory.specs.Map.{byteAt}
-use Rattle.machine.specs.declared.Machine.{Machine}
-use Rattle.machine.specs.declared.Wait.{Wait}
-use Rattle.machine.specs.declared.Wait.the-variants.{Running, Cwai as InCwai, Sync as InSync}
 use Rattle.opcodes.specs.Manual.{entryOf}
 use Rattle.opcodes.specs.Rows.{values}
 use Rattle.opcodes.specs.declared.Cond.{Cond}
@@ -48,14 +44,10 @@ use Rattle.decode.specs.declared.operand.OperandRead.the-variants.{Operand as R
 use Rattle.decode.specs.declared.postbyte.Form.{Form}
 use Rattle.decode.specs.declared.postbyte.Form.the-variants.{Offset5, Increment1, Increment2, Decrement1, Decrement2, NoOffset, OffsetB, OffsetA, Offset8, Offset16, OffsetD, Program8, Program16, Address}
 use Rattle.decode.proofs.Origin.{decode-origin}
-use Rattle.addressing.specs.Address.{resolvedOf}
-use Rattle.addressing.specs.declared.Resolved.{Resolved}
-use Rattle.addressing.specs.declared.Resolved.the-variants.{At as Addressed, Refused as NoAddress}
 use Rattle.operations.specs.Branches.{condition}
 use Rattle.stack.proofs.Laws.{none-dropped}
-use Rattle.calls.specs.Bills.{Bounded, StepBounded, byForm, postByteExtra, PostByteExtras}
-use Rattle.calls.specs.Cycles.{formExtra, operandExtra, isConditional, branchExtra, registersExtra, memoryExtra, operationExtra, extraOf, cyclesOf}
-use Rattle.calls.specs.Steps.{Reached, At, NotReached, addressed, ofDecoded, decodedTo, unlessWaiting, reached}
+use Rattle.cycles.specs.Bills.{Bounded, BoundedAt, InstructionBounded, byForm, postByteExtra, PostByteExtras}
+use Rattle.cycles.specs.Cycles.{formExtra, operandExtra, isConditional, branchExtra, registersExtra, memoryExtra, operationExtra, extraOf, cyclesOf}
 
 -- ---- the most that an operand and an operation add
 
@@ -220,38 +212,23 @@ so None t = tt
 each-small : (page : Page) (code : ℕ) → code < 256 → PlaceSmall (entryOf page code)
 each-small page code l = so (entryOf page code) (alike (λ (code : ℕ). small (entryOf page code)) (λ (code : ℕ). true) 256 (all-small page) code l)
 
--- ---- a step
+-- ---- an instruction
 
-module _ (mem : List ℕ) (r : Set) where
-  bounded : (i : Instruction) (ea : ℕ) → Small (i .entry) → operandExtra (i .operand) ≤ mostOf (i .entry .mode) → Bounded mem (At i r ea)
-  unfolding cyclesOf
-  bounded i ea s h =
-      let k = operation-most (i .entry .op) (i .entry .mode) mem r ea in
-      (omega (arith, h, k, s .extra), omega (arith, h, k, s .whole))
+bounded : (mem : List ℕ) (i : Instruction) → Small (i .entry) → operandExtra (i .operand) ≤ mostOf (i .entry .mode) → (r : Set) (ea : ℕ) → Bounded mem i r ea
+unfolding cyclesOf
+bounded mem i s h r ea =
+    let k = operation-most (i .entry .op) (i .entry .mode) mem r ea in
+    record { extra = omega (arith, h, k, s .extra); whole = omega (arith, h, k, s .whole) }
 
-of-address : (mem : List ℕ) (i : Instruction) (a : Resolved) → Small (i .entry) → operandExtra (i .operand) ≤ mostOf (i .entry .mode) → Bounded mem (addressed i a)
-of-address mem i (Addressed a) s h = bounded mem (a .regs) i (a .ea) s h
-of-address mem i (NoAddress x) s h = tt
-
-of-decoded : (mem : List ℕ) (r : Set) (d : Decoded) → OriginOf mem d → Bounded mem (ofDecoded mem r d)
-of-decoded mem r (Taken i) o =
-    of-address mem i (resolvedOf mem r (i .operand) (i .next))
+of-decoded : (mem : List ℕ) (d : Decoded) → OriginOf mem d → BoundedAt mem d
+of-decoded mem (Taken i) o =
+    bounded mem i
     (subst PlaceSmall (o .entry) (each-small (o .page) (o .code) (o .byte)))
     (subst (ReadSo (i .entry .mode)) (o .operand) (operand-most mem (o .after) (i .entry .mode)))
-of-decoded mem r (NotDecoded x) o = tt
+of-decoded mem (NotDecoded x) o = tt
 
-pub step-bounded : StepBounded
-unfolding reached decodedTo
-step-bounded mem m b = go (eqb (length mem) 65536)
-  where
-    waiting : (w : Wait) → Bounded mem (unlessWaiting w mem (m .regs))
-    waiting Running = of-decoded mem (m .regs) (decodedAt mem (m .regs .pc)) (decode-origin mem (m .regs .pc) b)
-    waiting InCwai = tt
-    waiting InSync = tt
-
-    go : (t : Bool) → Bounded mem (cond t (unlessWaiting (m .wait) mem (m .regs)) (NotReached MemoryLength))
-    go true = waiting (m .wait)
-    go false = tt
+pub instruction-bounded : InstructionBounded
+instruction-bounded mem pc b = of-decoded mem (decodedAt mem pc) (decode-origin mem pc b)
 
 -- ---- post-bytes
 

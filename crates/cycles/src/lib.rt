@@ -1,7 +1,7 @@
 // What a step costs in cycles: the base figure of the opcode table, and what the manual adds to it.
 ghost use mathlib.Core.Path.{_≡_};
 ghost use Prim.Native.Nat.{_+_};
-ghost use Rattle.calls.specs.Cycles.{formExtra, operandExtra, branchExtra, registersExtra, returnExtra, memoryExtra};
+ghost use Rattle.cycles.specs.Cycles.{formExtra, operandExtra, branchExtra, registersExtra, returnExtra, memoryExtra};
 use decode::Form;
 use decode::Operand;
 use opcodes::Cond;

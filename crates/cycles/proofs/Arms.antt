@@ -29,7 +29,7 @@ use Rattle.decode.specs.declared.operand.Operand.the-variants.{Inherent as Noth
 use Rattle.decode.proofs.operand.Operand as operands
 use Rattle.operations.specs.Branches.{condition}
 use Rattle.stack.specs.Pushing.{bytesPushed}
-use Rattle.calls.specs.Cycles.{operandExtra, branchExtra, registersExtra, memoryExtra}
+use Rattle.cycles.specs.Cycles.{operandExtra, branchExtra, registersExtra, memoryExtra}
 
 -- an operand without a post-byte
 pub no-index : (o : Operand) → OneOf (0 ∷ 1 ∷ 2 ∷ 4 ∷ 5 ∷ []) (tagOf operands.the-type o) → 0 ≡ operandExtra o

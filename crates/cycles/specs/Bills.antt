@@ -1,4 +1,4 @@
--- Laws of the cycles: how much a step can cost, and what each post-byte adds.
+-- Laws of the cycles: how much an instruction can cost, and what each post-byte adds.
 -- Assumes nothing.
 use Prim.Native.Nat.{ℕ, _≤_, _<_}
 use mathlib.Core.Bool.{Bool, true, false, cond}
@@ -9,22 +9,30 @@ use lib.Bits.{bitAnd}
 use lib.Dec.{eqb, ltb}
 use Rattle.answers.specs.Counting.{counted}
 use Rattle.memory.specs.Fits.{Bytes}
-use Rattle.machine.specs.declared.Machine.{Machine}
+use Rattle.registers.specs.declared.Set.{Set}
+use Rattle.decode.specs.Decode.{decodedAt}
 use Rattle.decode.specs.PostByte.{isIndirect, isRefused, formOf}
+use Rattle.decode.specs.declared.instruction.Decoded.{Decoded}
+use Rattle.decode.specs.declared.instruction.Decoded.the-variants.{Instruction as Taken, Refused as NotDecoded}
+use Rattle.decode.specs.declared.instruction.Instruction.{Instruction}
 use Rattle.decode.specs.declared.postbyte.PostByte.{PostByte}
 use Rattle.decode.specs.declared.postbyte.PostByte.the-variants.{Form as Formed, Refused as NoForm}
-use Rattle.calls.specs.Cycles.{formExtra, extraOf, cyclesOf}
-use Rattle.calls.specs.Steps.{Reached, At, NotReached, reached}
+use Rattle.cycles.specs.Cycles.{formExtra, extraOf, cyclesOf}
 
 -- ---- how much
 
 -- a form adds at most 8, RTI 9, a push or pull 12, and no instruction has two of them: an extra is at most 12, and the sum a byte
-abbrev pub Bounded : List ℕ → Reached → Type 0
-Bounded mem (At i r ea) = (extraOf i mem r ea ≤ 12) × (cyclesOf i mem r ea ≤ 20)
-Bounded mem (NotReached x) = Unit {0}
+pub record Bounded (mem : List ℕ) (i : Instruction) (r : Set) (ea : ℕ) : Type 0 where
+  pub extra : extraOf i mem r ea ≤ 12
+  pub whole : cyclesOf i mem r ea ≤ 20
 
-abbrev pub StepBounded : Type 0
-StepBounded = (mem : List ℕ) (m : Machine) → Bytes mem → Bounded mem (reached mem m)
+-- an instruction that was decoded, whatever the registers and the effective address
+abbrev pub BoundedAt : List ℕ → Decoded → Type 0
+BoundedAt mem (Taken i) = (r : Set) (ea : ℕ) → Bounded mem i r ea
+BoundedAt mem (NotDecoded x) = Unit {0}
+
+abbrev pub InstructionBounded : Type 0
+InstructionBounded = (mem : List ℕ) (pc : ℕ) → Bytes mem → BoundedAt mem (decodedAt mem pc)
 
 -- ---- post-bytes
 

@@ -1,9 +1,9 @@
 -- By the form of an indexed operand; no other adds cycles.
 -- Assumes nothing.
 use borrow.Author.Needs.{needs}
-use Rattle.calls.proofs.Arms.{no-index}
-use Rattle.calls.proofs.cycles.operand_extra.Statement.{statement}
-use Rattle.calls.proofs.cycles.operand_extra.Tie as tie
+use Rattle.cycles.proofs.Arms.{no-index}
+use Rattle.cycles.proofs.operand_extra.Statement.{statement}
+use Rattle.cycles.proofs.operand_extra.Tie as tie
 
 returns : tie.Need-returns
 returns c = rw (c .form-extra .ensures, c .before .is-indirect .ensures, c .before .before .before .operand .given .1)
