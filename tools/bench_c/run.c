@@ -4,7 +4,7 @@
 #include <stdio.h>
 #include <string.h>
 
-enum { LONGEST_FILE = 32768, JOURNAL = 960 * RECORD_SIZE, LONGEST_LINE = 33 };
+enum { LONGEST_FILE = 32768, JOURNAL = 65280, LONGEST_LINE = 33 };
 
 /* A run file that is being read. */
 struct input { const uint8_t *at, *end; };

@@ -9,7 +9,7 @@
 
 enum { BATCH = 10000, CODE = 0x1000 };
 
-static uint8_t memory[MEMORY_SIZE], journal[BATCH * RECORD_SIZE];
+static uint8_t memory[MEMORY_SIZE], journal[BATCH * LONGEST_RECORD];
 
 /* The answers ORed. */
 static int run(struct machine *m, int how, uint32_t count)
@@ -19,6 +19,7 @@ static int run(struct machine *m, int how, uint32_t count)
         uint32_t batch = count < BATCH ? count : BATCH;
         count -= batch;
         m->used = 0;
+        m->records = 0;
         do {
             sum |= machine_step(m, how != 'U');
             if (how == 'B')
@@ -40,6 +41,6 @@ int main(void)
         .journal = journal, .journal_size = sizeof journal,
     };
     int sum = run(&m, head[0], (uint32_t)head[1] << 24 | head[2] << 16 | head[3] << 8 | head[4]);
-    putchar(m.cpu.cycles >> 8 & 255), putchar(m.cpu.cycles & 255), putchar(m.used >> 8 & 255), putchar(m.used & 255);
+    putchar(m.cpu.cycles >> 8 & 255), putchar(m.cpu.cycles & 255), putchar(m.records >> 8 & 255), putchar(m.records & 255);
     return sum;
 }

@@ -1,6 +1,6 @@
 /*
  * A 6809 twin in ordinary C, the peer of tools/bench: step, interrupt, reset and undo with a journal, by the rules that the proved twin
- * keeps (document 01 and requests [2], [3], [6] and [8]). It is written for speed, and nothing of it is proved.
+ * keeps (document 01 and requests [2], [3], [5], [6], [8] and [9] without its drop). It is written for speed, and nothing of it is proved.
  * A call changes the machine in place. The state before it is kept for the journal's record, and put back on a refusal.
  */
 #include "twin.h"
@@ -303,6 +303,8 @@ static void set_register(struct cpu *c, unsigned code, uint16_t v)
     case 11: c->dp = v; break;
     default: c->index[code - 1] = v; break;
     }
+    if (code == 4)
+        c->armed = true;
 }
 
 static out_of_line int transfer(struct cpu *c, uint8_t post, bool exchange)
@@ -463,7 +465,7 @@ static int serve(struct machine *m, enum interrupt kind)
     bool stacked = c->wait == IN_CWAI;
     if (c->wait == IN_SYNC)
         c->wait = RUNNING;
-    if (c->cc & kinds[kind].blocker)
+    if (c->cc & kinds[kind].blocker || (kind == NMI && !c->armed))
         return DONE;
     if (!stacked) {
         int answer = kind == FIRQ ? stack_two(m) : stack_all(m);
@@ -649,12 +651,12 @@ static always_inline int execute(struct machine *m)
     CONDITIONS(BRANCH)
     case 0x30: INDEXED(4); c->x = ea; flags(c, Z, ea == 0 ? Z : 0); break;
     case 0x31: INDEXED(4); c->y = ea; flags(c, Z, ea == 0 ? Z : 0); break;
-    case 0x32: INDEXED(4); c->s = ea; break;
+    case 0x32: INDEXED(4); c->s = ea; c->armed = true; break;
     case 0x33: INDEXED(4); c->u = ea; break;
     case 0x34: IMM8(5); TRY(push_list(m, v, &c->s, c->u, false)); break;
     case 0x35: IMM8(5); c->cycles += pull_list(m, v, &c->s, &c->u); break;
     case 0x36: IMM8(5); TRY(push_list(m, v, &c->u, c->s, false)); break;
-    case 0x37: IMM8(5); c->cycles += pull_list(m, v, &c->u, &c->s); break;
+    case 0x37: IMM8(5); c->cycles += pull_list(m, v, &c->u, &c->s); c->armed |= v >> 6 & 1; break;
     case 0x39: NEXT(1, 5); c->pc = pull16(m, &c->s); break;
     case 0x3A: NEXT(1, 3); c->x += c->b; break;
     case 0x3B: NEXT(1, 6); rti(m); break;
@@ -704,7 +706,7 @@ static always_inline int execute(struct machine *m)
         WORDS(0x83, 5, 7, sub16(c, get_d(c), w))
         WORDS(0x8C, 5, 7, sub16(c, c->y, w))
         WORDS(0x8E, 4, 6, c->y = logic16(c, w))
-        WORDS(0xCE, 4, 6, c->s = logic16(c, w))
+        WORDS(0xCE, 4, 6, c->s = logic16(c, w); c->armed = true)
         TO_MEMORY(0x8F, 6, STORE16(c->y))
         TO_MEMORY(0xCF, 6, STORE16(c->s))
         default: return refuse(at + 1, BAD_OPCODE);
@@ -729,23 +731,20 @@ static always_inline int execute(struct machine *m)
 
 /* ------------------------------------------------------------------ calls and the journal */
 
-/* 1, 12, 2, 10; and clears what the last call left. */
+/* 1, 12, 2; and clears what the last call left. */
 static inline int begin(struct machine *m, bool recorded, bool waiting)
 {
     m->report.count = 0;
     m->stores.count = 0;
     if (unlikely(m->memory_size != MEMORY_SIZE))
         return BAD_MEMORY;
-    if (recorded) {
-        size_t room = m->journal_size / RECORD_SIZE;
-        if (unlikely(m->used >= room))
-            return m->used > room ? BAD_JOURNAL : waiting ? WAITING : JOURNAL_FULL;
-        m->stores = (struct stores){ 0 };
-    }
+    if (recorded && unlikely(m->used > m->journal_size || m->records == UINT64_MAX))
+        return BAD_JOURNAL;
     return unlikely(waiting) ? WAITING : DONE;
 }
 
-static out_of_line void write_record(uint8_t *restrict record, const struct cpu *restrict c, const struct stores *restrict s)
+/* The machine, the count, the entries, and the record's length as its last byte. */
+static out_of_line void write_record(uint8_t *restrict record, const struct cpu *restrict c, const struct stores *restrict s, unsigned size)
 {
     record[0] = c->a;
     record[1] = c->b;
@@ -757,19 +756,30 @@ static out_of_line void write_record(uint8_t *restrict record, const struct cpu 
     record[12] = c->dp;
     record[13] = c->cc;
     record[14] = c->wait;
-    put64(record + 15, c->cycles);
-    put64(record + 23, c->instructions);
-    memcpy(record + 31, s, sizeof *s);
+    record[15] = c->armed;
+    put64(record + 16, c->cycles);
+    put64(record + 24, c->instructions);
+    memcpy(record + HEADER, s, 1 + 3 * s->count);
+    record[size - 1] = size;
 }
 
+/* 10 where the record does not fit, judged last. */
 static inline int finish(struct machine *m, bool recorded, const struct cpu *before, int answer)
 {
+    if (recorded && likely(answer == DONE)) {
+        unsigned size = HEADER + 2 + 3 * m->stores.count;
+        if (likely(size <= m->journal_size - m->used)) {
+            write_record(m->journal + m->used, before, &m->stores, size);
+            m->used += size;
+            m->records++;
+            return DONE;
+        }
+        answer = JOURNAL_FULL;
+    }
     if (unlikely(answer != DONE)) {
         m->cpu = *before;
         put_back(m->memory, &m->stores);
         m->report.count = 0;
-    } else if (recorded) {
-        write_record(m->journal + m->used++ * RECORD_SIZE, before, &m->stores);
     }
     return answer;
 }
@@ -808,21 +818,27 @@ int machine_undo(struct machine *m)
     m->report.count = 0;
     if (m->memory_size != MEMORY_SIZE)
         return BAD_MEMORY;
-    if (m->used > m->journal_size / RECORD_SIZE)
+    if (m->used > m->journal_size)
         return BAD_JOURNAL;
-    if (m->used == 0)
+    if (m->records == 0)
         return NO_RECORD;
-    const uint8_t *r = m->journal + (m->used - 1) * RECORD_SIZE;
-    struct stores stores;
-    memcpy(&stores, r + 31, sizeof stores);
-    if (r[14] > IN_SYNC || stores.count > MAX_WRITES)
+    if (m->used == 0)
         return BAD_JOURNAL;
+    unsigned size = m->journal[m->used - 1];
+    if (size < HEADER + 2 || size > m->used)
+        return BAD_JOURNAL;
+    const uint8_t *r = m->journal + m->used - size;
+    if (r[14] > IN_SYNC || r[15] > 1 || r[HEADER] > MAX_WRITES || size != HEADER + 2 + 3u * r[HEADER])
+        return BAD_JOURNAL;
+    struct stores stores = { .count = r[HEADER] };
+    memcpy(stores.entry, r + HEADER + 1, 3 * stores.count);
     put_back(m->memory, &stores);
     m->cpu = (struct cpu){
         .a = r[0], .b = r[1], .x = get16(r + 2), .y = get16(r + 4), .u = get16(r + 6), .s = get16(r + 8),
-        .pc = get16(r + 10), .dp = r[12], .cc = r[13], .wait = r[14],
-        .cycles = get64(r + 15), .instructions = get64(r + 23),
+        .pc = get16(r + 10), .dp = r[12], .cc = r[13], .wait = r[14], .armed = r[15],
+        .cycles = get64(r + 16), .instructions = get64(r + 24),
     };
-    m->used--;
+    m->used -= size;
+    m->records--;
     return DONE;
 }

@@ -6,7 +6,7 @@
 #include <stddef.h>
 #include <stdint.h>
 
-enum { MEMORY_SIZE = 65536, RECORD_SIZE = 68, MAX_WRITES = 12 };
+enum { MEMORY_SIZE = 65536, HEADER = 32, LONGEST_RECORD = 70, MAX_WRITES = 12 };
 enum { RUNNING, IN_CWAI, IN_SYNC };
 enum { C = 1, V = 2, Z = 4, N = 8, I = 16, H = 32, F = 64, E = 128 };
 
@@ -25,10 +25,11 @@ struct cpu {
     };
     uint16_t pc;
     uint8_t dp, cc, wait;
+    bool armed;                                 /* S was loaded since the last reset: NMI is let in */
     uint64_t cycles, instructions;
 };
 
-/* The bytes stored by one call, laid out as the tail of a journal record. */
+/* The bytes stored by one call, laid out as they stand in its record. */
 struct stores {
     uint8_t count;
     uint8_t entry[MAX_WRITES][3];               /* place high, place low, old byte */
@@ -47,7 +48,8 @@ struct machine {
     uint8_t *memory;                            /* lent */
     size_t memory_size;
     uint8_t *journal;                           /* lent, for recorded calls */
-    size_t journal_size, used;                  /* bytes; records */
+    size_t journal_size, used;                  /* bytes */
+    uint64_t records;
     struct stores stores;
     struct report report;
 };

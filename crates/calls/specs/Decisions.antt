@@ -85,10 +85,10 @@ pub record Tells (s : Settings) (mem : List ℕ) (op : MemoryOp) (r : Set) (ea :
   pub effect : effectTold s mem d ≡ memoryOf op s mem r ea
   pub plain : Plain (s .«ram_top») d
 
-pub record Decides (s : Settings) (mem : List ℕ) (cycles : ℕ) (arms : Bool) (e : Effect) (d : Decision) : Type 0 where
+pub record Decides (s : Settings) (mem : List ℕ) (n : ℕ) (b : Bool) (e : Effect) (d : Decision) : Type 0 where
   pub effect : effectTold s mem d ≡ e
-  pub cycles : d .cycles ≡ cycles
-  pub arms : d .arms ≡ arms
+  pub cycles : d .cycles ≡ n
+  pub arms : d .arms ≡ b
   pub plain : Plain (s .«ram_top») d
 
 pub record DecidesPlan (m : Machine) (s : Settings) (mem : List ℕ) (p : Plan) (d : Decision) : Type 0 where

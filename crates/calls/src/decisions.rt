@@ -1,16 +1,15 @@
 // What an instruction does, told by a small value: a list of twelve writes is made for the few that need one (docs/PERFORMANCE.md). A byte or
 // word that is told, or a frame that is pushed, lies below the devices and at or below ram_top, where nothing but the store is to be done.
 ghost use mathlib.Core.Path.{_≡_};
-ghost use mathlib.Core.Bool.{_&&_};
-ghost use Prim.Native.Nat.{_+_, _<_};
+ghost use mathlib.Core.Bool.{true};
+ghost use Prim.Native.Nat.{_+_, _<_, _≤_};
 ghost use Rattle.decode.specs.declared.instruction.Decoded.the-variants.{Instruction as Decodes};
 ghost use Rattle.evaluate.specs.Arming.{arms};
 ghost use Rattle.evaluate.specs.Evaluate.{evaluateOf};
 ghost use Rattle.memory.specs.Map.{byteAt};
 ghost use Rattle.cycles.specs.Cycles.{operationExtra};
 ghost use Rattle.calls.specs.Steps.{ofDecoded, decodedTo, planned};
-ghost use lib.Dec.{ltb, leb};
-ghost use Rattle.opcodes.specs.declared.MemoryOp.the-variants.{OnMemory, Store8, Store16, Bsr, Rts, Push, Pull};
+ghost use Rattle.opcodes.specs.declared.MemoryOp.the-variants.{OnMemory, Store8, Store16, Bsr, Push};
 ghost use Rattle.calls.specs.Decisions.{told, refusalTold, pushTold, leftOver, billed, Tells, Decides, DecidesPlan};
 use addressing::Resolved;
 use answers::Refusal;
@@ -131,27 +130,40 @@ fn wide(byte: u8) -> u16
     byte as u16
 }
 
-fn is_plain(at: u16, ram_top: u16) -> bool
-    ensures { λ r. ⌜ r ≡ (ltb at 0xFF00 && leb at «ram_top») ⌝ }
+// The last byte that is written lies below the devices and at or below ram_top.
+fn is_below(last: u16, ram_top: u16) -> bool
+    ensures { λ r. ⌜ (r ≡ true → (last < 0xFF00) × (last ≤ «ram_top»)) ⌝ }
 {
-    (at < 0xFF00) & (at <= ram_top)
+    if last < 0xFF00 {
+        return last <= ram_top;
+    }
+    false
+}
+
+// Both bytes of a word.
+fn is_word_below(at: u16, ram_top: u16) -> bool
+    ensures { λ r. ⌜ (r ≡ true → (at + 1 < 0xFF00) × (at + 1 ≤ «ram_top»)) ⌝ }
+{
+    if at < 0xFEFF {
+        return at < ram_top;
+    }
+    false
 }
 
 fn store8(settings: Settings, mem: &[u8], regs: Set, acc: Acc, ea: u16) -> Decision
     ensures { λ r. ⌜ Tells settings (now (mem .entry)) (Store8 acc) regs ea r ⌝ }
 {
-    if is_plain(ea, settings.ram_top) {
+    if is_below(ea, settings.ram_top) {
         let value = operations::accumulator(regs, acc);
         return tell(Kind::Byte, operations::test(regs, value), ea, wide(value));
     }
     leave(MemoryOp::Store8(acc), regs, ea)
 }
 
-// Both bytes of the word are plain.
 fn store16(settings: Settings, mem: &[u8], regs: Set, word: Word, ea: u16) -> Decision
     ensures { λ r. ⌜ Tells settings (now (mem .entry)) (Store16 word) regs ea r ⌝ }
 {
-    if (ea < 0xFEFF) & (ea < settings.ram_top) {
+    if is_word_below(ea, settings.ram_top) {
         let value = regs.word(word);
         return tell(Kind::Word, operations::test16(regs, value), ea, value);
     }
@@ -162,9 +174,14 @@ fn on_memory(settings: Settings, mem: &[u8], regs: Set, op: Unary, ea: u16) -> D
     ensures { λ r. ⌜ Tells settings (now (mem .entry)) (OnMemory op) regs ea r ⌝ }
 {
     let flags = settings.flags;
-    if is_plain(ea, settings.ram_top) {
+    if is_below(ea, settings.ram_top) {
         let out = operations::unary(flags, op, regs.cc, memory::read_u8(mem, ea));
-        return tell(Kind::Byte, operations::with_codes(regs, out.cc), ea, wide(out.value));
+        return tell(
+            Kind::Byte,
+            operations::with_codes(regs, out.cc),
+            ea,
+            wide(out.value),
+        );
     }
     leave(MemoryOp::OnMemory(op), regs, ea)
 }
@@ -174,9 +191,17 @@ fn call(settings: Settings, mem: &[u8], regs: Set, ea: u16) -> Decision
     ensures { λ r. ⌜ Tells settings (now (mem .entry)) Bsr regs ea r ⌝ }
 {
     let top = regs.s;
-    if (1 < top) & (top <= 0xFF00) & (top <= settings.ram_top) {
-        let pc = regs.pc;
-        return tell(Kind::Word, operations::jump(regs.with_word(Word::S, top - 2), ea), top - 2, pc);
+    if 1 < top {
+        let at = top - 2;
+        if is_word_below(at, settings.ram_top) {
+            let pc = regs.pc;
+            return tell(
+                Kind::Word,
+                operations::jump(regs.with_word(Word::S, at), ea),
+                at,
+                pc,
+            );
+        }
     }
     leave(MemoryOp::Bsr, regs, ea)
 }
@@ -186,8 +211,10 @@ fn push(settings: Settings, mem: &[u8], regs: Set, own: Stack, ea: u16) -> Decis
 {
     let mask = memory::read_u8(mem, ea);
     let top = regs.word(own.word());
-    if (wide(stack::bytes_of(mask)) <= top) & (top <= 0xFF00) & (top <= settings.ram_top) {
-        return tell_push(regs, own, mask);
+    if wide(stack::bytes_of(mask)) <= top {
+        if is_below(top, settings.ram_top) {
+            return tell_push(regs, own, mask);
+        }
     }
     leave(MemoryOp::Push(own), regs, ea)
 }
@@ -200,12 +227,18 @@ fn decide_memory(op: MemoryOp, settings: Settings, mem: &[u8], regs: Set, ea: u1
         MemoryOp::Store8(acc) => store8(settings, mem, regs, acc, ea),
         MemoryOp::Store16(word) => store16(settings, mem, regs, word, ea),
         MemoryOp::OnMemory(unary) => on_memory(settings, mem, regs, unary, ea),
-        MemoryOp::Bsr | MemoryOp::Jsr => call(settings, mem, regs, ea),
+        MemoryOp::Bsr => call(settings, mem, regs, ea),
+        MemoryOp::Jsr => call(settings, mem, regs, ea),
         MemoryOp::Rts => tell(Kind::Change, stack::return_from_subroutine(mem, regs), 0, 0),
         MemoryOp::Push(own) => push(settings, mem, regs, own, ea),
         MemoryOp::Pull(own) => {
             let mask = memory::read_u8(mem, ea);
-            tell(Kind::Change, stack::pull_registers(mem, regs, own, mask), 0, 0)
+            tell(
+                Kind::Change,
+                stack::pull_registers(mem, regs, own, mask),
+                0,
+                0,
+            )
         }
         _ => leave(op, regs, ea),
     }

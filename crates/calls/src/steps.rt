@@ -177,7 +177,15 @@ fn carry_rest(
 }
 
 // The registers of a post-byte are stored, and the pointer in use is lowered.
-fn carry_push(mem: &mut [u8], machine: Machine, cycles: u16, arms: bool, regs: Set, own: Stack, mask: u8) -> Report
+fn carry_push(
+    mem: &mut [u8],
+    machine: Machine,
+    cycles: u16,
+    arms: bool,
+    regs: Set,
+    own: Stack,
+    mask: u8,
+) -> Report
     requires { ⌜ (length (now mem) ≡ 65536) × ((wordOf regs (stackWord own) ≤ 0xFF00) × (bytesPushed mask ≤ wordOf regs (stackWord own))) ⌝ }
     ensures { λ r. ⌜ ((s : Settings) → wordOf regs (stackWord own) ≤ s .«ram_top» → (r ≡ carriedOut s (finished machine cycles arms (pushed regs own mask false))) × (now (mem .exit) ≡ memoryWith s (finished machine cycles arms (pushed regs own mask false)) (now (mem .entry)))) ⌝ }
 {

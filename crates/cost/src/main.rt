@@ -22,7 +22,13 @@ fn emptied(machine: Machine) -> Twin {
 }
 
 // Recorded steps on an empty journal, each taken back at once if `back`.
-fn batch(mem: &mut Memory, journal: &mut Journal, machine: Machine, count: u32, back: bool) -> Twin {
+fn batch(
+    mem: &mut Memory,
+    journal: &mut Journal,
+    machine: Machine,
+    count: u32,
+    back: bool,
+) -> Twin {
     let settings = costing::settings();
     let mut twin = emptied(machine);
     let mut left = count;
@@ -38,7 +44,13 @@ fn batch(mem: &mut Memory, journal: &mut Journal, machine: Machine, count: u32, 
     twin
 }
 
-fn recorded(mem: &mut Memory, journal: &mut Journal, machine: Machine, count: u32, back: bool) -> Twin {
+fn recorded(
+    mem: &mut Memory,
+    journal: &mut Journal,
+    machine: Machine,
+    count: u32,
+    back: bool,
+) -> Twin {
     let mut twin = emptied(machine);
     let mut left = count;
     while left > 0 {
@@ -65,6 +77,11 @@ fn main() {
     let _ = io::read_full(STDIN_FILENO, &mut code);
     let mut mem = [0u8; costing::BYTES];
     costing::fill(&mut mem, &code);
-    let twin = run(&mut mem, costing::start(), costing::count_of(head), head[0] == b'B');
+    let twin = run(
+        &mut mem,
+        costing::start(),
+        costing::count_of(head),
+        head[0] == b'B',
+    );
     let _ = write(&costing::report(twin.machine, twin.used));
 }

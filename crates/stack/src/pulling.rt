@@ -175,5 +175,6 @@ pub fn return_from_subroutine(mem: &[u8], regs: Set) -> Set
     ensures { λ r. ⌜ r ≡ pulled (now (mem .entry)) regs S 0x80 ⌝ }
 {
     let pc = memory::read_u16(mem, regs.s);
-    regs.with_word(Word::S, std::num::wrapping_add_u16(regs.s, 2)).with_pc(pc)
+    regs.with_word(Word::S, std::num::wrapping_add_u16(regs.s, 2))
+        .with_pc(pc)
 }

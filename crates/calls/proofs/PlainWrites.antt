@@ -11,10 +11,12 @@ use lib.Dec.{eqb, ltb}
 use lib.ListN.{set}
 use Rattle.u8oru16.specs.declared.u8u16.the-variants.{u8, u16}
 use Rattle.registers.specs.ConditionCodes.{bitAt}
-use Rattle.registers.specs.Names.{registerSize}
-use Rattle.registers.specs.RegisterSet.{read}
+use Rattle.registers.specs.Names.{registerSize, wordName, stackWord, otherStack}
+use Rattle.registers.specs.RegisterSet.{read, wordOf}
 use Rattle.registers.specs.declared.Name.{Name}
 use Rattle.registers.specs.declared.Set.{Set}
+use Rattle.registers.specs.declared.Stack.{Stack}
+use Rattle.registers.specs.declared.Stack.the-variants.{S as onS, U as onU}
 use Rattle.memory.specs.Map.{landingOf}
 use Rattle.memory.specs.Writes.{putAt, deviceAt, stored, reported, valueWrites}
 use Rattle.memory.specs.declared.Landing.{Landing}
@@ -22,6 +24,22 @@ use Rattle.memory.specs.declared.Landing.the-variants.{Stored}
 use Rattle.memory.specs.declared.writes.Write.{Write}
 use Rattle.memory.proofs.Ranges.{place-low, kept}
 use Rattle.stack.specs.Pushing.{chosen, pushes}
+
+pub less : (q n p : ℕ) → q + n ≡ p → q ≡ p - n
+less q n p e = omega arith
+
+pub below : (q n p m : ℕ) → q + n ≡ p → p ≤ m → q ≤ m
+below q n p m e h = omega arith
+
+-- what is left of p has room for what is left to be pushed
+pub rooms : (p a b c d q r s : ℕ) → a + b + c + d ≤ p → q + a ≡ p → r + b ≡ q → s + c ≡ r → (a ≤ p) × (b ≤ q) × (c ≤ r) × (d ≤ s)
+rooms p a b c d q r s h e f g = (omega arith, omega arith, omega arith, omega arith)
+
+pub room-after : (q w b p : ℕ) → q + 2 * w ≡ p → 2 * w + b ≤ p → b ≤ q
+room-after q w b p e h = omega arith
+
+pub lowest : (n : ℕ) → n % 2 ≡ n / 2 ^ 0 % 2
+lowest n = omega arith
 
 -- what a list of writes comes to: memory, and the writes that are reported
 abbrev pub outcome : ℕ → List Write → List ℕ → List ℕ × List Write
@@ -66,26 +84,43 @@ module _ (top : ℕ) where
     module _ (k : ℕ) (name : Name) (slots : List (ℕ × Name)) (p v : ℕ) (mem : List ℕ) (low : p ≤ 0xFF00) (reached : p ≤ top) where
       pub word-pushed : (n : ℕ) → n ≡ mask / 2 ^ k % 2 → 2 * n ≤ p → read r name ≡ u16 v → registerSize name ≡ 2
           → left p ((k, name) ∷ slots) mem ≡ left (p - 2 * n) slots (cond (eqb n 1) (set (set mem (p - 2) (v / 256)) (p - 2 + 1) (v % 256)) mem)
-      unfolding chosen bitAt
+      unfolding chosen bitAt pushes
       word-pushed n e room is size = rw (← e) (go n room (omega arith))
         where
           go : (d : ℕ) → 2 * d ≤ p → d < 2
               → outcome top (pushes r false p (cond (eqb d 1) (name ∷ chosen mask slots) (chosen mask slots))) mem
               ≡ outcome top (pushes r false (p - 2 * d) (chosen mask slots)) (cond (eqb d 1) (set (set mem (p - 2) (v / 256)) (p - 2 + 1) (v % 256)) mem)
-          unfolding pushes
-          go zero h b = refl
+          go zero h b = let z : p - 2 * 0 ≡ p = omega arith in rw z
           go (suc zero) h b = rw (size, is) (word-first (p - 2) v (pushes r false (p - 2) (chosen mask slots)) mem (omega arith) (omega arith))
           go (suc (suc d)) h b = absurd (omega arith)
 
       pub byte-pushed : (n : ℕ) → n ≡ mask / 2 ^ k % 2 → n ≤ p → read r name ≡ u8 v → registerSize name ≡ 1
           → left p ((k, name) ∷ slots) mem ≡ left (p - n) slots (cond (eqb n 1) (set mem (p - 1) v) mem)
-      unfolding chosen bitAt
+      unfolding chosen bitAt pushes
       byte-pushed n e room is size = rw (← e) (go n room (omega arith))
         where
           go : (d : ℕ) → d ≤ p → d < 2
               → outcome top (pushes r false p (cond (eqb d 1) (name ∷ chosen mask slots) (chosen mask slots))) mem
               ≡ outcome top (pushes r false (p - d) (chosen mask slots)) (cond (eqb d 1) (set mem (p - 1) v) mem)
-          unfolding pushes
-          go zero h b = refl
+          go zero h b = let z : p - 0 ≡ p = omega arith in rw z
           go (suc zero) h b = rw (size, is) (byte-first (p - 1) v (pushes r false (p - 1) (chosen mask slots)) mem (omega arith) (omega arith))
           go (suc (suc d)) h b = absurd (omega arith)
+
+      pub word-turn : (n : ℕ) → n ≡ mask / 2 ^ k % 2 → 2 * n ≤ p → read r name ≡ u16 v → registerSize name ≡ 2
+          → (q : ℕ) → q + 2 * n ≡ p → (after : List ℕ) → after ≡ cond (eqb n 1) (set (set mem (p - 2) (v / 256)) (p - 2 + 1) (v % 256)) mem
+          → left p ((k, name) ∷ slots) mem ≡ left q slots after
+      word-turn n e room is size q eq after em = let w : q ≡ p - 2 * n = less q (2 * n) p eq in rw (w, em) (word-pushed n e room is size)
+
+      pub byte-turn : (n : ℕ) → n ≡ mask / 2 ^ k % 2 → n ≤ p → read r name ≡ u8 v → registerSize name ≡ 1
+          → (q : ℕ) → q + n ≡ p → (after : List ℕ) → after ≡ cond (eqb n 1) (set mem (p - 1) v) mem
+          → left p ((k, name) ∷ slots) mem ≡ left q slots after
+      byte-turn n e room is size q eq after em = let w : q ≡ p - n = less q n p eq in rw (w, em) (byte-pushed n e room is size)
+
+-- the other stack pointer is a word
+pub other-read : (r : Set) (own : Stack) → read r (wordName (stackWord (otherStack own))) ≡ u16 (wordOf r (stackWord (otherStack own)))
+other-read r onS = refl
+other-read r onU = refl
+
+pub other-size : (own : Stack) → registerSize (wordName (stackWord (otherStack own))) ≡ 2
+other-size onS = refl
+other-size onU = refl
