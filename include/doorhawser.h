@@ -6,13 +6,15 @@
  * wanted as long as no two of them are lent one buffer at a time.
  *
  * The host owns all: the twin (48 bytes, handed over by value and handed back), a memory of 65,536 bytes and, for recorded calls, a
- * journal of any length: 68 bytes for each call that can be taken back.
+ * journal of any length: 34 to 70 bytes for each call that can be taken back, 3 for each byte that it stores beside 34. The twin has the
+ * counts of records and of bytes in use; doorhawser_drop forgets the oldest and frees their room.
  *
  * What is promised, and proved: every call takes every input, and ends. What it returns and what it leaves in the lent buffers is what its
  * definition says (docs/PROMISES.md, "Hosts in C and Rust"). A refused call returns its number, the twin as it was given and a list of no
  * device writes, and changes no byte of memory, journal or output; of a run that holds of the refused step, and those before it are made.
- * After recorded calls in any order, each accepted undo brings back the registers, the wait, both counters and all memory outside FF00-FFDF
- * as they stood before the newest accepted call that is not yet undone: proved of the calls on a twin that these are by their definitions.
+ * After recorded calls and drops in any order, each accepted undo brings back the registers, the wait, the armed mark, both counters and all
+ * memory outside FF00-FFDF as they stood before the newest accepted call that is still held: proved of the calls on a twin that these are
+ * by their definitions.
  *
  * What the prover does not see, and the host owes:
  *   - Pointers and lengths. A pointer with its length names bytes that are there, to be read, and written unless it is const. With length
@@ -42,8 +44,8 @@ extern "C" {
 #endif
 
 /* Raised by each change of a struct below, or of what a call takes. */
-enum { DOORHAWSER_ABI = 1 };
-enum { DOORHAWSER_MEMORY = 65536, DOORHAWSER_RECORD = 68, DOORHAWSER_DEVICES = 12 };
+enum { DOORHAWSER_ABI = 3 };
+enum { DOORHAWSER_MEMORY = 65536, DOORHAWSER_RECORD = 70, DOORHAWSER_DEVICES = 12 }; /* a record has at most 70 bytes */
 
 enum { DOORHAWSER_BOUGHT = 0, DOORHAWSER_MANUAL = 1 };                     /* flags: as the bought emulator sets them, or by the manual */
 enum { DOORHAWSER_RUNNING = 0, DOORHAWSER_CWAI = 1, DOORHAWSER_SYNC = 2 }; /* wait */
@@ -60,16 +62,17 @@ enum {
     DOORHAWSER_TRANSFER_CODE = 7,    /* TFR or EXG code refused */
     DOORHAWSER_STACK_TOO_SMALL = 8,  /* stack pointer smaller than the bytes to push */
     DOORHAWSER_ZERO_AT_VECTOR = 9,   /* the vector leads to a zero byte */
-    DOORHAWSER_JOURNAL_FULL = 10,    /* fewer than 68 journal bytes after the used records */
+    DOORHAWSER_JOURNAL_FULL = 10,    /* the call's own record does not fit after the bytes in use */
     DOORHAWSER_NO_RECORD = 11,       /* undo with no record */
-    DOORHAWSER_JOURNAL_LENGTH = 12,  /* used records longer than the journal, or a newest record that cannot be */
+    DOORHAWSER_JOURNAL_LENGTH = 12,  /* bytes in use beyond the journal, a count of records that cannot rise, or a record that is none */
     DOORHAWSER_OUTPUT_SHORT = 17,    /* save: the output is too short */
     DOORHAWSER_LINE_SHAPE = 20,      /* load: a line of another shape, or a line after S9 */
     DOORHAWSER_CHECKSUM = 21,        /* load: bad checksum */
     DOORHAWSER_PAST_TOP = 22,        /* load: data past FFFF */
     DOORHAWSER_NO_END = 23,          /* load: no S9 */
     DOORHAWSER_POST_BYTE_8F = 24,    /* a post-byte of low form 8F other than 9F */
-    DOORHAWSER_UNNAMED = 64          /* wait, flags or which outside its range, or a spare field that is not 0; judged before all others */
+    DOORHAWSER_TOO_FEW_RECORDS = 26, /* drop of more records than are held */
+    DOORHAWSER_UNNAMED = 64          /* wait, armed, flags or which outside its range, or a spare field not 0; judged before all others */
 };
 
 typedef struct doorhawser_settings { /* 4 bytes */
@@ -80,12 +83,12 @@ typedef struct doorhawser_settings { /* 4 bytes */
 
 typedef struct doorhawser_twin { /* 48 bytes */
     uint64_t cycles, instructions;
-    uint64_t records; /* records of the journal in use */
-    uint64_t bytes;   /* 0: room for the journal's bytes in use */
+    uint64_t records; /* records that the journal holds */
+    uint64_t bytes;   /* bytes of the journal in use */
     uint16_t x, y, u, s, pc;
     uint8_t a, b, dp, cc;
     uint8_t wait;
-    uint8_t armed; /* 0: room for the mark that lets NMI in */
+    uint8_t armed; /* 1 once a program has loaded S since the last reset, else 0: NMI is held off until then */
 } doorhawser_twin;
 
 typedef struct doorhawser_write { /* 4 bytes */
@@ -174,10 +177,10 @@ DOORHAWSER_AT(doorhawser_written, answer, 8);
 /* The library's DOORHAWSER_ABI. */
 uint64_t doorhawser_abi(void);
 
-/* Running, CC 50, every other register and counter 0, no record. */
+/* Running, CC 50, every other register and counter 0, NMI held off, no record. */
 doorhawser_twin doorhawser_start(void);
 
-/* Recorded: each accepted call but undo takes 68 bytes of the journal. undo is given what the newest of them handed back. */
+/* Recorded: each accepted call but undo takes 34 to 70 bytes of the journal. undo is given what the newest of them handed back. */
 doorhawser_outcome doorhawser_step(uint8_t *memory, size_t memory_length, uint8_t *journal, size_t journal_length,
                                    doorhawser_twin twin, doorhawser_settings settings);
 doorhawser_outcome doorhawser_interrupt(uint8_t *memory, size_t memory_length, uint8_t *journal, size_t journal_length,
@@ -187,7 +190,11 @@ doorhawser_outcome doorhawser_reset(uint8_t *memory, size_t memory_length, uint8
 doorhawser_outcome doorhawser_undo(uint8_t *memory, size_t memory_length, const uint8_t *journal, size_t journal_length,
                                    doorhawser_twin twin);
 
-/* Not recorded: no journal, and the count of records stays. An undo after them brings back the registers, and the bytes that the recorded
+/* Forgets the oldest k records, and moves the bytes of the others to the journal's front; the bytes past them stay. The registers and the
+ * memory, which is not lent, stay too. undo then reaches back to the oldest record that is kept. */
+doorhawser_outcome doorhawser_drop(uint8_t *journal, size_t journal_length, doorhawser_twin twin, uint64_t k);
+
+/* Not recorded: no journal, and both counts stay. An undo after them brings back the registers, and the bytes that the recorded
  * call wrote; what these wrote elsewhere stays. */
 doorhawser_outcome doorhawser_step_unrecorded(uint8_t *memory, size_t memory_length, doorhawser_twin twin, doorhawser_settings settings);
 doorhawser_outcome doorhawser_interrupt_unrecorded(uint8_t *memory, size_t memory_length, doorhawser_twin twin,
@@ -198,8 +205,8 @@ doorhawser_outcome doorhawser_reset_unrecorded(uint8_t *memory, size_t memory_le
 doorhawser_ran doorhawser_run_unrecorded(uint8_t *memory, size_t memory_length, doorhawser_twin twin, doorhawser_settings settings,
                                          uint64_t count);
 
-/* The newest record: `count` bytes of the journal from `at` on, 68, or 0 where there is none. */
-doorhawser_part doorhawser_newest(const uint8_t *journal, size_t journal_length, uint64_t records);
+/* The newest record: `count` bytes of the journal from `at` on, 34 to 70, or 0 where undo would find none. */
+doorhawser_part doorhawser_newest(const uint8_t *journal, size_t journal_length, uint64_t records, uint64_t bytes);
 
 /* S-records: read into memory, with the address of the S9 line as `start`; and memory written as S-records, `count` bytes of `out`. Rows of
  * zeros are left out: it reads back into a memory of zeros. */

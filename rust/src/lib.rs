@@ -6,7 +6,7 @@
 //!
 //! ```no_run
 //! use doorhawser::{Flags, Settings, Twin};
-//! let mut twin = Twin::new(Settings { ram_top: 0x7FFF, flags: Flags::Manual }, 960);
+//! let mut twin = Twin::new(Settings { ram_top: 0x7FFF, flags: Flags::Manual }, 932);
 //! twin.load(b"S105BFFE10002D\nS10510005F5A31\nS9031000EC\n").unwrap();
 //! twin.reset().unwrap();
 //! twin.step().unwrap();
@@ -23,7 +23,7 @@ pub mod raw;
 
 /// Bytes of a twin's memory.
 pub const MEMORY: usize = raw::MEMORY;
-/// Bytes of a record, hence of the journal for each call that can be taken back.
+/// Bytes of the longest record, that of a call that stores twelve bytes; one that stores none has 34.
 pub const RECORD: usize = raw::RECORD;
 
 /// Whose rules set the flags.
@@ -53,7 +53,7 @@ pub enum Interrupt {
     Irq = 0,
     /// masked by F
     Firq = 1,
-    /// never masked
+    /// never masked; held off from a reset until the program has loaded S
     Nmi = 2,
 }
 
@@ -153,7 +153,8 @@ pub struct Twin {
 }
 
 impl Twin {
-    /// A twin with memory all zero, registers and counters as at power on (CC 50, the others 0), and a journal for so many calls.
+    /// A twin with memory all zero, registers and counters as at power on (CC 50, the others 0), and a journal for so many calls,
+    /// whatever they store: [`RECORD`] bytes for each, so that about twice as many calls that store nothing have room.
     pub fn new(settings: Settings, records: usize) -> Twin {
         // Safety: these two calls take nothing.
         let (abi, state) = unsafe { (raw::doorhawser_abi(), raw::doorhawser_start()) };
@@ -168,7 +169,7 @@ impl Twin {
         Registers { x: t.x, y: t.y, u: t.u, s: t.s, pc: t.pc, a: t.a, b: t.b, dp: t.dp, cc: t.cc }
     }
 
-    /// Sets the registers. This is no call: undo brings back what the calls changed.
+    /// Sets the registers, and no mark for S. This is no call: undo brings back what the calls changed.
     pub fn set_registers(&mut self, r: Registers) {
         let Registers { x, y, u, s, pc, a, b, dp, cc } = r;
         self.state = raw::Twin { x, y, u, s, pc, a, b, dp, cc, ..self.state };
@@ -184,6 +185,16 @@ impl Twin {
         }
     }
 
+    /// Whether NMI is let in: the program has loaded S since the last reset.
+    pub fn armed(&self) -> bool {
+        self.state.armed != 0
+    }
+
+    /// Sets that mark. This is no call: undo brings back what the calls changed.
+    pub fn set_armed(&mut self, armed: bool) {
+        self.state.armed = armed as u8;
+    }
+
     /// Cycles of all instructions so far.
     pub fn cycles(&self) -> u64 {
         self.state.cycles
@@ -197,6 +208,11 @@ impl Twin {
     /// Calls that can be taken back.
     pub fn records(&self) -> u64 {
         self.state.records
+    }
+
+    /// Bytes of the journal that their records use.
+    pub fn journal_used(&self) -> u64 {
+        self.state.bytes
     }
 
     /// Memory as it lies, FFE0-FFFF of the processor's addresses at BFE0-BFFF.
@@ -252,7 +268,7 @@ impl Twin {
         self.recorded(raw::doorhawser_reset)
     }
 
-    /// An interrupt, recorded. One that is masked is accepted and does nothing but end SYNC.
+    /// An interrupt, recorded. One that is masked, or an NMI that is held off, is accepted and does nothing but end SYNC.
     pub fn interrupt(&mut self, which: Interrupt) -> Result<DeviceWrites, Refused> {
         let (m, j, n) = (self.memory.as_mut_ptr(), self.journal.as_mut_ptr(), self.journal.len());
         // Safety: as in `recorded`.
@@ -260,11 +276,18 @@ impl Twin {
         self.ended(o)
     }
 
-    /// Takes the newest recorded call back: registers, wait, counters and memory outside FF00-FFDF are as they stood before it, where no
+    /// Takes the newest recorded call back: registers, wait, mark, counters and memory outside FF00-FFDF are as they stood before it, where no
     /// call that is not recorded came after it.
     pub fn undo(&mut self) -> Result<(), Refused> {
         // Safety: as in `recorded`.
         let o = unsafe { raw::doorhawser_undo(self.memory.as_mut_ptr(), MEMORY, self.journal.as_ptr(), self.journal.len(), self.state) };
+        self.ended(o).map(|_| ())
+    }
+
+    /// Forgets the oldest so many recorded calls, and frees their room in the journal. Undo then reaches back to the oldest that is kept.
+    pub fn forget(&mut self, calls: u64) -> Result<(), Refused> {
+        // Safety: the journal is the twin's own, with its length, and borrowed for the call alone.
+        let o = unsafe { raw::doorhawser_drop(self.journal.as_mut_ptr(), self.journal.len(), self.state, calls) };
         self.ended(o).map(|_| ())
     }
 
@@ -295,10 +318,10 @@ impl Twin {
         Ran { steps, devices, refused: self.ended(r.last).err() }
     }
 
-    /// The newest record's 68 bytes.
+    /// The newest record, 34 to 70 bytes.
     pub fn newest(&self) -> Option<&[u8]> {
         // Safety: the journal is the twin's own, with its length; it is only read.
-        let p = unsafe { raw::doorhawser_newest(self.journal.as_ptr(), self.journal.len(), self.state.records) };
+        let p = unsafe { raw::doorhawser_newest(self.journal.as_ptr(), self.journal.len(), self.state.records, self.state.bytes) };
         if p.count == 0 {
             None
         } else {

@@ -1,9 +1,9 @@
 //! The declarations of include/doorhawser.h. No proof ties them to crates/host: tests/twin.rs holds the layout, and `abi` has to be `ABI`.
 use std::mem::size_of;
 
-pub const ABI: u64 = 1;
+pub const ABI: u64 = 3;
 pub const MEMORY: usize = 65536;
-pub const RECORD: usize = 68;
+pub const RECORD: usize = 70;
 pub const DEVICES: usize = 12;
 
 #[repr(C)]
@@ -120,11 +120,12 @@ extern "C" {
         settings: Settings,
     ) -> Outcome;
     pub fn doorhawser_undo(memory: *mut u8, memory_length: usize, journal: *const u8, journal_length: usize, twin: Twin) -> Outcome;
+    pub fn doorhawser_drop(journal: *mut u8, journal_length: usize, twin: Twin, k: u64) -> Outcome;
     pub fn doorhawser_step_unrecorded(memory: *mut u8, memory_length: usize, twin: Twin, settings: Settings) -> Outcome;
     pub fn doorhawser_interrupt_unrecorded(memory: *mut u8, memory_length: usize, twin: Twin, settings: Settings, which: u8) -> Outcome;
     pub fn doorhawser_reset_unrecorded(memory: *mut u8, memory_length: usize, twin: Twin, settings: Settings) -> Outcome;
     pub fn doorhawser_run_unrecorded(memory: *mut u8, memory_length: usize, twin: Twin, settings: Settings, count: u64) -> Ran;
-    pub fn doorhawser_newest(journal: *const u8, journal_length: usize, records: u64) -> Part;
+    pub fn doorhawser_newest(journal: *const u8, journal_length: usize, records: u64, bytes: u64) -> Part;
     pub fn doorhawser_load(memory: *mut u8, memory_length: usize, text: *const u8, text_length: usize) -> Loaded;
     pub fn doorhawser_save(memory: *const u8, memory_length: usize, start: u16, out: *mut u8, out_length: usize) -> Written;
 }

@@ -15,7 +15,7 @@ fn line(t: &Twin) -> (u16, u8, u64) {
 
 #[test]
 fn the_worked_input_and_back() {
-    let mut t = twin(Flags::Bought, 960);
+    let mut t = twin(Flags::Bought, 932);
     put(&mut t, 0x1000, &[0x5F, 0x5A]);
     put(&mut t, 0xBFFE, &[0x10, 0x00]);
     let image = *t.memory();
@@ -26,7 +26,7 @@ fn the_worked_input_and_back() {
     t.step().unwrap();
     assert_eq!(line(&t), (0x1002, 0x5A, 4));
     assert_eq!((t.records(), t.instructions()), (3, 2));
-    assert_eq!(t.newest().unwrap().len(), 68);
+    assert_eq!((t.newest().unwrap().len(), t.journal_used()), (34, 102));
     t.undo().unwrap();
     assert_eq!(line(&t), (0x1001, 0x54, 2));
     t.undo().unwrap();
@@ -55,7 +55,61 @@ fn an_interrupt_stacks_twelve_bytes_or_is_refused() {
     t.undo().unwrap();
     assert_eq!(t.registers(), r);
     t.set_registers(Registers { s: 0x0100, ..r }); // the frame is not where the vector, 0000, leads
+    assert!(t.interrupt(Interrupt::Nmi).unwrap().is_empty()); // held off: 9 is not judged
+    assert_eq!((t.registers().pc, t.registers().s, t.armed()), (0x1234, 0x0100, false));
+    t.set_armed(true);
     assert_eq!(t.interrupt(Interrupt::Nmi), Err(Refused(9)));
+}
+
+// LDS #1000 lets NMI in, its undo and a reset hold it off again
+#[test]
+fn nmi_is_held_off_until_s_is_loaded() {
+    let mut t = twin(Flags::Manual, 8);
+    put(&mut t, 0, &[0x10, 0xCE, 0x10, 0x00, 0x12]);
+    put(&mut t, 0xBFFC, &[0x00, 0x04]);
+    t.interrupt(Interrupt::Nmi).unwrap();
+    assert_eq!((line(&t), t.registers().s, t.armed(), t.records()), ((0, 0x50, 0), 0, false, 1));
+    t.step().unwrap();
+    assert_eq!((line(&t), t.registers().s, t.armed()), ((4, 0x50, 4), 0x1000, true));
+    assert_eq!(t.newest().unwrap()[15], 0);
+    t.undo().unwrap();
+    assert!(!t.armed());
+    t.step().unwrap();
+    t.interrupt(Interrupt::Nmi).unwrap();
+    assert_eq!((line(&t), t.registers().s, t.armed()), ((4, 0xD0, 4), 0x0FF4, true));
+    assert_eq!(t.newest().unwrap()[15], 1);
+    t.reset().unwrap();
+    assert!(!t.armed());
+    t.undo().unwrap();
+    assert!(t.armed());
+}
+
+// STA >2000 stores a byte, so its record has 37 bytes, and a NOP's has 34: in 140 bytes there is room for three NOPs more, and for a fourth
+// once the oldest record is dropped
+#[test]
+fn the_oldest_calls_are_forgotten() {
+    let mut t = twin(Flags::Manual, 2); // 140 bytes
+    put(&mut t, 0, &[0xB7, 0x20, 0x00, 0x12, 0x12, 0x12]);
+    t.set_registers(Registers { a: 0x5A, ..t.registers() });
+    for _ in 0..4 {
+        t.step().unwrap();
+    }
+    assert_eq!((t.records(), t.journal_used()), (4, 139));
+    assert_eq!(t.newest().unwrap()[10..12], [0, 5]);
+    put(&mut t, 6, &[0x12]);
+    assert_eq!(t.step(), Err(Refused(10)));
+    assert_eq!(t.forget(5), Err(Refused(26)));
+    t.forget(0).unwrap();
+    assert_eq!((t.records(), t.journal_used()), (4, 139));
+    t.forget(1).unwrap();
+    assert_eq!((t.records(), t.journal_used(), t.peek(0x2000)), (3, 102, 0x5A));
+    t.step().unwrap();
+    assert_eq!((t.records(), t.journal_used(), t.registers().pc), (4, 136, 7));
+    for pc in [6, 5, 4, 3] {
+        t.undo().unwrap();
+        assert_eq!(t.registers().pc, pc);
+    }
+    assert_eq!((t.undo(), t.peek(0x2000)), (Err(Refused(11)), 0x5A));
 }
 
 #[test]

@@ -41,9 +41,9 @@ static doorhawser_twin any_twin(void) {
     doorhawser_twin t;
     fill((uint8_t *)&t, sizeof t);
     t.wait = (uint8_t)(t.wait % 3);
-    t.armed = 0;
-    t.bytes = 0;
+    t.armed = (uint8_t)(t.armed % 2);
     t.records = any() % 960;
+    t.bytes = any() % (JOURNAL - DOORHAWSER_RECORD);
     return t;
 }
 
@@ -91,7 +91,7 @@ static void unnamed(int which, doorhawser_twin t, doorhawser_settings s, uint8_t
     doorhawser_outcome o = call(which, memory, sizeof memory, journal, sizeof journal, t, s, i);
     HOLD(refuses(&o, DOORHAWSER_UNNAMED, &t));
     HOLD(kept());
-    o = call(which, memory, 100, journal, 67, t, s, i);
+    o = call(which, memory, 100, journal, DOORHAWSER_RECORD - 1, t, s, i);
     HOLD(refuses(&o, DOORHAWSER_UNNAMED, &t));
     t.records = UINT64_MAX;
     o = call(which, NULL, 0, NULL, 0, t, s, i);
@@ -112,10 +112,11 @@ static void out_of_range(void) {
             if (n > 2) unnamed(which, bad, s, i);
             bad = t;
             bad.armed = byte;
-            unnamed(which, bad, s, i);
-            bad = t;
-            bad.bytes = n < 64 ? (uint64_t)1 << n : any() | 1;
-            unnamed(which, bad, s, i);
+            if (n > 1) unnamed(which, bad, s, i);
+            if (which == UNDO) {
+                doorhawser_outcome o = doorhawser_drop(journal, sizeof journal, bad, n);
+                HOLD(n < 2 || (refuses(&o, DOORHAWSER_UNNAMED, &bad) && kept()));
+            }
             off.flags = byte;
             if (settings && n > 1) unnamed(which, t, off, i);
             off = s;
@@ -142,19 +143,32 @@ static void nulls(void) {
         o = call(which, memory, sizeof memory, NULL, 0, t, manual, 0);
         HOLD(refuses(&o, which == UNDO ? DOORHAWSER_NO_RECORD : DOORHAWSER_JOURNAL_FULL, &t));
         doorhawser_twin used = t;
-        used.records = 1;
+        used.bytes = 1;
         o = call(which, memory, sizeof memory, NULL, 0, used, manual, 0);
         HOLD(refuses(&o, DOORHAWSER_JOURNAL_LENGTH, &used));
-        used.records = UINT64_MAX / DOORHAWSER_RECORD + 1; /* times 68 it would wrap */
+        used.bytes = UINT64_MAX; /* a sum with it would wrap */
+        o = call(which, memory, sizeof memory, journal, sizeof journal, used, manual, 0);
+        HOLD(refuses(&o, DOORHAWSER_JOURNAL_LENGTH, &used));
+        used.bytes = 0;
+        used.records = UINT64_MAX; /* one more cannot be counted; and none has no bytes */
         o = call(which, memory, sizeof memory, journal, sizeof journal, used, manual, 0);
         HOLD(refuses(&o, DOORHAWSER_JOURNAL_LENGTH, &used));
     }
-    HOLD(doorhawser_newest(NULL, 0, 0).count == 0);
-    HOLD(doorhawser_newest(NULL, 0, UINT64_MAX).count == 0);
-    HOLD(doorhawser_newest(journal, sizeof journal, UINT64_MAX).count == 0);
-    HOLD(doorhawser_newest(journal, sizeof journal, 961).count == 0);
-    doorhawser_part p = doorhawser_newest(journal, sizeof journal, 960);
-    HOLD(p.at == 959 * 68 && p.count == 68);
+    HOLD(doorhawser_newest(NULL, 0, 0, 0).count == 0);
+    HOLD(doorhawser_newest(NULL, 0, UINT64_MAX, UINT64_MAX).count == 0);
+    HOLD(doorhawser_newest(journal, sizeof journal, 1, 0).count == 0);
+    HOLD(doorhawser_newest(journal, sizeof journal, 1, sizeof journal + 1).count == 0);
+    doorhawser_outcome d = doorhawser_drop(NULL, 0, t, 0);
+    HOLD(!d.answer && !memcmp(&d.twin, &t, sizeof t));
+    d = doorhawser_drop(NULL, 0, t, 1);
+    HOLD(refuses(&d, DOORHAWSER_TOO_FEW_RECORDS, &t));
+    doorhawser_twin far = t;
+    far.bytes = far.records = UINT64_MAX;
+    d = doorhawser_drop(journal, sizeof journal, far, UINT64_MAX);
+    HOLD(refuses(&d, DOORHAWSER_JOURNAL_LENGTH, &far)); /* before 26 */
+    far.bytes = 0;
+    d = doorhawser_drop(journal, sizeof journal, far, 1); /* no byte is used */
+    HOLD(refuses(&d, DOORHAWSER_JOURNAL_LENGTH, &far));
     HOLD(doorhawser_load(NULL, 0, NULL, 0).answer == DOORHAWSER_MEMORY_LENGTH);
     HOLD(doorhawser_load(memory, sizeof memory, NULL, 0).answer == DOORHAWSER_NO_END);
     HOLD(doorhawser_save(NULL, 0, 0, NULL, 0).answer == DOORHAWSER_MEMORY_LENGTH);
@@ -177,7 +191,7 @@ static void twins(void) {
         doorhawser_outcome o = call(n % CALLS, NULL, 0, journal, sizeof journal, t, manual, 0);
         HOLD(refuses(&o, DOORHAWSER_MEMORY_LENGTH, &t));
     }
-    /* NOP: PC, the counters and the records alone */
+    /* NOP: PC, the counters and the counts of the journal alone */
     memset(memory, 0x12, sizeof memory);
     for (int n = 0; n < 20000; n++) {
         t = any_twin();
@@ -189,7 +203,7 @@ static void twins(void) {
         expected.twin.pc++;
         expected.twin.cycles += 2;
         expected.twin.instructions++;
-        if (n % 2) expected.twin.records++;
+        if (n % 2) expected.twin.records++, expected.twin.bytes += 34;
         doorhawser_outcome o = call(n % 2 ? STEP : STEP_UNRECORDED, memory, sizeof memory, journal, sizeof journal, t, manual, 0);
         HOLD(!memcmp(&o, &expected, sizeof o));
         if (!(n % 2)) continue;
@@ -204,13 +218,14 @@ static void frames(void) {
     for (int n = 0; n < 20000; n++) {
         doorhawser_twin t = any_twin();
         t.wait = n % 2 ? DOORHAWSER_RUNNING : DOORHAWSER_SYNC;
+        t.armed = 1;
         t.s = (uint16_t)(0x100 + t.s % 0x8000);
         memset(memory, 0, sizeof memory);
         memory[0xBFFC] = 0x90; /* the vector, read at FFFC */
         memory[0x9000] = 0x12;
         doorhawser_outcome o = doorhawser_interrupt_unrecorded(memory, sizeof memory, t, manual, DOORHAWSER_NMI);
         const uint8_t *at = memory + t.s - 12;
-        HOLD(!o.answer && o.twin.s == t.s - 12 && o.twin.pc == 0x9000 && o.twin.wait == DOORHAWSER_RUNNING && !o.count);
+        HOLD(!o.answer && o.twin.s == t.s - 12 && o.twin.pc == 0x9000 && o.twin.wait == DOORHAWSER_RUNNING && o.twin.armed == 1 && !o.count);
         HOLD(at[0] == (t.cc | 0x80) && at[1] == t.a && at[2] == t.b && at[3] == t.dp);
         HOLD(at[4] << 8 == (t.x & 0xFF00) && at[5] == (t.x & 0xFF) && at[6] << 8 == (t.y & 0xFF00) && at[7] == (t.y & 0xFF));
         HOLD(at[8] << 8 == (t.u & 0xFF00) && at[9] == (t.u & 0xFF) && at[10] << 8 == (t.pc & 0xFF00) && at[11] == (t.pc & 0xFF));
@@ -220,12 +235,39 @@ static void frames(void) {
     done("registers stacked");
 }
 
+/* Before S is loaded an NMI ends SYNC and changes nothing else; LDS of any word lets it in, and a reset holds it off again. */
+static void marks(void) {
+    for (int n = 0; n < 20000; n++) {
+        doorhawser_twin t = any_twin();
+        t.armed = 0;
+        memset(memory, 0, sizeof memory);
+        t.pc = (uint16_t)(0x1000 + t.pc % 0x1000);
+        memory[t.pc] = 0x10; /* LDS #0000 */
+        memory[t.pc + 1] = 0xCE;
+        keep();
+        doorhawser_outcome expected;
+        memset(&expected, 0, sizeof expected);
+        expected.twin = t;
+        if (t.wait == DOORHAWSER_SYNC) expected.twin.wait = DOORHAWSER_RUNNING;
+        doorhawser_outcome o = doorhawser_interrupt_unrecorded(memory, sizeof memory, t, manual, DOORHAWSER_NMI);
+        HOLD(!memcmp(&o, &expected, sizeof o) && kept());
+        t.wait = DOORHAWSER_RUNNING;
+        o = doorhawser_step_unrecorded(memory, sizeof memory, t, manual);
+        HOLD(!o.answer && o.twin.s == 0 && o.twin.armed == 1);
+        HOLD(doorhawser_interrupt_unrecorded(memory, sizeof memory, o.twin, manual, DOORHAWSER_NMI).answer == DOORHAWSER_STACK_TOO_SMALL);
+        o = doorhawser_reset_unrecorded(memory, sizeof memory, o.twin, manual);
+        HOLD(!o.answer && o.twin.armed == 0);
+    }
+    done("NMI held off");
+}
+
 /* Twelve bytes pushed at FF04-FF0F are device writes: the system's for an interrupt, the program's for PSHS. PC U Y X DP B A CC; words are
  * high byte first. */
 static void devices(void) {
     const uint8_t at[] = {0x0E, 0x0F, 0x0C, 0x0D, 0x0A, 0x0B, 0x08, 0x09, 0x07, 0x06, 0x05, 0x04};
     for (int system = 0; system < 2; system++) {
-        doorhawser_twin t = {.x = 0x1122, .y = 0x3344, .u = 0x5566, .s = 0xFF10, .pc = 0x7788, .a = 0x99, .b = 0xAA, .dp = 0xBB, .cc = 0x4C};
+        doorhawser_twin t = {.x = 0x1122, .y = 0x3344, .u = 0x5566, .s = 0xFF10, .pc = 0x7788, .a = 0x99, .b = 0xAA, .dp = 0xBB, .cc = 0x4C,
+                             .armed = 1};
         memset(memory, 0, sizeof memory);
         memory[0x7788] = 0x34; /* PSHS of all */
         memory[0x7789] = 0xFF;
@@ -253,6 +295,7 @@ static void names(void) {
     memset(memory, 0x12, sizeof memory);
     t.s = 0x8000;
     t.cc = 0;
+    t.armed = 1;
     for (int i = 0; i < 3; i++) {
         memory[doorhawser_place(interrupts[i].vector)] = (uint8_t)(interrupts[i].leads >> 8);
         memory[doorhawser_place((uint16_t)(interrupts[i].vector + 1))] = 0;
@@ -307,43 +350,93 @@ static void runs(void) {
     done("runs of steps");
 }
 
-/* ---- recorded calls taken back */
+/* ---- recorded calls taken back, and the oldest dropped */
+
+enum { HELD = 3000 };
+static doorhawser_twin before[HELD]; /* how the twin stood before each call that is held, its counts as they are after the drops */
+static uint64_t sums[HELD];
+static uint64_t held;
+
+static uint64_t sum(void) { /* of memory */
+    uint64_t h = 0, w;
+    for (size_t i = 0; i < sizeof memory; i += 8) {
+        memcpy(&w, memory + i, 8);
+        h = (h ^ w) * 0x9E3779B97F4A7C15u;
+    }
+    return h;
+}
+
+static doorhawser_twin back(doorhawser_twin t, size_t length) {
+    doorhawser_outcome o = doorhawser_undo(memory, sizeof memory, journal, length, t);
+    if (!held) {
+        HOLD(refuses(&o, DOORHAWSER_NO_RECORD, &t));
+        return t;
+    }
+    held--;
+    HOLD(!o.answer && !o.count && !memcmp(&o.twin, &before[held], sizeof t) && sum() == sums[held]);
+    return o.twin;
+}
+
+/* The bytes behind those of the k oldest records go to the front, and the bytes past them stay. */
+static doorhawser_twin forget(doorhawser_twin t, size_t length, uint64_t k) {
+    doorhawser_outcome o = doorhawser_drop(journal, length, t, k);
+    if (k > held) {
+        HOLD(refuses(&o, DOORHAWSER_TOO_FEW_RECORDS, &t) && kept());
+        return t;
+    }
+    uint64_t from = k == held ? t.bytes : before[k].bytes, left = t.bytes - from;
+    doorhawser_twin expected = t;
+    expected.records -= k;
+    expected.bytes = left;
+    HOLD(!o.answer && !o.count && !memcmp(&o.twin, &expected, sizeof t) && !memcmp(memory, memory_was, sizeof memory));
+    HOLD(!memcmp(journal, journal_was + from, left) && !memcmp(journal + left, journal_was + left, sizeof journal - left));
+    held -= k;
+    memmove(before, before + k, held * sizeof *before);
+    memmove(sums, sums + k, held * sizeof *sums);
+    for (uint64_t i = 0; i < held; i++) before[i].records -= k, before[i].bytes -= from;
+    return o.twin;
+}
+
+/* A call that is accepted leaves a record behind the bytes in use, of 34 bytes and 3 for each entry, and no other byte of the journal. */
+static doorhawser_twin forth(doorhawser_twin t, size_t length) {
+    doorhawser_settings s = {(uint16_t)any(), (uint8_t)(any() & 1), 0};
+    int which = any() % 4 ? STEP : any() % 4 ? INTERRUPT : RESET;
+    uint64_t now = sum();
+    doorhawser_outcome o = call(which, memory, sizeof memory, journal, length, t, s, (uint8_t)(any() % 3));
+    if (o.answer) {
+        HOLD(refuses(&o, o.answer, &t) && kept());
+        HOLD(o.answer != DOORHAWSER_JOURNAL_FULL || t.bytes + DOORHAWSER_RECORD > length);
+        t.pc = (uint16_t)any(); /* elsewhere */
+        return t;
+    }
+    uint64_t end = o.twin.bytes, size = end - t.bytes;
+    HOLD(o.twin.records == held + 1 && end <= length && size >= 34 && size <= DOORHAWSER_RECORD);
+    HOLD(size == 34 + 3u * journal[t.bytes + 32] && journal[end - 1] == size);
+    HOLD(!memcmp(journal, journal_was, t.bytes) && !memcmp(journal + end, journal_was + end, sizeof journal - end));
+    doorhawser_part p = doorhawser_newest(journal, length, o.twin.records, end);
+    HOLD(p.at == t.bytes && p.count == size);
+    before[held] = t;
+    sums[held++] = now;
+    return o.twin;
+}
 
 static void journals(void) {
-    for (int n = 0; n < 40; n++) {
-        static doorhawser_twin before[960];
-        static uint8_t image[DOORHAWSER_MEMORY];
+    unsigned long full = 0;
+    for (int n = 0; n < 16; n++) {
+        size_t length = n % 2 ? sizeof journal : 200 + any() % 4000;
         fill(memory, sizeof memory);
-        memcpy(image, memory, sizeof image);
         doorhawser_twin t = any_twin();
-        t.records = 0;
-        uint64_t taken = 0;
-        for (int i = 0; i < 2000; i++) {
-            doorhawser_settings s = {(uint16_t)any(), (uint8_t)(any() & 1), 0};
-            int which = any() % 4 ? STEP : any() % 4 ? INTERRUPT : RESET;
-            if (taken < 960) before[taken] = t;
+        t.records = t.bytes = held = 0;
+        for (int i = 0; i < HELD; i++) {
             keep();
-            doorhawser_outcome o = call(which, memory, sizeof memory, journal, sizeof journal, t, s, (uint8_t)(any() % 3));
-            if (o.answer) {
-                HOLD(refuses(&o, o.answer, &t) && kept());
-                if (t.records == 960) HOLD(o.answer == DOORHAWSER_JOURNAL_FULL);
-                t.pc = (uint16_t)any(); /* elsewhere */
-                continue;
-            }
-            taken++;
-            t = o.twin;
-            HOLD(t.records == taken);
+            uint64_t kind = any() % 64;
+            t = kind < 6 ? back(t, length) : kind == 6 ? forget(t, length, any() % (held + 2)) : forth(t, length);
+            full += t.bytes + DOORHAWSER_RECORD > length;
         }
-        HOLD(taken == 960);
-        for (; taken; taken--) {
-            doorhawser_outcome o = doorhawser_undo(memory, sizeof memory, journal, sizeof journal, t);
-            HOLD(!o.answer && !o.count && !memcmp(&o.twin, &before[taken - 1], sizeof t));
-            t = o.twin;
-        }
-        HOLD(!memcmp(memory, image, sizeof image));
-        doorhawser_outcome o = doorhawser_undo(memory, sizeof memory, journal, sizeof journal, t);
-        HOLD(refuses(&o, DOORHAWSER_NO_RECORD, &t));
+        while (held) t = back(t, length);
+        t = back(t, length);
     }
+    HOLD(full > 1000);
     done("calls taken back");
 }
 
@@ -388,6 +481,7 @@ int main(void) {
     out_of_range();
     twins();
     frames();
+    marks();
     devices();
     names();
     runs();

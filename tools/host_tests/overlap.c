@@ -32,7 +32,7 @@ int main(int argc, char **argv) {
         break;
     case 1: make(argv[1], m, n, m + n - 1, n); break;
     case 2: make(argv[1], m, n, m - n + 1, n); break;
-    case 3: make(argv[1], m, n, m + 0x8FD0, 68); break;
+    case 3: make(argv[1], m, n, m + 0x8FD0, DOORHAWSER_RECORD); break;
     case 4: make(argv[1], m, n, m, n); break;
     case 5: make(argv[1], m, n, NULL, 1); break;
     case 6: make(argv[1], NULL, 1, m, n); break;

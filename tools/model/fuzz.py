@@ -26,9 +26,13 @@ class Stats:
         self.exec = Counter()
         self.pb = Counter()
         self.ans = Counter()
+        self.held = Counter()
 
     def note_op(self, n, a):
         self.ans[(n, a)] += 1
+
+    def note_held(self, wait):
+        self.held[('running', 'CWAI', 'SYNC')[wait]] += 1
 
     def note_exec(self, page, op, pb):
         self.exec[(page, op)] += 1
@@ -492,10 +496,61 @@ def gen_loop(rng):
     m = Machine(load(pieces), rt, man)
     ops = [4]
     m.op(4)
-    ops += adaptive(rng, m, rng.choice([970, 1000, 1300, 2500]), und=rng.choice([0, 0, .02, .1]))
+    ops += adaptive(rng, m, rng.choice([940, 1300, 1930, 2500, 4000]), und=rng.choice([0, 0, .02, .1]))
     if rng.random() < .5:
-        ops += [5] * rng.choice([3, 500, 959, 960, 961, 1000, 1300]) + [0, 0, 3, 0]
+        ops += [5] * rng.choice([3, 500, 932, 1300, 1919, 1920, 1921, 2500]) + [0, 0, 3, 0]
     return pack(sett, pieces, ops)
+
+
+# instructions that load S; that move, store or name it without loading it; and what an NMI meets between them
+LOADS = [lambda r: b'\x10\xCE' + w2(word(r)), lambda r: b'\x10\xDE' + bytes([byte(r)]), lambda r: b'\x10\xFE' + w2(word(r)),
+         lambda r: b'\x10\xEE' + bytes([r.choice([0x84, 0xA4, 0xC4, 0xE4, 0xE1, 0x1F])]), lambda r: b'\x32' + bytes([r.choice([0x7F, 0x61, 0x84, 0xE4, 0xE1])]),
+         lambda r: b'\x1F' + bytes([r.randrange(6) << 4 | 4]), lambda r: b'\x1E' + bytes([r.choice([r.randrange(6) << 4 | 4, 0x40 | r.randrange(6)])]),
+         lambda r: b'\x37' + bytes([r.randrange(256) & 0x7F | 0x40])]
+MOVES = [lambda r: b'\x1F' + bytes([0x40 | r.choice([0, 1, 2, 3])]), lambda r: b'\x35' + bytes([r.randrange(256) & 0x7F]), lambda r: b'\x34' + bytes([r.randrange(256)]),
+         lambda r: b'\x36' + bytes([r.randrange(256)]), lambda r: b'\x37' + bytes([r.randrange(256) & 0x3F]), lambda r: b'\xA6\xE0', lambda r: b'\xEC\xE1',
+         lambda r: b'\xA7\xE2', lambda r: b'\x10\xEF\xC4', lambda r: b'\x11\x8C' + w2(word(r)), lambda r: b'\xCE' + w2(word(r)), lambda r: b'\x33\x41',
+         lambda r: b'\x1E' + bytes([r.choice([0x12, 0x48, 0x84, 0x64, 0x46])]), lambda r: b'\x1F' + bytes([r.choice([0x31, 0x48, 0x84, 0x74])]), lambda r: b'\x8D\x00',
+         lambda r: b'\x3B', lambda r: b'\x39', lambda r: b'\x12', lambda r: b'\x1C\xEF', lambda r: b'\x1A\x50']
+WAITS = [lambda r: b'\x13', lambda r: b'\x3C' + bytes([r.choice([0xFF, 0xEF, 0xAF])])]
+
+
+def gen_nmi(rng):
+    """many NMIs, before and after S is loaded, with resets and undos between"""
+    sett, rt, man = settings(rng)
+    a = rng.choice([0, 0x1000, 0xC000])
+    body = b'\x35\x3F\x35\x3F' if rng.random() < .5 else b''  # PULS alone raises S, so that CWAI has room before S is loaded
+    while len(body) < 120:
+        body += rng.choice(rng.choices([LOADS, MOVES, WAITS], [2, 6, 1])[0])(rng)
+    H = 0x5000
+    handler = rng.choice([b'\x3B', b'\x12\x3B', b'\x1F\x41\x3B', b'\x10\xCE\x40\x00\x20\xFE'])
+    pieces = [(a, body), (H, handler), (0xBFF2, w2(H) * 5 + w2(rng.choice([H, H, H, a, 0x6000])) + w2(a))]
+    if rng.random() < .7:
+        pieces.insert(0, (0x4000, bytes(rng.randrange(256) for _ in range(64))))
+    m = Machine(load(pieces), rt, man)
+    ops = []
+
+    def do(o):
+        ops.append(o)
+        return m.op(o)
+    if a:
+        do(4)
+    while len(ops) < 150:
+        x = rng.random()
+        if m.wait:
+            do(rng.choice([3, 3, 3, 1, 2, 0, 5]))
+        elif x < .5:
+            if do(0) > 2:
+                do(rng.choice([4, 5, 3]))
+        elif x < .85:
+            do(3)
+        elif x < .93:
+            do(5)
+        elif x < .96:
+            do(4)
+        else:
+            do(rng.choice([1, 2]))
+    return pack(sett, pieces, ops + [5] * rng.choice([0, 3, 160]))
 
 
 def gen_bad(rng):
@@ -578,8 +633,8 @@ def gen_bad(rng):
     return f
 
 
-GENS = [(gen_direct, 46), (gen_soup, 26), (lambda r: gen_soup(r, True), 2), (gen_arith, 10), (gen_loop, 4), (gen_bad, 12)]
-GNAMES = ['direct', 'soup', 'soupbig', 'arith', 'loop', 'bad']
+GENS = [(gen_direct, 46), (gen_soup, 26), (lambda r: gen_soup(r, True), 2), (gen_arith, 10), (gen_loop, 4), (gen_nmi, 14), (gen_bad, 12)]
+GNAMES = ['direct', 'soup', 'soupbig', 'arith', 'loop', 'nmi', 'bad']
 
 
 def gen(rng):
@@ -748,6 +803,7 @@ def main():
     low = sorted((st.exec[k], '%d/%02X' % k) for k in DOC)[:8]
     print('opcodes executed: %d of %d; missing %s; rarest %s' % (sum(1 for k in DOC if st.exec[k]), len(DOC), miss, low))
     print('post-bytes executed: %d of 217' % len(st.pb))
+    print('NMIs before S is loaded, by the wait state:', dict(st.held))
     for c, v in classes.items():
         print('class', c, 'x', v[0])
     sys.exit(1 if diffs else 0)

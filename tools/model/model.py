@@ -3,7 +3,7 @@
 program has to print."""
 import sys
 
-JOURNAL_RECORDS = 960
+JOURNAL_BYTES = 65280     # document 01: 960 records of 68 bytes; document 02 [5] and [9] keep the bytes
 M64 = (1 << 64) - 1
 A, B, X, Y, U, S, PC, DP, CC = range(9)
 fC, fV, fZ, fN, fI, fH, fF, fE = 1, 2, 4, 8, 16, 32, 64, 128
@@ -296,9 +296,11 @@ class Machine:
         self.man = manual
         self.r = [0, 0, 0, 0, 0, 0, 0, 0, 0x50]
         self.wait = 0
+        self.armed = False     # document 02 [5]: S has been loaded, so that NMI is let in
         self.cycles = 0
         self.instrs = 0
         self.journal = []
+        self.used = 0          # document 02 [9]: bytes of the journal in use
         self.dev = []          # device writes reported by the last call
         self.stats = stats
 
@@ -341,22 +343,31 @@ class Machine:
             self.mem[p] = o
 
     # ---- journal
+    @staticmethod
+    def record_length(stored):
+        """document 02 [9]: 33 bytes up to the count, three for each entry, and the length"""
+        return 34 + 3 * len(stored)
+
     def record(self, regs, wait, cycles, instrs, stored):
+        """the last thing that can refuse: this call's own record does not fit"""
         assert len(stored) <= 12
-        self.journal.append((regs, wait, cycles, instrs, stored))
+        if self.used + self.record_length(stored) > JOURNAL_BYTES:
+            self.revert(stored)
+            raise Refuse(10)
+        self.used += self.record_length(stored)
+        self.journal.append((regs, wait, cycles, instrs, stored, self.armed))
 
     @staticmethod
     def record_bytes(rec):
-        regs, wait, cycles, instrs, stored = rec
+        regs, wait, cycles, instrs, stored, armed = rec
         b = bytes([regs[A], regs[B]])
         for i in (X, Y, U, S, PC):
             b += regs[i].to_bytes(2, 'big')
-        b += bytes([regs[DP], regs[CC], wait]) + cycles.to_bytes(8, 'big') + instrs.to_bytes(8, 'big')
+        b += bytes([regs[DP], regs[CC], wait, armed]) + cycles.to_bytes(8, 'big') + instrs.to_bytes(8, 'big')
         b += bytes([len(stored)])
         for p, o in stored:
             b += p.to_bytes(2, 'big') + bytes([o])
-        b += bytes(68 - len(b))
-        return b
+        return b + bytes([len(b) + 1])
 
     # ---- frames
     @staticmethod
@@ -420,26 +431,27 @@ class Machine:
     def undo(self):
         if not self.journal:
             raise Refuse(11)
-        regs, wait, cycles, instrs, stored = self.journal.pop()
+        regs, wait, cycles, instrs, stored, armed = self.journal.pop()
+        self.used -= self.record_length(stored)
         self.revert(stored)
         self.r = list(regs)
         self.wait = wait
+        self.armed = armed
         self.cycles = cycles
         self.instrs = instrs
 
     def reset(self):
-        if len(self.journal) >= JOURNAL_RECORDS:
-            raise Refuse(10)
         self.record(tuple(self.r), self.wait, self.cycles, self.instrs, [])
         self.r = [0, 0, 0, 0, 0, 0, self.rd(0xFFFE) << 8 | self.rd(0xFFFF), 0, 0x50]
         self.wait = 0
+        self.armed = False
 
     def interrupt(self, n):
-        if len(self.journal) >= JOURNAL_RECORDS:
-            raise Refuse(10)
         old = tuple(self.r)
         vec, ormask, cmask = {1: (0xFFF8, 0x10, fI), 2: (0xFFF6, 0x50, fF), 3: (0xFFFC, 0x50, 0)}[n]
-        if self.r[CC] & cmask:
+        if n == 3 and not self.armed and self.stats is not None:
+            self.stats.note_held(self.wait)
+        if self.r[CC] & cmask or (n == 3 and not self.armed):
             self.record(old, self.wait, self.cycles, self.instrs, [])
             if self.wait == 2:
                 self.wait = 0
@@ -461,8 +473,6 @@ class Machine:
     def step(self):
         if self.wait:
             raise Refuse(2)
-        if len(self.journal) >= JOURNAL_RECORDS:
-            raise Refuse(10)
         old = tuple(self.r)
         r = list(old)
         pc = r[PC]
@@ -566,6 +576,7 @@ class Machine:
         cc = r[CC]
         w = []
         wait = 0
+        arms = False
         system = False
         stored = dev = None
 
@@ -604,6 +615,7 @@ class Machine:
             if kind == 'ld16':
                 r[CC] = nz16(cc, v) & ~fV
                 self.setw(r, arg, v)
+                arms = arg == S
             else:
                 o, reg = arg
                 a = self.getw(r, reg)
@@ -631,6 +643,7 @@ class Machine:
             r[PC] = ea
         elif kind == 'lea':
             r[arg] = ea
+            arms = arg == S
             if arg == X or arg == Y:
                 r[CC] = cc | fZ if ea == 0 else cc & ~fZ
         elif kind == 'nop':
@@ -663,8 +676,10 @@ class Machine:
             hi, lo = CODES[hi], CODES[lo]
             v1, v2 = self.getw(r, hi), self.getw(r, lo)
             self.setw(r, lo, v1)
+            arms = lo == S
             if kind == 'exg':
                 self.setw(r, hi, v2)
+                arms = S in (hi, lo)
         elif kind == 'psh':
             other = U if arg == S else S
             cnt = bin(imm).count('1') + bin(imm & 0xF0).count('1')
@@ -685,6 +700,7 @@ class Machine:
         elif kind == 'pul':
             other = U if arg == S else S
             self.pull(r, arg, imm, other)
+            arms = arg == U and bool(imm & 0x40)
             extra = bin(imm).count('1') + bin(imm & 0xF0).count('1')
         elif kind == 'rts':
             self.pull(r, S, 0x80, U)
@@ -723,6 +739,7 @@ class Machine:
         self.record(old, self.wait, self.cycles, self.instrs, stored)
         self.r = r
         self.wait = wait
+        self.armed = self.armed or arms
         self.cycles = (self.cycles + cyc + extra) & M64
         self.instrs = (self.instrs + 1) & M64
         self.dev = dev

@@ -8,7 +8,7 @@ use native.Mathlib.Omega.{arith}
 use lib.ListN.{getD}
 use Rattle.answers.specs.Numbers.{numberOf, RefusedByANumber, SixWithdrawn, NumbersApart}
 use Rattle.answers.specs.declared.Refusal.{Refusal}
-use Rattle.answers.specs.declared.Refusal.the-variants.{MemoryLength, Waiting, Opcode, PastEnd, PostByte, TransferCode, StackTooSmall, ZeroAtVector, JournalFull, NoRecord, JournalLength, DivisionByZero, LeftByte, NoRoom, Malformed, OutputShort, LineShape, Checksum, PastTop, NoEnd, PostByte8F}
+use Rattle.answers.specs.declared.Refusal.the-variants.{MemoryLength, Waiting, Opcode, PastEnd, PostByte, TransferCode, StackTooSmall, ZeroAtVector, JournalFull, NoRecord, JournalLength, DivisionByZero, LeftByte, NoRoom, Malformed, OutputShort, LineShape, Checksum, PastTop, NoEnd, PostByte8F, TooFewRecords}
 
 pub refused-by-a-number : RefusedByANumber
 refused-by-a-number MemoryLength = omega arith
@@ -32,12 +32,13 @@ refused-by-a-number Checksum = omega arith
 refused-by-a-number PastTop = omega arith
 refused-by-a-number NoEnd = omega arith
 refused-by-a-number PostByte8F = omega arith
+refused-by-a-number TooFewRecords = omega arith
 
--- the refusal of a number, by the table's places; 6, 18 and 19 are not used
+-- the refusal of a number, by the table's places; 6, 18, 19 and 25 are not used
 abbrev refusalOf : ℕ → Refusal
 refusalOf n =
     getD
-    (PostByte8F ∷ MemoryLength ∷ Waiting ∷ Opcode ∷ PastEnd ∷ PostByte ∷ PostByte8F ∷ TransferCode ∷ StackTooSmall ∷ ZeroAtVector ∷ JournalFull ∷ NoRecord ∷ JournalLength ∷ DivisionByZero ∷ LeftByte ∷ NoRoom ∷ Malformed ∷ OutputShort ∷ PostByte8F ∷ PostByte8F ∷ LineShape ∷ Checksum ∷ PastTop ∷ NoEnd ∷ [])
+    (PostByte8F ∷ MemoryLength ∷ Waiting ∷ Opcode ∷ PastEnd ∷ PostByte ∷ PostByte8F ∷ TransferCode ∷ StackTooSmall ∷ ZeroAtVector ∷ JournalFull ∷ NoRecord ∷ JournalLength ∷ DivisionByZero ∷ LeftByte ∷ NoRoom ∷ Malformed ∷ OutputShort ∷ PostByte8F ∷ PostByte8F ∷ LineShape ∷ Checksum ∷ PastTop ∷ NoEnd ∷ PostByte8F ∷ PostByte8F ∷ TooFewRecords ∷ [])
     n PostByte8F
 
 back : (x : Refusal) → refusalOf (numberOf x) ≡ x
@@ -62,6 +63,7 @@ back Checksum = refl
 back PastTop = refl
 back NoEnd = refl
 back PostByte8F = refl
+back TooFewRecords = refl
 
 pub numbers-apart : NumbersApart
 numbers-apart x y e = sym (back x) ∙ (ap refusalOf e ∙ back y)

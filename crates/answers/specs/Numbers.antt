@@ -6,7 +6,7 @@ use mathlib.Core.Path.{_≡_}
 use Rattle.answers.specs.declared.Answer.{Answer}
 use Rattle.answers.specs.declared.Answer.the-variants.{Done, Refused}
 use Rattle.answers.specs.declared.Refusal.{Refusal}
-use Rattle.answers.specs.declared.Refusal.the-variants.{MemoryLength, Waiting, Opcode, PastEnd, PostByte, TransferCode, StackTooSmall, ZeroAtVector, JournalFull, NoRecord, JournalLength, DivisionByZero, LeftByte, NoRoom, Malformed, OutputShort, LineShape, Checksum, PastTop, NoEnd, PostByte8F}
+use Rattle.answers.specs.declared.Refusal.the-variants.{MemoryLength, Waiting, Opcode, PastEnd, PostByte, TransferCode, StackTooSmall, ZeroAtVector, JournalFull, NoRecord, JournalLength, DivisionByZero, LeftByte, NoRoom, Malformed, OutputShort, LineShape, Checksum, PastTop, NoEnd, PostByte8F, TooFewRecords}
 
 abbrev pub numberOf : Refusal → ℕ
 -- memory is not 65,536 bytes
@@ -25,11 +25,11 @@ numberOf TransferCode = 7
 numberOf StackTooSmall = 8
 -- the vector to be taken leads to a zero byte
 numberOf ZeroAtVector = 9
--- fewer than 68 journal bytes after the used records
+-- the call's own record does not fit into the rest of the journal
 numberOf JournalFull = 10
 -- undo with no record
 numberOf NoRecord = 11
--- used records longer than the journal, or a newest record that cannot be
+-- bytes used beyond the journal's end, a count of records that cannot rise, or a record that is none
 numberOf JournalLength = 12
 -- `div` or `modulo` by zero
 numberOf DivisionByZero = 13
@@ -51,6 +51,8 @@ numberOf PastTop = 22
 numberOf NoEnd = 23
 -- [2]: a post-byte of low form 8F that is not 9F
 numberOf PostByte8F = 24
+-- [9]: drop of more records than are held
+numberOf TooFewRecords = 26
 
 -- 0 is done
 abbrev pub numberOfAnswer : Answer → ℕ

@@ -25,6 +25,7 @@ pub enum Refusal {
     PastTop,
     NoEnd,
     PostByte8F,
+    TooFewRecords,
 }
 
 pub enum Answer {
@@ -58,6 +59,7 @@ impl Refusal {
             Refusal::PastTop => 22,
             Refusal::NoEnd => 23,
             Refusal::PostByte8F => 24,
+            Refusal::TooFewRecords => 26,
         }
     }
 }

@@ -74,14 +74,10 @@ fn settings(ram_top: u16) -> Settings {
     Settings::new(ram_top, Flags::Bought)
 }
 
+// S is loaded: the Rust has no mark, and serves every NMI.
 fn machine(regs: Set, in_cwai: bool) -> Machine {
     let wait = if in_cwai { Wait::Cwai } else { Wait::Running };
-    Machine {
-        cycles: 0,
-        instructions: 0,
-        regs,
-        wait,
-    }
+    Machine::fresh().with_registers(regs, wait).marked(true)
 }
 
 // The Rust's callers look at the masks; here the call does, and finds none set.

@@ -2,17 +2,18 @@
 -- Assumes nothing.
 use Prim.Native.Nat.{ℕ, _+_, _%_, _^_}
 use mathlib.Core.Path.{_≡_, refl, ap, _∙_}
+use mathlib.Core.Bool.{not}
 use mathlib.Core.List.{List, append-nil}
 use native.Mathlib.Omega.{arith}
 use borrow.Author.Tests.{le-ltb}
 use Rattle.answers.specs.Numbers.{numberOfAnswer}
 use Rattle.registers.specs.ConditionCodes.{bitAt}
 use Rattle.registers.proofs.Laws.{mul-flags}
+use Rattle.machine.specs.Machine.{withRegisters}
 use Rattle.machine.specs.declared.Machine.{Machine}
 use Rattle.machine.specs.declared.Wait.{Wait}
 use Rattle.stack.specs.Pushing.{chosen, pushes, pushed}
-use Rattle.calls.specs.Plans.{withRegisters}
-use Rattle.calls.specs.Interrupts.{afterMasked}
+use Rattle.calls.specs.Interrupts.{afterHeldOff}
 use Rattle.calls.specs.Moves.{MovedBy}
 use Rattle.calls.specs.Steps.{Reached, At, NotReached, reached, stepPlan}
 use Rattle.calls.specs.declared.Plan.{Plan}
@@ -33,8 +34,12 @@ pub facts : Facts
 unfolding pushed pushes chosen bitAt operationAt bootLines runLines stepLines
 facts = record {
   reset-codes = λ mem m s size. ap (λ (p : Plan). p .machine .regs .cc) (reset-accepted mem m size);
-  nmi = λ mem m s size w e l. small-interrupt mem m s Nmi size refl w l;
-  masked-in-sync = λ mem m s i size k w. ap (λ (p : Plan). p .machine) (masked-stays mem m s i size k) ∙ ap (λ (v : Wait). withRegisters m (m .regs) (afterMasked v)) w;
+  nmi = λ mem m s size a w e l. small-interrupt mem m s Nmi size (ap not a) w l;
+  unarmed-in-sync = λ mem m s size a w. (
+    ap (λ (p : Plan). numberOfAnswer (p .answer)) (masked-stays mem m s Nmi size (ap not a)),
+    ap (λ (p : Plan). p .machine) (masked-stays mem m s Nmi size (ap not a)) ∙ ap (λ (v : Wait). withRegisters m (m .regs) (afterHeldOff v)) w,
+  );
+  masked-in-sync = λ mem m s i size k w. ap (λ (p : Plan). p .machine) (masked-stays mem m s i size k) ∙ ap (λ (v : Wait). withRegisters m (m .regs) (afterHeldOff v)) w;
   step-in-sync = λ mem m s size w.
       ap (λ (p : Plan). numberOfAnswer (p .answer)) (waits-refused mem m s size (λ r. let z : _≡_ {A = ℕ} 0 1 = cc in absurd (omega arith)));
   counts = λ mem m s more d. one-more mem (reached mem m) m (stepPlan mem m s .machine) (step-moves mem m s d);

@@ -26,7 +26,7 @@ use Rattle.registers.specs.declared.Flags.{Flags}
 use Rattle.registers.specs.declared.Index.the-variants.{X as LEAX, S as LEAS}
 use Rattle.registers.specs.declared.Set.{Set}
 use Rattle.registers.specs.declared.Stack.the-variants.{S}
-use Rattle.machine.specs.Machine.{fresh}
+use Rattle.machine.specs.Machine.{fresh, withRegisters}
 use Rattle.machine.specs.declared.Machine.{Machine}
 use Rattle.machine.specs.declared.Settings.{Settings}
 use Rattle.machine.specs.declared.Wait.the-variants.{Running, Cwai, Sync}
@@ -36,8 +36,7 @@ use Rattle.decode.specs.Decode.{located}
 use Rattle.decode.specs.Laws.{Unnamed}
 use Rattle.stack.specs.Pushing.{pushed}
 use Rattle.evaluate.specs.Evaluate.{evaluateOf}
-use Rattle.calls.specs.Plans.{withRegisters}
-use Rattle.calls.specs.Interrupts.{isMasked, interruptOf}
+use Rattle.calls.specs.Interrupts.{isHeldOff, interruptOf}
 use Rattle.calls.specs.Resets.{resetOf}
 use Rattle.calls.specs.Steps.{stepOf}
 use Rattle.calls.specs.declared.InterruptType.{InterruptType}
@@ -52,11 +51,14 @@ use Rattle.player.specs.Plays.{zeros}
 pub record Facts : Type 0 where
   -- "Interrupts, SWI, reset": a reset leaves CC 50
   pub reset-codes : (mem : List ℕ) (m : Machine) (s : Settings) → length mem ≡ 65536 → resetOf mem m s .machine .regs .cc ≡ coded 0x50
-  -- NMI is never masked: with every bit of CC set it is served, so that 8 is met where S is below 12
-  pub nmi : (mem : List ℕ) (m : Machine) (s : Settings) → length mem ≡ 65536 → m .wait ≢ Cwai → m .regs .cc ≡ coded 0xFF → m .regs .s < 12
+  -- NMI is never masked: once S is loaded it is served with every bit of CC set, so that 8 is met where S is below 12
+  pub nmi : (mem : List ℕ) (m : Machine) (s : Settings) → length mem ≡ 65536 → m .armed ≡ true → m .wait ≢ Cwai → m .regs .cc ≡ coded 0xFF → m .regs .s < 12
       → numberOfAnswer (interruptOf mem m s Nmi .answer) ≡ 8
+  -- document 02, [5]: before S is loaded an NMI is answered 0, wherever S points and the vector leads; it ends SYNC, and changes nothing else
+  pub unarmed-in-sync : (mem : List ℕ) (m : Machine) (s : Settings) → length mem ≡ 65536 → m .armed ≡ false → m .wait ≡ Sync
+      → (numberOfAnswer (interruptOf mem m s Nmi .answer) ≡ 0) × (interruptOf mem m s Nmi .machine ≡ withRegisters m (m .regs) Running)
   -- a masked interrupt ends SYNC, and changes nothing else
-  pub masked-in-sync : (mem : List ℕ) (m : Machine) (s : Settings) (i : InterruptType) → length mem ≡ 65536 → isMasked i (m .regs .cc) ≡ true → m .wait ≡ Sync
+  pub masked-in-sync : (mem : List ℕ) (m : Machine) (s : Settings) (i : InterruptType) → length mem ≡ 65536 → isHeldOff i m ≡ true → m .wait ≡ Sync
       → interruptOf mem m s i .machine ≡ withRegisters m (m .regs) Running
   -- "Numbers returned", 2: a step in SYNC
   pub step-in-sync : (mem : List ℕ) (m : Machine) (s : Settings) → length mem ≡ 65536 → m .wait ≡ Sync

@@ -28,7 +28,7 @@ use Rattle.addressing.specs.declared.Resolved.the-variants.{At, Refused}
 use Rattle.machine.specs.declared.Wait.the-variants.{Cwai}
 use Rattle.machine.specs.declared.Machine.{Machine}
 use Rattle.machine.specs.declared.Settings.{Settings}
-use Rattle.calls.specs.Interrupts.{isMasked, interruptOf}
+use Rattle.calls.specs.Interrupts.{isHeldOff, interruptOf}
 use Rattle.calls.specs.declared.InterruptType.{InterruptType}
 use Rattle.calls.specs.declared.InterruptType.the-variants.{Irq}
 
@@ -76,7 +76,7 @@ Holds (badPostByte p n) =
 Holds (systemWrite at p) = (top : ℕ) → landingOf at top (isSystem System) ≡ Stored p
 Holds (ignoredWrite at top) = landingOf at top (isSystem Program) ≡ Ignored
 Holds (refusedInterrupt i sp n) =
-    (mem : List ℕ) (m : Machine) (s : Settings) → length mem ≡ 65536 → isMasked i (m .regs .cc) ≡ false → m .wait ≢ Cwai → m .regs .s ≡ sp
+    (mem : List ℕ) (m : Machine) (s : Settings) → length mem ≡ 65536 → isHeldOff i m ≡ false → m .wait ≢ Cwai → m .regs .s ≡ sp
     → numberOfAnswer (interruptOf mem m s i .answer) ≡ n
 
 -- every row holds

@@ -83,5 +83,5 @@ fn main() {
         costing::count_of(head),
         head[0] == b'B',
     );
-    let _ = write(&costing::report(twin.machine, twin.used));
+    let _ = write(&costing::report(twin.machine, twin.records));
 }

@@ -9,10 +9,10 @@ use lib.Dec.{ltb, eqb}
 use Rattle.answers.specs.Numbers.{numberOf}
 use Rattle.answers.specs.declared.Answer.the-variants.{Done, Refused}
 use Rattle.answers.specs.declared.Refusal.{Refusal}
-use Rattle.answers.specs.declared.Refusal.the-variants.{MemoryLength, Waiting, Opcode, PastEnd, PostByte, TransferCode, StackTooSmall, ZeroAtVector, JournalFull, NoRecord, JournalLength, DivisionByZero, LeftByte, NoRoom, Malformed, OutputShort, LineShape, Checksum, PastTop, NoEnd, PostByte8F}
+use Rattle.answers.specs.declared.Refusal.the-variants.{MemoryLength, Waiting, Opcode, PastEnd, PostByte, TransferCode, StackTooSmall, ZeroAtVector, JournalFull, NoRecord, JournalLength, DivisionByZero, LeftByte, NoRoom, Malformed, OutputShort, LineShape, Checksum, PastTop, NoEnd, PostByte8F, TooFewRecords}
 use Rattle.registers.specs.declared.Flags.{Flags}
 use Rattle.registers.specs.declared.Flags.the-variants.{Bought, Manual}
-use Rattle.machine.specs.Record.{waitByte, waitOf}
+use Rattle.machine.specs.Record.{waitByte, waitOf, markByte, markOf}
 use Rattle.machine.specs.declared.Settings.{Settings}
 use Rattle.machine.specs.declared.Wait.{Wait}
 use Rattle.machine.specs.declared.Wait.the-variants.{Running, Cwai, Sync}
@@ -48,6 +48,7 @@ below Checksum = omega arith
 below PastTop = omega arith
 below NoEnd = omega arith
 below PostByte8F = omega arith
+below TooFewRecords = omega arith
 
 pub unnamed-apart : UnnamedApart
 unnamed-apart Done = omega arith
@@ -106,6 +107,21 @@ wait-told Running = refl
 wait-told Cwai = refl
 wait-told Sync = refl
 
+mark-back : (n : ℕ) → n < 2 → markByte (markOf n) ≡ n
+unfolding markOf
+mark-back zero h = refl
+mark-back (suc zero) h = refl
+mark-back (suc (suc n)) h = absurd (omega arith)
+
+mark-named : (a : Bool) → markOf (markByte a) ≡ a
+unfolding markOf
+mark-named true = refl
+mark-named false = refl
+
+mark-told : (a : Bool) → ltb (markByte a) 2 ≡ true
+mark-told true = refl
+mark-told false = refl
+
 flags-told : (f : Flags) → ltb (flagsNumber f) 2 ≡ true
 flags-told Bought = refl
 flags-told Manual = refl
@@ -113,17 +129,16 @@ flags-told Manual = refl
 host-back : (t : HostTwin) → isTwin t ≡ true → hostTwin (twinFrom t) ≡ t
 unfolding hostTwin machineFrom
 host-back t h =
-    let p = both _ _ h in
-    let q = both _ _ (p .0) in
-    rw (wait-back (t .wait) (ltb-true _ _ (q .0)), eqb-true (t .bytes) 0 (q .1), eqb-true (t .armed) 0 (p .1))
+    let q = both _ _ h in
+    rw (wait-back (t .wait) (ltb-true _ _ (q .0)), mark-back (t .armed) (ltb-true _ _ (q .1)))
 
 twin-back : (t : Twin) → twinFrom (hostTwin t) ≡ t
 unfolding hostTwin machineFrom
-twin-back t = rw (wait-named (t .machine .wait))
+twin-back t = rw (wait-named (t .machine .wait), mark-named (t .machine .armed))
 
 twin-named : (t : Twin) → isTwin (hostTwin t) ≡ true
 unfolding hostTwin
-twin-named t = rw (wait-told (t .machine .wait))
+twin-named t = rw (wait-told (t .machine .wait), mark-told (t .machine .armed))
 
 pub twins-back : TwinsBack
 twins-back = record { host = host-back; twin = twin-back; named = twin-named }

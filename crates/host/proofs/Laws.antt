@@ -60,6 +60,6 @@ module _ (named : Bool) (report : Report) (after : List ℕ) (t : HostTwin) (mem
   pub refuses-report : named ≡ false → r ≡ unnamed t → Reports named report after t memory r memory
   refuses-report h p = record { result = rw h p; memory-is = rw h refl }
 
-  pub passes-report : (us : List ℕ) → named ≡ true → r ≡ hostOutcome (keeping (t .records) report) → us ≡ after
+  pub passes-report : (us : List ℕ) → named ≡ true → r ≡ hostOutcome (keeping t report) → us ≡ after
       → Reports named report after t memory r us
   passes-report us h p q = record { result = rw h p; memory-is = rw h q }

@@ -20,7 +20,11 @@ pub record Ends (named : Bool) (call : State → Ended) (t : HostTwin) (memory j
   pub memory-is : memory′ ≡ cond named (call (handed memory journal t) .state .memory) memory
   pub journal-is : journal′ ≡ cond named (call (handed memory journal t) .state .journal) journal
 
+-- drop, which is lent no memory: whatever memory is, it stays
+abbrev pub EndsEach : Bool → (State → Ended) → HostTwin → List ℕ → HostOutcome → List ℕ → Type 0
+EndsEach named call t journal r journal′ = (memory : List ℕ) → Ends named call t memory journal r memory journal′
+
 -- a call that is not recorded: what it reports, and memory after it
 pub record Reports (named : Bool) (report : Report) (after : List ℕ) (t : HostTwin) (memory : List ℕ) (r : HostOutcome) (memory′ : List ℕ) : Type 0 where
-  pub result : r ≡ cond named (hostOutcome (keeping (t .records) report)) (unnamed t)
+  pub result : r ≡ cond named (hostOutcome (keeping t report)) (unnamed t)
   pub memory-is : memory′ ≡ cond named after memory

@@ -33,9 +33,9 @@ interruptNumber Irq = 0
 interruptNumber Firq = 1
 interruptNumber Nmi = 2
 
--- wait is 0 to 2 (the record's numbers, crate machine) and the spare fields are 0
+-- wait is 0 to 2 and armed 0 or 1 (the record's numbers, crate machine); any counts will do
 abbrev pub isTwin : HostTwin → Bool
-isTwin t = (ltb (t .wait) 3 && eqb (t .bytes) 0) && eqb (t .armed) 0
+isTwin t = ltb (t .wait) 3 && ltb (t .armed) 2
 
 -- flags is 0 or 1 and the spare field is 0
 abbrev pub isSettings : HostSettings → Bool

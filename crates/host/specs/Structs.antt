@@ -8,7 +8,7 @@ use lib.ListN.{replicate}
 use Rattle.answers.specs.Numbers.{numberOfAnswer}
 use Rattle.memory.specs.declared.writes.Write.{Write}
 use Rattle.machine.specs.Machine.{settingsOf}
-use Rattle.machine.specs.Record.{waitByte, waitOf}
+use Rattle.machine.specs.Record.{waitByte, waitOf, markByte, markOf}
 use Rattle.machine.specs.declared.Machine.{Machine}
 use Rattle.machine.specs.declared.Settings.{Settings}
 use Rattle.calls.specs.declared.Report.{Report}
@@ -37,18 +37,19 @@ machineFrom t =
       instructions = t .instructions;
       regs = record { x = t .x; y = t .y; u = t .u; s = t .s; pc = t .pc; a = t .a; b = t .b; dp = t .dp; cc = record { reg = t .cc } };
       wait = waitOf (t .wait);
+      armed = markOf (t .armed);
     }
 
 abbrev pub twinFrom : HostTwin → Twin
-twinFrom t = record { machine = machineFrom t; used = t .records }
+twinFrom t = record { machine = machineFrom t; records = t .records; bytes = t .bytes }
 
 unfoldable pub hostTwin : Twin → HostTwin
 hostTwin t =
     record {
       cycles = t .machine .cycles;
       instructions = t .machine .instructions;
-      records = t .used;
-      bytes = 0;
+      records = t .records;
+      bytes = t .bytes;
       x = t .machine .regs .x;
       y = t .machine .regs .y;
       u = t .machine .regs .u;
@@ -59,7 +60,7 @@ hostTwin t =
       dp = t .machine .regs .dp;
       cc = t .machine .regs .cc .reg;
       wait = waitByte (t .machine .wait);
-      armed = 0;
+      armed = markByte (t .machine .armed);
     }
 
 -- ---- what a call returns
@@ -81,9 +82,9 @@ hostOutcome o =
       answer = numberOfAnswer (o .answer);
     }
 
--- a call that is not recorded keeps the count of records
-abbrev pub keeping : ℕ → Report → Outcome
-keeping records r = record { devices = r .devices; twin = record { machine = r .machine; used = records }; answer = r .answer }
+-- a call that is not recorded keeps both counts
+abbrev pub keeping : HostTwin → Report → Outcome
+keeping t r = record { devices = r .devices; twin = record { machine = r .machine; records = t .records; bytes = t .bytes }; answer = r .answer }
 
 -- where the numbers name nothing: the twin as it was given, no device write, and the host's own number
 unfoldable pub unnamed : HostTwin → HostOutcome

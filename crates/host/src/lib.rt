@@ -2,7 +2,7 @@
 // `include/doorhawser.h` declares the same structs. Numbers that name nothing are refused before anything else is judged.
 ghost use mathlib.Core.Path.{_≡_};
 ghost use mathlib.Core.List.{map};
-ghost use Rattle.machine.specs.Record.{waitByte, waitOf};
+ghost use Rattle.machine.specs.Record.{waitByte, waitOf, markByte, markOf};
 ghost use Rattle.host.specs.Numbers.{flagsOf, interruptTypeOf, isTwin, isSettings, isNamed, isInterrupt};
 ghost use Rattle.host.specs.Structs.{settingsFrom, machineFrom, twinFrom, hostTwin, hostWrite, noWrites, hostOutcome, keeping, unnamed};
 use calls::InterruptType;
@@ -18,7 +18,7 @@ use registers::CCBits;
 use registers::Flags;
 use registers::Set;
 
-// The answer where a host's numbers name no wait state, flag setting or interrupt, or a spare field is not 0. It is no number of a
+// The answer where a host's numbers name no wait state, mark, flag setting or interrupt, or a spare field is not 0. It is no number of a
 // call on a twin.
 const UNNAMED: u64 = 64;
 
@@ -30,14 +30,14 @@ pub struct HostSettings {
     pub spare: u8,
 }
 
-// A machine and how many records of its journal are used: 48 bytes, no gap, the registers in the order of `Set`. `wait` is 0
-// running, 1 CWAI, 2 SYNC; `bytes` and `armed` are 0.
+// A machine, how many records its journal holds and how many bytes they use: 48 bytes, no gap, the registers in the order of `Set`. `wait`
+// is 0 running, 1 CWAI, 2 SYNC; `armed` is 1 once S is loaded, else 0.
 #[repr(C)]
 pub struct HostTwin {
     pub cycles: u64,
     pub instructions: u64,
     pub records: usize,
-    pub bytes: u64,
+    pub bytes: usize,
     pub x: u16,
     pub y: u16,
     pub u: u16,
@@ -108,6 +108,18 @@ fn wait_number(wait: Wait) -> u8
     }
 }
 
+fn mark_of(n: u8) -> bool
+    ensures { λ r. ⌜ r ≡ markOf n ⌝ }
+{
+    n == 1
+}
+
+fn mark_number(armed: bool) -> u8
+    ensures { λ r. ⌜ r ≡ markByte armed ⌝ }
+{
+    if armed { 1 } else { 0 }
+}
+
 pub fn interrupt_type_of(which: u8) -> InterruptType
     ensures { λ r. ⌜ r ≡ interruptTypeOf which ⌝ }
 {
@@ -120,11 +132,11 @@ pub fn interrupt_type_of(which: u8) -> InterruptType
     InterruptType::Nmi
 }
 
-// The wait state is named, and the spare fields are 0.
+// Wait state and mark are named, and the spare field is 0.
 pub fn is_twin(t: HostTwin) -> bool
     ensures { λ r. ⌜ r ≡ isTwin t ⌝ }
 {
-    (t.wait < 3) & (t.bytes == 0) & (t.armed == 0)
+    (t.wait < 3) & (t.armed < 2)
 }
 
 // The flag setting is named, and the spare field is 0.
@@ -166,6 +178,7 @@ pub fn machine_of(t: HostTwin) -> Machine
             cc: CCBits { reg: t.cc },
         },
         wait: wait_of(t.wait),
+        armed: mark_of(t.armed),
     }
 }
 
@@ -174,7 +187,8 @@ pub fn twin_of(t: HostTwin) -> Twin
 {
     Twin {
         machine: machine_of(t),
-        used: t.records,
+        records: t.records,
+        bytes: t.bytes,
     }
 }
 
@@ -188,8 +202,8 @@ pub fn host_twin(t: Twin) -> HostTwin
     HostTwin {
         cycles: machine.cycles,
         instructions: machine.instructions,
-        records: t.used,
-        bytes: 0,
+        records: t.records,
+        bytes: t.bytes,
         x: regs.x,
         y: regs.y,
         u: regs.u,
@@ -200,7 +214,7 @@ pub fn host_twin(t: Twin) -> HostTwin
         dp: regs.dp,
         cc: cc.reg,
         wait: wait_number(wait),
-        armed: 0,
+        armed: mark_number(machine.armed),
     }
 }
 
@@ -254,9 +268,9 @@ pub fn outcome_of(o: Outcome) -> HostOutcome
     }
 }
 
-// A call that is not recorded keeps the count of records.
-pub fn report_of(records: usize, report: Report) -> HostOutcome
-    ensures { λ r. ⌜ r ≡ hostOutcome (keeping records report) ⌝ }
+// A call that is not recorded keeps both counts.
+pub fn report_of(t: HostTwin, report: Report) -> HostOutcome
+    ensures { λ r. ⌜ r ≡ hostOutcome (keeping t report) ⌝ }
 {
     let devices = report.devices;
     let machine = report.machine;
@@ -265,7 +279,8 @@ pub fn report_of(records: usize, report: Report) -> HostOutcome
         devices,
         twin: Twin {
             machine,
-            used: records,
+            records: t.records,
+            bytes: t.bytes,
         },
         answer,
     })

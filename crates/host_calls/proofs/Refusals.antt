@@ -14,6 +14,7 @@ use Rattle.machine.specs.declared.Settings.{Settings}
 use Rattle.calls.specs.declared.Plan.{Plan}
 use Rattle.journal.specs.Recorded.{State, Ended, ending, called, callAnswer, recorded}
 use Rattle.journal.specs.Undos.{undoAnswer, restored, undone}
+use Rattle.journal.specs.Drops.{dropAnswer, shortened, dropped}
 use Rattle.host.specs.Numbers.{isTwin}
 use Rattle.host.specs.Structs.{hostTwin, hostOutcome, unnamed}
 use Rattle.host.specs.Ends.{handed, Ends}
@@ -30,21 +31,26 @@ ended : (a : Answer) (s new : State) (ws : List Write) (x : Refusal) → ending 
 ended Done s new ws x e = not-done (sym e)
 ended (Refused y) s new ws x e = refl
 
-called-keeps : (early : Answer) (t : Settings) (p : Plan) (s : State) (x : Refusal) → called early t p s .answer ≡ Refused x → called early t p s .state ≡ s
+called-keeps : (t : Settings) (p : Plan) (s : State) (x : Refusal) → called t p s .answer ≡ Refused x → called t p s .state ≡ s
 unfolding called
-called-keeps early t p s x e = ended (callAnswer early p s) s (recorded t p s) _ x e
+called-keeps t p s x e = ended (callAnswer t p s) s (recorded t p s) _ x e
 
 undone-keeps : Keeps undone
 unfolding undone
 undone-keeps s x e = ended (undoAnswer s) s (restored s) [] x e
 
+dropped-keeps : (k : ℕ) → Keeps (dropped k)
+unfolding dropped
+dropped-keeps k s x e = ended (dropAnswer k s) s (shortened k s) [] x e
+
 pub calls-keep : CallsKeep
 calls-keep =
     record {
-      step = λ t s x e. called-keeps _ _ _ _ x e;
-      interrupt = λ t i s x e. called-keeps _ _ _ _ x e;
-      reset = λ t s x e. called-keeps _ _ _ _ x e;
+      step = λ t s x e. called-keeps _ _ _ x e;
+      interrupt = λ t i s x e. called-keeps _ _ _ x e;
+      reset = λ t s x e. called-keeps _ _ _ x e;
       undo = undone-keeps;
+      drop = dropped-keeps;
     }
 
 module _ (call : State → Ended) (t : HostTwin) (memory journal : List ℕ) (r : HostOutcome) (us vs : List ℕ) where

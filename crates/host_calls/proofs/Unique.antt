@@ -2,7 +2,7 @@
 -- Assumes nothing.
 use Prim.Native.Nat.{ℕ}
 use mathlib.Core.Path.{refl, sym, ap, _∙_}
-use mathlib.Core.List.{List}
+use mathlib.Core.List.{List, []}
 use Rattle.answers.proofs.Determined.{Determines}
 use Rattle.host_calls.proofs
 
@@ -24,6 +24,10 @@ reset κs a x y ws vs p q =
 -- the journal is lent to be read only
 pub undo : Determines 2 proofs.doorhawser_undo.Kinds.ps proofs.doorhawser_undo.Kinds.r proofs.doorhawser_undo.Reads.Post
 undo κs a x y ws vs p q = (p .result ∙ sym (q .result), ap (λ (l : List ℕ). (l, (tt, (tt, tt)))) (p .memory-is ∙ sym (q .memory-is)))
+
+-- no memory is lent
+pub drop : Determines 1 proofs.doorhawser_drop.Kinds.ps proofs.doorhawser_drop.Kinds.r proofs.doorhawser_drop.Reads.Post
+drop κs a x y ws vs p q = (p [] .result ∙ sym (q [] .result), ap (λ (l : List ℕ). (l, (tt, (tt, tt)))) (p [] .journal-is ∙ sym (q [] .journal-is)))
 
 pub interrupt-unrecorded : Determines 1 proofs.doorhawser_interrupt_unrecorded.Kinds.ps proofs.doorhawser_interrupt_unrecorded.Kinds.r proofs.doorhawser_interrupt_unrecorded.Reads.Post
 interrupt-unrecorded κs a x y ws vs p q = (p .result ∙ sym (q .result), ap (λ (l : List ℕ). (l, (tt, (tt, (tt, tt))))) (p .memory-is ∙ sym (q .memory-is)))

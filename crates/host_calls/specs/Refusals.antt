@@ -1,4 +1,4 @@
--- A refused recorded call of a host, or undo, leaves its twin, memory and journal, every byte.
+-- A refused recorded call of a host, undo or drop leaves its twin, memory and journal, every byte.
 -- Assumes nothing.
 use Prim.Native.Nat.{ℕ}
 use mathlib.Core.Bool.{Bool, true}
@@ -10,6 +10,7 @@ use Rattle.machine.specs.declared.Settings.{Settings}
 use Rattle.calls.specs.declared.InterruptType.{InterruptType}
 use Rattle.journal.specs.Recorded.{State, Ended, stepped, interrupted, wasReset}
 use Rattle.journal.specs.Undos.{undone}
+use Rattle.journal.specs.Drops.{dropped}
 use Rattle.host.specs.Numbers.{isTwin}
 use Rattle.host.specs.Ends.{Ends}
 use Rattle.host.specs.declared.HostTwin.{HostTwin}
@@ -24,6 +25,7 @@ pub record CallsKeep : Type 0 where
   pub interrupt : (t : Settings) (i : InterruptType) → Keeps (interrupted t i)
   pub reset : (t : Settings) → Keeps (wasReset t)
   pub undo : Keeps undone
+  pub drop : (k : ℕ) → Keeps (dropped k)
 
 -- so do the host's, whose test of the numbers names the twin
 pub record HostKept (t : HostTwin) (memory journal : List ℕ) (r : HostOutcome) (memory′ journal′ : List ℕ) : Type 0 where

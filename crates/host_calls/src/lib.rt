@@ -1,24 +1,24 @@
-// The calls of a host that are not steps: start, interrupt, reset, undo, the newest record, and S-records.
+// The calls of a host that are not steps: start, interrupt, reset, undo, drop, the newest record, and S-records.
 ghost use mathlib.Core.Path.{_≡_};
 ghost use lib.ListN.{length};
 ghost use Rattle.journal.specs.Recorded.{freshTwin, interrupted, wasReset};
 ghost use Rattle.journal.specs.Undos.{undone};
+ghost use Rattle.journal.specs.Drops.{dropped};
 ghost use Rattle.calls.specs.Interrupts.{interruptOf, memoryAfterInterrupt};
 ghost use Rattle.calls.specs.Resets.{resetOf, memoryAfterReset};
 ghost use Rattle.srecord.specs.File.{loadedOf, memoryLoaded};
 ghost use Rattle.srecord.specs.Written.{outputWritten, outputAfter};
 ghost use Rattle.host.specs.Numbers.{interruptTypeOf, isTwin, isNamed, isInterrupt};
 ghost use Rattle.host.specs.Structs.{settingsFrom, machineFrom, hostTwin};
-ghost use Rattle.host.specs.Ends.{Ends, Reports};
+ghost use Rattle.host.specs.Ends.{Ends, EndsEach, Reports};
 ghost use Rattle.host_calls.specs.Results.{abiNumber, partOf, hostLoaded, hostWritten};
 use host::HostOutcome;
 use host::HostSettings;
 use host::HostTwin;
-use journal::RECORD;
 use journal::Twin;
 
 // Raised with each change of a struct, or of what a call takes.
-const ABI: u64 = 1;
+const ABI: u64 = 3;
 
 // `count` bytes of the journal from `at` on; 0 bytes where there is no record.
 #[repr(C)]
@@ -108,6 +108,17 @@ pub extern "C" fn doorhawser_undo(mem: &mut [u8], journal: &[u8], twin: HostTwin
     host::unnamed(twin)
 }
 
+// The oldest k records are forgotten, and the rest is moved to the front. No memory is lent: whatever it is, it stays.
+#[no_mangle]
+pub extern "C" fn doorhawser_drop(journal: &mut [u8], twin: HostTwin, k: usize) -> HostOutcome
+    ensures { λ r. ⌜ EndsEach (isTwin twin) (dropped k) twin (now (journal .entry)) r (now (journal .exit)) ⌝ }
+{
+    if host::is_twin(twin) {
+        return host::outcome_of(journal::drop(journal, host::twin_of(twin), k));
+    }
+    host::unnamed(twin)
+}
+
 #[no_mangle]
 pub extern "C" fn doorhawser_interrupt_unrecorded(
     mem: &mut [u8],
@@ -119,7 +130,7 @@ pub extern "C" fn doorhawser_interrupt_unrecorded(
 {
     if host::is_interrupt(twin, settings, which) {
         return host::report_of(
-            twin.records,
+            twin,
             calls::interrupt(
                 mem,
                 host::machine_of(twin),
@@ -141,7 +152,7 @@ pub extern "C" fn doorhawser_reset_unrecorded(
 {
     if host::is_named(twin, settings) {
         return host::report_of(
-            twin.records,
+            twin,
             calls::reset(mem, host::machine_of(twin), host::settings_of(settings)),
         );
     }
@@ -150,18 +161,17 @@ pub extern "C" fn doorhawser_reset_unrecorded(
 
 // Where the newest record stands in the journal.
 #[no_mangle]
-pub extern "C" fn doorhawser_newest(journal: &[u8], records: usize) -> HostPart
-    ensures { λ r. ⌜ r ≡ partOf (now (journal .entry)) records ⌝ }
+pub extern "C" fn doorhawser_newest(journal: &[u8], records: usize, bytes: usize) -> HostPart
+    ensures { λ r. ⌜ r ≡ partOf (now (journal .entry)) records bytes ⌝ }
 {
-    if records == 0 {
-        return HostPart { at: 0, count: 0 };
-    }
-    if records > journal.len() / RECORD {
+    let part = journal::newest(journal, records, bytes);
+    let size = part.len();
+    if size == 0 {
         return HostPart { at: 0, count: 0 };
     }
     HostPart {
-        at: (records - 1) * RECORD,
-        count: RECORD,
+        at: bytes - size,
+        count: size,
     }
 }
 

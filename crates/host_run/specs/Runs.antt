@@ -49,7 +49,7 @@ running s (suc n) r mem = cond (goesOn r) (running s n (stepOf mem (r .machine) 
 
 -- what a host gets of a run, and where its numbers name nothing
 abbrev pub hostRan : HostTwin → Ran → HostRan
-hostRan t r = record { last = hostOutcome (keeping (t .records) (r .last)); left = r .left }
+hostRan t r = record { last = hostOutcome (keeping t (r .last)); left = r .left }
 
 abbrev pub notRun : HostTwin → ℕ → HostRan
 notRun t count = record { last = unnamed t; left = count }

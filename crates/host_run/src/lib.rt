@@ -97,7 +97,7 @@ pub extern "C" fn doorhawser_run_unrecorded(
         );
         let last = ran.last;
         return HostRan {
-            last: host::report_of(twin.records, last),
+            last: host::report_of(twin, last),
             left: ran.left,
         };
     }

@@ -17,7 +17,7 @@ pub extern "C" fn doorhawser_step_unrecorded(
 {
     if host::is_named(twin, settings) {
         return host::report_of(
-            twin.records,
+            twin,
             calls::step(mem, host::machine_of(twin), host::settings_of(settings)),
         );
     }

@@ -7,8 +7,8 @@ use host::HostTwin;
 
 type Memory = [u8; 0x10000];
 
-// Room for five records.
-type Journal = [u8; 340];
+// Room for four records of 34 bytes, and one of 70 with twelve entries.
+type Journal = [u8; 206];
 
 // ram_top 7FFF, flags by the manual.
 fn settings() -> HostSettings {
@@ -55,21 +55,44 @@ fn back(mem: &mut Memory, journal: &Journal, twin: HostTwin) -> HostTwin {
     played::shown(host_calls::doorhawser_undo(mem, journal, none))
 }
 
-// The same not recorded: NMI, for which there is no room on the stack; the second and third step in a run of two; FIRQ, which is
-// masked; a run of seven in CWAI, whose first step is refused and does not count; and IRQ.
+// Of five records the two oldest are dropped, which six are too many for; then three undos, and one that finds no record.
+fn forget(mem: &mut Memory, journal: &mut Journal, twin: HostTwin) {
+    let held = played::shown(host_calls::doorhawser_drop(journal, twin, 6));
+    let fewer = played::shown(host_calls::doorhawser_drop(journal, held, 2));
+    played::number(fewer.records as u64);
+    played::number(fewer.bytes as u64);
+    newest(journal, fewer);
+    let second = played::shown(host_calls::doorhawser_undo(mem, journal, fewer));
+    let first = played::shown(host_calls::doorhawser_undo(mem, journal, second));
+    let none = played::shown(host_calls::doorhawser_undo(mem, journal, first));
+    played::shown(host_calls::doorhawser_undo(mem, journal, none));
+}
+
+// The same not recorded: NMI, before S is loaded and, by the host's own mark, after it, where there is no room on the stack; the second
+// and third step in a run of two; FIRQ, which is masked; a run of seven in CWAI, whose first step is refused and does not count; and IRQ.
 fn unrecorded(mem: &mut Memory, twin: HostTwin) {
     let reset = played::shown(host_calls::doorhawser_reset_unrecorded(mem, twin, settings()));
-    let refused = played::shown(host_calls::doorhawser_interrupt_unrecorded(
+    let held_off = played::shown(host_calls::doorhawser_interrupt_unrecorded(
         mem,
         reset,
         settings(),
         2,
     ));
+    let mut armed = held_off;
+    armed.armed = 1;
+    let refused = played::shown(host_calls::doorhawser_interrupt_unrecorded(
+        mem,
+        armed,
+        settings(),
+        2,
+    ));
+    played::byte(refused.armed);
     let first = played::shown(host_step_unrecorded::doorhawser_step_unrecorded(
         mem,
-        refused,
+        held_off,
         settings(),
     ));
+    played::byte(first.armed);
     let ran = host_run::doorhawser_run_unrecorded(mem, first, settings(), 2);
     played::number(ran.left);
     let third = played::shown(ran.last);
@@ -87,16 +110,17 @@ fn unrecorded(mem: &mut Memory, twin: HostTwin) {
     played::shown(host_calls::doorhawser_interrupt_unrecorded(mem, masked, settings(), 0));
 }
 
-// Numbers that name nothing.
+// Numbers that name nothing; and bytes used beyond the journal's end, which are a number as any other.
 fn unnamed(mem: &mut Memory, journal: &mut Journal, twin: HostTwin) {
     let mut waits = twin;
     waits.wait = 3;
     played::shown(host_step::doorhawser_step(mem, journal, waits, settings()));
     let mut armed = twin;
-    armed.armed = 1;
+    armed.armed = 2;
     played::shown(host_calls::doorhawser_undo(mem, journal, armed));
+    played::shown(host_calls::doorhawser_drop(journal, armed, 0));
     let mut bytes = twin;
-    bytes.bytes = 1;
+    bytes.bytes = 207;
     played::shown(host_calls::doorhawser_reset(mem, journal, bytes, settings()));
     let mut flags = settings();
     flags.flags = 2;
@@ -111,7 +135,7 @@ fn unnamed(mem: &mut Memory, journal: &mut Journal, twin: HostTwin) {
 
 // Where the newest record stands.
 fn newest(journal: &Journal, twin: HostTwin) {
-    let part = host_calls::doorhawser_newest(journal, twin.records);
+    let part = host_calls::doorhawser_newest(journal, twin.records, twin.bytes);
     played::number(part.at as u64);
     played::number(part.count as u64);
 }
@@ -126,13 +150,15 @@ fn save(mem: &Memory) {
 
 fn main() {
     let mut mem = [0u8; 0x10000];
-    let mut journal = [0u8; 340];
+    let mut journal = [0u8; 206];
     played::number(host_calls::doorhawser_abi());
     load(&mut mem);
     let ended = forward(&mut mem, &mut journal);
     newest(&journal, ended);
     let none = back(&mut mem, &journal, ended);
     newest(&journal, none);
+    let again = forward(&mut mem, &mut journal);
+    forget(&mut mem, &mut journal, again);
     save(&mem);
     unrecorded(&mut mem, none);
     unnamed(&mut mem, &mut journal, none);

@@ -23,6 +23,10 @@ pub fn number(n: u64) -> bool {
     io::write_all(STDOUT_FILENO, &out)
 }
 
+pub fn byte(n: u8) -> bool {
+    number(n as u64)
+}
+
 // The answer in two decimal digits, PC, CC, and the last digit of cycles.
 fn show(answer: u8, pc: u16, cc: u8, cycles: u8) -> bool {
     let high = (pc / 256) as u8;

@@ -1,15 +1,15 @@
 -- What the calls answer, test by test, and what then is left in memory and journal.
 -- Assumes nothing.
-use Prim.Native.Nat.{ℕ, _+_, _-_, _*_, _/_, _≤_, _<_}
+use Prim.Native.Nat.{ℕ, _+_, _-_, _≤_, _<_}
 use mathlib.Core.Path.{_≡_, refl, sym, ap, _∙_}
-use mathlib.Core.Bool.{Bool, true, false}
-use mathlib.Core.List.{List, [], _++_, append-assoc, append-nil}
+use mathlib.Core.Bool.{Bool, true, false, cond, _&&_}
+use mathlib.Core.List.{List, []}
 use native.Mathlib.Nat.{zero-add}
 use native.Mathlib.Omega.{arith}
-use lib.Dec.{leb, eqb}
-use lib.ListN.{length, take, drop, length-append, length-drop}
-use lib.Seq.{sets-eq, take-all, drop-drop, drop-length}
-use borrow.Author.Tests.{eq-eqb, ne-eqb, le-leb, lt-leb, lt-ltb, le-ltb, eqb-true, leb-true}
+use lib.Dec.{leb, ltb, eqb}
+use lib.ListN.{length, getD, take, drop, length-drop}
+use lib.Seq.{sets, length-take-le}
+use borrow.Author.Tests.{eq-eqb, ne-eqb, le-leb, lt-leb, lt-ltb, le-ltb, eqb-true, leb-true, ltb-true}
 use Rattle.memory.specs.Writes.{writesOf, listed, stored, reported}
 use Rattle.answers.specs.declared.Answer.{Answer}
 use Rattle.answers.specs.declared.Answer.the-variants.{Done, Refused}
@@ -17,103 +17,151 @@ use Rattle.answers.specs.declared.Refusal.{Refusal}
 use Rattle.answers.specs.declared.Refusal.the-variants.{MemoryLength, JournalFull, NoRecord, JournalLength}
 use Rattle.memory.specs.declared.writes.Write.{Write}
 use Rattle.memory.specs.declared.writes.Writes.{Writes}
-use Rattle.machine.specs.declared.Settings.{Settings}
-use Rattle.calls.specs.declared.Plan.{Plan}
 use Rattle.machine.specs.declared.Machine.{Machine}
+use Rattle.machine.specs.declared.Settings.{Settings}
 use Rattle.machine.specs.Record.{machineOf}
-use Rattle.journal.specs.Record.{encode, waitAt, countOf, entriesOf, readEntries, mostStored, entriesAt, recordLength}
-use Rattle.journal.specs.Recorded.{State, ending, Leaves, need, unless, admitted, callAnswer, savedFor, recorded, concluded, called, recordAt, withRecord}
-use Rattle.journal.specs.Undos.{newestOf, newestFrom, newestIn, undoAnswer, putBack, restored, undone}
+use Rattle.calls.specs.Calls.{step, interrupt, reset, planOf}
+use Rattle.calls.specs.declared.Plan.{Plan}
+use Rattle.journal.specs.Record.{waitAt, markAt, countOf, entriesOf, readEntries, isRecord, mostStored, entriesAt, recordLength}
+use Rattle.journal.specs.Recorded.{State, inHand, ending, Leaves, need, unless, mostRecords, admitted, savedFor, recordFor, planAnswer, callAnswer, recorded, concluded, called, call, callOf}
+use Rattle.journal.specs.Undos.{lastByte, newestAt, soundAt, newestOf, newestFrom, undoAnswer, putBack, restored, undone}
+use Rattle.journal.specs.declared.CallType.{CallType}
+use Rattle.journal.specs.declared.CallType.the-variants.{Step, Interrupt, Reset}
 use Rattle.journal.specs.declared.Outcome.{Outcome}
+use Rattle.journal.specs.declared.Twin.{Twin}
+use Rattle.journal.proofs.Reading.{length-encode}
 
--- ---- before a recorded call
+pub and-true : (a b : Bool) → (a && b) ≡ true → (a ≡ true) × (b ≡ true)
+and-true true b e = (refl, e)
+and-true false b e = let z : _≡_ {A = ℕ} 0 1 = cc in absurd (omega arith)
 
-module _ (memory journal used : ℕ) (early : Answer) where
-  pub short-memory : (memory ≡ 65536 → ⊥) → Refused MemoryLength ≡ admitted memory journal used early
-  unfolding admitted
-  short-memory h = rw (ne-eqb memory 65536 h)
-
-  module _ (size : memory ≡ 65536) where
-    pub short-journal : journal / recordLength < used → Refused JournalLength ≡ admitted memory journal used early
-    unfolding admitted
-    short-journal h = rw (eq-eqb memory 65536 size, lt-leb (used * recordLength) journal (omega arith))
-
-    module _ (within : used ≤ journal / recordLength) where
-      pub early-refused : (x : Refusal) → early ≡ Refused x → Refused x ≡ admitted memory journal used early
-      unfolding admitted
-      early-refused x e = rw (eq-eqb memory 65536 size, le-leb (used * recordLength) journal (omega arith), e)
-
-      pub room : early ≡ Done → used < journal / recordLength → Done ≡ admitted memory journal used early
-      unfolding admitted
-      room e h = rw (eq-eqb memory 65536 size, le-leb (used * recordLength) journal (omega arith), e, le-leb (used * recordLength + recordLength) journal (omega arith))
-
-      pub full : early ≡ Done → journal / recordLength ≤ used → Refused JournalFull ≡ admitted memory journal used early
-      unfolding admitted
-      full e h = rw (eq-eqb memory 65536 size, le-leb (used * recordLength) journal (omega arith), e, lt-leb (used * recordLength + recordLength) journal (omega arith))
-
-need-done : (b : Bool) (x : Refusal) (rest : Answer) → need b x rest ≡ Done → (b ≡ true) × (rest ≡ Done)
-need-done true x rest e = (refl, e)
-need-done false x rest e = let z : _≡_ {A = ℕ} 0 1 = cc in absurd (omega arith)
-
-pub unless-done : (a rest : Answer) → unless a rest ≡ Done → (a ≡ Done) × (rest ≡ Done)
-unless-done Done rest e = (refl, e)
-unless-done (Refused x) rest e = let z : _≡_ {A = ℕ} 0 1 = cc in absurd (omega arith)
-
--- what a call that is admitted has shown
-pub record Admitted (memory journal used : ℕ) (early : Answer) : Type 0 where
-  pub size : memory ≡ 65536
-  pub space : used * recordLength + recordLength ≤ journal
-  pub on-time : early ≡ Done
-
-pub admitted-done : (memory journal used : ℕ) (early : Answer) → admitted memory journal used early ≡ Done → Admitted memory journal used early
-unfolding admitted
-admitted-done memory journal used early e =
-    let e1 = need-done (eqb memory 65536) MemoryLength _ e in
-    let e2 = need-done (leb (used * recordLength) journal) JournalLength _ (e1 .1) in
-    let e3 = unless-done early _ (e2 .1) in
-    let e4 = need-done (leb (used * recordLength + recordLength) journal) JournalFull Done (e3 .1) in
-    record { size = eqb-true memory 65536 (e1 .0); space = leb-true (used * recordLength + recordLength) journal (e4 .0); on-time = e3 .0 }
-
--- ---- a recorded call
+pub and-false : (a : Bool) → (a && false) ≡ false
+and-false true = refl
+and-false false = refl
 
 -- a refusal
 pub refused-leaves : (a : Answer) (s new : State) (ds : List Write) (x : Refusal) (r : Outcome) → a ≡ Refused x
     → r ≡ record { devices = writesOf []; twin = s .twin; answer = Refused x } → Leaves r (s .memory) (s .journal) (ending a s new ds)
 refused-leaves a s new ds x r e p = rw e (record { result = p; memory-is = refl; journal-is = refl })
 
--- the record, the writes and the count
-pub recorded-leaves : (t : Settings) (f : Plan) (s : State) (d : Writes) (mem j : List ℕ) → f .answer ≡ Done → d ≡ writesOf (reported (t .«ram_top») (listed (f .writes)))
-    → mem ≡ stored (t .«ram_top») (listed (f .writes)) (s .memory)
-    → j ≡ withRecord (s .twin .used) (encode (s .twin .machine) (savedFor (t .«ram_top») (listed (f .writes)) (s .memory))) (s .journal)
-    → Leaves (record { devices = d; twin = record { machine = f .machine; used = s .twin .used + 1 }; answer = f .answer }) mem j (concluded (f .answer) t f s)
-unfolding recorded
-recorded-leaves t f s d mem j e p q w = rw e (record { result = rw p; memory-is = q; journal-is = w })
+-- ---- before a recorded call
 
-module _ (early : Answer) (t : Settings) (f : Plan) (s : State) where
-  pub called-refused : (x : Refusal) (r : Outcome) → admitted (length (s .memory)) (length (s .journal)) (s .twin .used) early ≡ Refused x
-      → r ≡ record { devices = writesOf []; twin = s .twin; answer = Refused x } → Leaves r (s .memory) (s .journal) (called early t f s)
+module _ (memory journal records bytes : ℕ) where
+  pub short-memory : (memory ≡ 65536 → ⊥) → Refused MemoryLength ≡ admitted memory journal records bytes
+  unfolding admitted
+  short-memory h = rw (ne-eqb memory 65536 h)
+
+  module _ (size : memory ≡ 65536) where
+    pub short-journal : journal < bytes → Refused JournalLength ≡ admitted memory journal records bytes
+    unfolding admitted
+    short-journal h = rw (eq-eqb memory 65536 size, lt-leb bytes journal h)
+
+    module _ (within : bytes ≤ journal) where
+      pub most-counted : mostRecords ≤ records → Refused JournalLength ≡ admitted memory journal records bytes
+      unfolding admitted
+      most-counted h = rw (eq-eqb memory 65536 size, le-leb bytes journal within, le-ltb records mostRecords h)
+
+      pub admits-all : records < mostRecords → Done ≡ admitted memory journal records bytes
+      unfolding admitted
+      admits-all h = rw (eq-eqb memory 65536 size, le-leb bytes journal within, lt-ltb records mostRecords h)
+
+need-done : (b : Bool) (x : Refusal) (rest : Answer) → need b x rest ≡ Done → (b ≡ true) × (rest ≡ Done)
+need-done true x rest e = (refl, e)
+need-done false x rest e = let z : _≡_ {A = ℕ} 0 1 = cc in absurd (omega arith)
+
+unless-done : (a rest : Answer) → unless a rest ≡ Done → (a ≡ Done) × (rest ≡ Done)
+unless-done Done rest e = (refl, e)
+unless-done (Refused x) rest e = let z : _≡_ {A = ℕ} 0 1 = cc in absurd (omega arith)
+
+-- what a call that is admitted has shown
+pub record Admitted (memory journal records bytes : ℕ) : Type 0 where
+  pub size : memory ≡ 65536
+  pub within : bytes ≤ journal
+  pub counted : records < mostRecords
+
+pub admitted-done : (memory journal records bytes : ℕ) → admitted memory journal records bytes ≡ Done → Admitted memory journal records bytes
+unfolding admitted
+admitted-done memory journal records bytes e =
+    let e1 = need-done (eqb memory 65536) MemoryLength _ e in
+    let e2 = need-done (leb bytes journal) JournalLength _ (e1 .1) in
+    let e3 = need-done (ltb records mostRecords) JournalLength Done (e2 .1) in
+    record { size = eqb-true memory 65536 (e1 .0); within = leb-true bytes journal (e2 .0); counted = ltb-true records mostRecords (e3 .0) }
+
+-- ---- a recorded call
+
+module _ (t : Settings) (f : Plan) (s : State) where
+  -- the length of its record, from the count of its entries
+  pub record-size : (n size : ℕ) → n ≡ length (savedFor (t .«ram_top») (listed (f .writes)) (s .memory)) → size ≡ recordLength n → size ≡ length (recordFor t f s)
+  unfolding recordFor
+  record-size n size e q = q ∙ rw e (sym (length-encode (s .twin .machine) (savedFor (t .«ram_top») (listed (f .writes)) (s .memory))))
+
+  pub plan-refused : (x : Refusal) → f .answer ≡ Refused x → planAnswer t f s ≡ Refused x
+  plan-refused x e = ap (λ (a : Answer). unless a (need (leb (s .twin .bytes + length (recordFor t f s)) (length (s .journal))) JournalFull Done)) e
+
+  plan-by : {b : Bool} → f .answer ≡ Done → leb (s .twin .bytes + length (recordFor t f s)) (length (s .journal)) ≡ b → planAnswer t f s ≡ need b JournalFull Done
+  plan-by e q =
+      ap (λ (a : Answer). unless a (need (leb (s .twin .bytes + length (recordFor t f s)) (length (s .journal))) JournalFull Done)) e
+      ∙ ap (λ (c : Bool). need c JournalFull Done) q
+
+  pub plan-full : f .answer ≡ Done → length (s .journal) < s .twin .bytes + length (recordFor t f s) → planAnswer t f s ≡ Refused JournalFull
+  plan-full e h = plan-by e (lt-leb (s .twin .bytes + length (recordFor t f s)) (length (s .journal)) h)
+
+  pub plan-fits : f .answer ≡ Done → s .twin .bytes + length (recordFor t f s) ≤ length (s .journal) → planAnswer t f s ≡ Done
+  plan-fits e h = plan-by e (le-leb (s .twin .bytes + length (recordFor t f s)) (length (s .journal)) h)
+
+  -- the record, the writes and the counts
+  pub recorded-leaves : (d : Writes) (mem j : List ℕ) (size : ℕ) (a : Answer) → planAnswer t f s ≡ Done → a ≡ Done → size ≡ length (recordFor t f s)
+      → d ≡ writesOf (reported (t .«ram_top») (listed (f .writes))) → mem ≡ stored (t .«ram_top») (listed (f .writes)) (s .memory)
+      → j ≡ sets (s .journal) (s .twin .bytes) (recordFor t f s)
+      → Leaves (record { devices = d; twin = record { machine = f .machine; records = s .twin .records + 1; bytes = s .twin .bytes + size }; answer = a }) mem j (concluded (planAnswer t f s) t f s)
+  unfolding recorded
+  recorded-leaves d mem j size a e ea k p q w = rw (e, ea) (record { result = rw (p, k); memory-is = q; journal-is = w })
+
+  pub called-refused : (x : Refusal) (r : Outcome) → admitted (length (s .memory)) (length (s .journal)) (s .twin .records) (s .twin .bytes) ≡ Refused x
+      → r ≡ record { devices = writesOf []; twin = s .twin; answer = Refused x } → Leaves r (s .memory) (s .journal) (called t f s)
   unfolding called
-  called-refused x r e p = refused-leaves (callAnswer early f s) s (recorded t f s) (reported (t .«ram_top») (listed (f .writes))) x r (rw e) p
+  called-refused x r e p = refused-leaves (callAnswer t f s) s (recorded t f s) (reported (t .«ram_top») (listed (f .writes))) x r (rw e) p
 
-  pub called-done : (r : Outcome) (mem j : List ℕ) → admitted (length (s .memory)) (length (s .journal)) (s .twin .used) early ≡ Done
-      → Leaves r mem j (concluded (f .answer) t f s) → Leaves r mem j (called early t f s)
+  pub called-done : (r : Outcome) (mem j : List ℕ) → admitted (length (s .memory)) (length (s .journal)) (s .twin .records) (s .twin .bytes) ≡ Done
+      → Leaves r mem j (concluded (planAnswer t f s) t f s) → Leaves r mem j (called t f s)
   unfolding called
   called-done r mem j e h = rw e h
 
--- the unused rest with the record at its front, back in the journal
-pub placed : (u : ℕ) (r j last : List ℕ) → u * recordLength + recordLength ≤ length j → last ≡ r ++ drop recordLength (take (length j - u * recordLength) (drop (u * recordLength) j))
-    → length last ≡ length (take (length j - u * recordLength) (drop (u * recordLength) j))
-    → take (u * recordLength) j ++ (last ++ drop (length j - u * recordLength) (drop (u * recordLength) j)) ≡ withRecord u r j
-unfolding withRecord
-placed u r j last h e l =
-    let n : length (drop (u * recordLength) j) ≡ length j - u * recordLength = length-drop (u * recordLength) j in
-    let t : take (length j - u * recordLength) (drop (u * recordLength) j) ≡ drop (u * recordLength) j = take-all (length j - u * recordLength) (drop (u * recordLength) j) (omega arith) in
-    let e2 : last ≡ r ++ drop (u * recordLength + recordLength) j = e ∙ rw (t, drop-drop recordLength (u * recordLength) j) in
-    let l2 : length last ≡ length j - u * recordLength = l ∙ rw (t, n) in
-    let m : length r + (length j - (u * recordLength + recordLength)) ≡ length last = sym (ap length e2 ∙ simp (length-append, length-drop)) in
-    let w : length r ≡ recordLength = omega arith in
-    let z : drop (length j - u * recordLength) (drop (u * recordLength) j) ≡ [] = rw (← n) (drop-length (drop (u * recordLength) j)) in
-    rw (z, e2, append-nil, sets-eq r j (u * recordLength) (omega arith), w) (sym (append-assoc (take (u * recordLength) j) r (drop (u * recordLength + recordLength) j)))
+-- the call that the code's type names
+pub concluded-so : (which : CallType) (t : Settings) (s : State) (r : Outcome) (mem j : List ℕ)
+    → admitted (length (s .memory)) (length (s .journal)) (s .twin .records) (s .twin .bytes) ≡ Done
+    → Leaves r mem j (concluded (planAnswer t (planOf (callOf which t) (s .memory) (s .twin .machine)) s) t (planOf (callOf which t) (s .memory) (s .twin .machine)) s)
+    → Leaves r mem j (call (callOf which t) s)
+concluded-so Step t s r mem j e h = called-done t (planOf (step t) (s .memory) (s .twin .machine)) s r mem j e h
+concluded-so (Interrupt i) t s r mem j e h = called-done t (planOf (interrupt t i) (s .memory) (s .twin .machine)) s r mem j e h
+concluded-so Reset t s r mem j e h = called-done t (planOf (reset t) (s .memory) (s .twin .machine)) s r mem j e h
+
+-- what an accepted call has shown
+pub record Taken (t : Settings) (f : Plan) (s : State) : Type 0 where
+  pub before : Admitted (length (s .memory)) (length (s .journal)) (s .twin .records) (s .twin .bytes)
+  pub own : f .answer ≡ Done
+  pub space : s .twin .bytes + length (recordFor t f s) ≤ length (s .journal)
+
+pub call-taken : (t : Settings) (f : Plan) (s : State) → callAnswer t f s ≡ Done → Taken t f s
+call-taken t f s e =
+    let e1 = unless-done (admitted (length (s .memory)) (length (s .journal)) (s .twin .records) (s .twin .bytes)) _ e in
+    let e2 = unless-done (f .answer) _ (e1 .1) in
+    let e3 = need-done (leb (s .twin .bytes + length (recordFor t f s)) (length (s .journal))) JournalFull Done (e2 .1) in
+    record {
+      before = admitted-done (length (s .memory)) (length (s .journal)) (s .twin .records) (s .twin .bytes) (e1 .0);
+      own = e2 .0;
+      space = leb-true (s .twin .bytes + length (recordFor t f s)) (length (s .journal)) (e3 .0);
+    }
+
+-- ---- bytes that are a record, or none
+
+pub many-entries : (r : List ℕ) → mostStored < countOf r → false ≡ isRecord r
+unfolding isRecord
+many-entries r h = rw (lt-leb (countOf r) mostStored h)
+
+pub few-entries : (r : List ℕ) (n : ℕ) → countOf r ≤ mostStored → n ≡ recordLength (countOf r) → (eqb (length r) n && (leb (waitAt r) 2 && leb (markAt r) 1)) ≡ isRecord r
+unfolding isRecord
+few-entries r n h e = rw (le-leb (countOf r) mostStored h, e)
 
 -- ---- the newest record
 
@@ -124,85 +172,140 @@ further b n = (b .0, n + b .1)
 not-further : (b : ℕ × ℕ) → further b 0 ≡ b
 not-further b = ap (λ (n : ℕ). (b .0, n)) (zero-add (b .1))
 
--- its bytes, and where it begins in the journal, which begins at b
-module _ (j : List ℕ) (used : ℕ) (b : ℕ × ℕ) where
-  pub none-used : used ≡ 0 → ([] ≡ newestOf j used) × (b ≡ further b (newestFrom j used))
-  unfolding newestOf newestFrom
-  none-used h = rw (le-ltb 0 used (omega arith)) (refl, sym (not-further b))
+module _ (j : List ℕ) (bytes : ℕ) where
+  pub no-bytes : bytes ≡ 0 → soundAt j bytes ≡ false
+  unfolding soundAt
+  no-bytes h = rw (le-ltb 0 bytes (omega arith))
 
-  module _ (some : used ≡ 0 → ⊥) where
-    pub beyond : length j / recordLength < used → ([] ≡ newestOf j used) × (b ≡ further b (newestFrom j used))
+  pub last-low : lastByte j bytes < recordLength 0 → soundAt j bytes ≡ false
+  unfolding soundAt
+  last-low h = rw (lt-leb (recordLength 0) (lastByte j bytes) h) (simp and-false)
+
+  pub last-high : bytes < lastByte j bytes → soundAt j bytes ≡ false
+  unfolding soundAt
+  last-high h = rw (lt-leb (lastByte j bytes) bytes h) (simp and-false)
+
+  pub no-record : isRecord (newestAt j bytes) ≡ false → soundAt j bytes ≡ false
+  unfolding soundAt
+  no-record h = rw h (simp and-false)
+
+  pub is-sound : 0 < bytes → recordLength 0 ≤ lastByte j bytes → lastByte j bytes ≤ bytes → isRecord (newestAt j bytes) ≡ true → soundAt j bytes ≡ true
+  unfolding soundAt
+  is-sound a b d e = rw (lt-ltb 0 bytes a, le-leb (recordLength 0) (lastByte j bytes) b, le-leb (lastByte j bytes) bytes d, e)
+
+  -- the part from there to the end of the bytes used
+  pub part-is : lastByte j bytes ≤ bytes → take (bytes - (bytes - lastByte j bytes)) (drop (bytes - lastByte j bytes) j) ≡ newestAt j bytes
+  unfolding newestAt
+  part-is h =
+      let e : bytes - (bytes - lastByte j bytes) ≡ lastByte j bytes = omega arith in
+      ap (λ (n : ℕ). take n (drop (bytes - lastByte j bytes) j)) e
+
+  pub part-length : bytes ≤ length j → lastByte j bytes ≤ bytes → length (newestAt j bytes) ≡ lastByte j bytes
+  unfolding newestAt
+  part-length f h =
+      let d = length-drop (bytes - lastByte j bytes) j in
+      length-take-le (lastByte j bytes) (drop (bytes - lastByte j bytes) j) (omega arith)
+
+  -- its bytes, and where it begins in the journal, which begins at b
+  module _ (records : ℕ) (b : ℕ × ℕ) where
+    pub view-12 : length j < bytes → ([] ≡ newestOf j records bytes) × (b ≡ further b (newestFrom j records bytes))
     unfolding newestOf newestFrom
-    beyond h = rw (lt-ltb 0 used (omega arith), lt-leb (used * recordLength) (length j) (omega arith)) (refl, sym (not-further b))
+    view-12 h = rw (lt-leb bytes (length j) h) (refl, sym (not-further b))
 
-    pub whole : used ≤ length j / recordLength
-        → (take ((used - 1) * recordLength + recordLength - (used - 1) * recordLength) (drop ((used - 1) * recordLength) j) ≡ newestOf j used) × (further b ((used - 1) * recordLength) ≡ further b (newestFrom j used))
-    unfolding newestOf newestFrom recordAt
-    whole h =
-        let e : (used - 1) * recordLength + recordLength - (used - 1) * recordLength ≡ recordLength = omega arith in
-        rw (lt-ltb 0 used (omega arith), le-leb (used * recordLength) (length j) (omega arith), e) (refl, refl)
+    pub view-11 : records ≡ 0 → ([] ≡ newestOf j records bytes) × (b ≡ further b (newestFrom j records bytes))
+    unfolding newestOf newestFrom
+    view-11 h = rw (le-ltb 0 records (omega arith)) (simp and-false (refl, sym (not-further b)))
+
+    pub view-unsound : soundAt j bytes ≡ false → ([] ≡ newestOf j records bytes) × (b ≡ further b (newestFrom j records bytes))
+    unfolding newestOf newestFrom
+    view-unsound h = rw h (simp and-false (refl, sym (not-further b)))
+
+    pub view-sound : bytes ≤ length j → 0 < records → soundAt j bytes ≡ true
+        → (newestAt j bytes ≡ newestOf j records bytes) × (further b (bytes - lastByte j bytes) ≡ further b (newestFrom j records bytes))
+    unfolding newestOf newestFrom
+    view-sound f r s = rw (le-leb bytes (length j) f, lt-ltb 0 records r, s) (refl, refl)
 
 -- ---- undo
 
--- the part of the journal that the code lends
-pub newest-part : (s : State) → newestIn s ≡ take ((s .twin .used - 1) * recordLength + recordLength - (s .twin .used - 1) * recordLength) (drop ((s .twin .used - 1) * recordLength) (s .journal))
-unfolding recordAt
-newest-part s =
-    let e : (s .twin .used - 1) * recordLength + recordLength - (s .twin .used - 1) * recordLength ≡ recordLength = omega arith in
-    rw e
+-- what a newest record that is no empty part shows
+pub record Newest (j : List ℕ) (bytes : ℕ) (r : List ℕ) : Type 0 where
+  pub is : r ≡ newestAt j bytes
+  pub sound : soundAt j bytes ≡ true
+  pub few : countOf r ≤ mostStored
+  pub long : length r ≡ recordLength (countOf r)
+  pub size : length r ≡ lastByte j bytes
+  pub within-used : length r ≤ bytes
 
-pub undo-refused : (s : State) (x : Refusal) (r : Outcome) → undoAnswer s ≡ Refused x
-    → r ≡ record { devices = writesOf []; twin = s .twin; answer = Refused x } → Leaves r (s .memory) (s .journal) (undone s)
-unfolding undone
-undo-refused s x r e p = refused-leaves (undoAnswer s) s (restored s) [] x r e p
+module _ (j : List ℕ) (bytes : ℕ) (fits : bytes ≤ length j) where
+  pub sound-newest : soundAt j bytes ≡ true → Newest j bytes (newestAt j bytes)
+  unfolding soundAt isRecord
+  sound-newest e =
+      let n : ℕ = lastByte j bytes in
+      let r : List ℕ = newestAt j bytes in
+      let e1 = and-true (ltb 0 bytes) _ e in
+      let e2 = and-true (leb (recordLength 0) n) _ (e1 .1) in
+      let e3 = and-true (leb n bytes) _ (e2 .1) in
+      let e4 = and-true (leb (countOf r) mostStored) _ (e3 .1) in
+      let e5 = and-true (eqb (length r) (recordLength (countOf r))) _ (e4 .1) in
+      let b : n ≤ bytes = leb-true n bytes (e3 .0) in
+      let l : length r ≡ n = part-length j bytes fits b in
+      record { is = refl; sound = e; few = leb-true (countOf r) mostStored (e4 .0); long = eqb-true (length r) (recordLength (countOf r)) (e5 .0); size = l; within-used = omega arith }
 
-pub undo-done : (s : State) (m : Machine) (mem : List ℕ) (d : Writes) → undoAnswer s ≡ Done → m ≡ machineOf (newestIn s)
-    → mem ≡ putBack (s .memory) (readEntries (countOf (newestIn s)) (drop entriesAt (newestIn s))) → d ≡ writesOf []
-    → Leaves (record { devices = d; twin = record { machine = m; used = s .twin .used - 1 }; answer = Done }) mem (s .journal) (undone s)
-unfolding undone restored entriesOf
-undo-done s m mem d e p q t = rw e (record { result = rw (p, t); memory-is = q; journal-is = refl })
+  newest-by : (b : Bool) → soundAt j bytes ≡ b → (r : List ℕ) → r ≡ cond b (newestAt j bytes) [] → 0 < length r → Newest j bytes r
+  newest-by true e r q h = rw q (sound-newest e)
+  newest-by false e r q h = let z : length r ≡ 0 = ap length q in absurd (omega arith)
+
+  unsound-by : (b : Bool) → soundAt j bytes ≡ b → (r : List ℕ) → r ≡ cond b (newestAt j bytes) [] → length r ≡ 0 → soundAt j bytes ≡ false
+  unsound-by true e r q h =
+      let n = sound-newest e in
+      let l : length (newestAt j bytes) ≡ 0 = sym (ap length q) ∙ h in
+      absurd (omega (arith, n .long))
+  unsound-by false e r q h = e
+
+  module _ (records : ℕ) (held : 0 < records) (r : List ℕ) (q : r ≡ newestOf j records bytes) where
+    plain : r ≡ cond (soundAt j bytes) (newestAt j bytes) []
+    unfolding newestOf
+    plain = q ∙ rw (le-leb bytes (length j) fits, lt-ltb 0 records held)
+
+    pub newest-some : 0 < length r → Newest j bytes r
+    newest-some h = newest-by (soundAt j bytes) refl r plain h
+
+    pub newest-none : length r ≡ 0 → soundAt j bytes ≡ false
+    newest-none h = unsound-by (soundAt j bytes) refl r plain h
 
 module _ (s : State) where
+  pub undo-refused : (x : Refusal) (r : Outcome) → undoAnswer s ≡ Refused x
+      → r ≡ record { devices = writesOf []; twin = s .twin; answer = Refused x } → Leaves r (s .memory) (s .journal) (undone s)
+  unfolding undone
+  undo-refused x r e p = refused-leaves (undoAnswer s) s (restored s) [] x r e p
+
   pub undo-1 : (length (s .memory) ≡ 65536 → ⊥) → undoAnswer s ≡ Refused MemoryLength
   unfolding undoAnswer
   undo-1 h = rw (ne-eqb (length (s .memory)) 65536 h)
 
   module _ (size : length (s .memory) ≡ 65536) where
-    pub undo-12 : length (s .journal) / recordLength < s .twin .used → undoAnswer s ≡ Refused JournalLength
+    pub undo-12 : length (s .journal) < s .twin .bytes → undoAnswer s ≡ Refused JournalLength
     unfolding undoAnswer
-    undo-12 h = rw (eq-eqb (length (s .memory)) 65536 size, lt-leb (s .twin .used * recordLength) (length (s .journal)) (omega arith))
+    undo-12 h = rw (eq-eqb (length (s .memory)) 65536 size, lt-leb (s .twin .bytes) (length (s .journal)) h)
 
-    module _ (within : s .twin .used ≤ length (s .journal) / recordLength) where
-      pub undo-11 : s .twin .used ≡ 0 → undoAnswer s ≡ Refused NoRecord
+    module _ (fits : s .twin .bytes ≤ length (s .journal)) where
+      pub undo-11 : s .twin .records ≡ 0 → undoAnswer s ≡ Refused NoRecord
       unfolding undoAnswer
-      undo-11 h = rw (eq-eqb (length (s .memory)) 65536 size, le-leb (s .twin .used * recordLength) (length (s .journal)) (omega arith), le-ltb 0 (s .twin .used) (omega arith))
+      undo-11 h = rw (eq-eqb (length (s .memory)) 65536 size, le-leb (s .twin .bytes) (length (s .journal)) fits, le-ltb 0 (s .twin .records) (omega arith))
 
-      module _ (some : s .twin .used ≡ 0 → ⊥) where
-        pub undo-wait : 2 < waitAt (newestIn s) → undoAnswer s ≡ Refused JournalLength
+      module _ (held : 0 < s .twin .records) where
+        pub undo-record : soundAt (s .journal) (s .twin .bytes) ≡ false → undoAnswer s ≡ Refused JournalLength
         unfolding undoAnswer
-        undo-wait h = rw (
-          eq-eqb (length (s .memory)) 65536 size,
-          le-leb (s .twin .used * recordLength) (length (s .journal)) (omega arith),
-          lt-ltb 0 (s .twin .used) (omega arith),
-          lt-leb (waitAt (newestIn s)) 2 h,
-        )
+        undo-record h = rw (eq-eqb (length (s .memory)) 65536 size, le-leb (s .twin .bytes) (length (s .journal)) fits, lt-ltb 0 (s .twin .records) held, h)
 
-        pub undo-count : waitAt (newestIn s) ≤ 2 → mostStored < countOf (newestIn s) → undoAnswer s ≡ Refused JournalLength
+        pub undo-0 : soundAt (s .journal) (s .twin .bytes) ≡ true → undoAnswer s ≡ Done
         unfolding undoAnswer
-        undo-count w h = rw (
-          eq-eqb (length (s .memory)) 65536 size,
-          le-leb (s .twin .used * recordLength) (length (s .journal)) (omega arith),
-          lt-ltb 0 (s .twin .used) (omega arith),
-          le-leb (waitAt (newestIn s)) 2 w,
-          lt-leb (countOf (newestIn s)) mostStored h,
-        )
+        undo-0 h = rw (eq-eqb (length (s .memory)) 65536 size, le-leb (s .twin .bytes) (length (s .journal)) fits, lt-ltb 0 (s .twin .records) held, h)
 
-        pub undo-0 : waitAt (newestIn s) ≤ 2 → countOf (newestIn s) ≤ mostStored → undoAnswer s ≡ Done
-        unfolding undoAnswer
-        undo-0 w h = rw (
-          eq-eqb (length (s .memory)) 65536 size,
-          le-leb (s .twin .used * recordLength) (length (s .journal)) (omega arith),
-          lt-ltb 0 (s .twin .used) (omega arith),
-          le-leb (waitAt (newestIn s)) 2 w,
-          le-leb (countOf (newestIn s)) mostStored h,
-        )
+        pub undo-done : (r after : List ℕ) (m : Machine) (d : Writes) → Newest (s .journal) (s .twin .bytes) r → m ≡ machineOf r
+            → after ≡ putBack (s .memory) (readEntries (countOf r) (drop entriesAt r)) → d ≡ writesOf []
+            → Leaves (record { devices = d; twin = record { machine = m; records = s .twin .records - 1; bytes = s .twin .bytes - length r }; answer = Done }) after (s .journal) (undone s)
+        unfolding undone restored entriesOf
+        undo-done r after m d n p q w =
+            rw (undo-0 (n .sound), ← (n .is), p, q, w)
+            (record { result = refl; memory-is = refl; journal-is = refl })

@@ -1,13 +1,13 @@
--- The record as it is written: one part after the other, then the entries over the zeros, then the count.
+-- The record as it is written, one part after the other, and the unused rest of the journal with it.
 -- Assumes nothing.
 use mathlib.Core.Path.{_≡_, refl, sym, ap, _∙_}
 use mathlib.Core.List.{List, [], _∷_, _++_, append-assoc, append-nil}
-use Prim.Native.Nat.{ℕ, zero, suc, _+_, _-_, _*_, _/_, _%_, _≤_, _<_}
-use native.Mathlib.Nat.{sub-zero}
+use Prim.Native.Nat.{ℕ, zero, suc, _+_, _-_, _*_, _≤_, _<_}
+use native.Mathlib.Nat.{zero-add}
 use native.Mathlib.Numerals.{add-one}
 use native.Mathlib.Omega.{arith}
-use lib.ListN.{length, getD, take, drop, set, replicate, length-append}
-use lib.Seq.{sets, sets-eq, take-suc, drop-drop, length-take-le}
+use lib.ListN.{length, getD, take, drop, set, length-append, length-drop, take-append-drop}
+use lib.Seq.{sets, sets-eq, take-suc, take-all, drop-drop, drop-length, length-take-le}
 use Rattle.memory.specs.Map.{landingOf}
 use Rattle.memory.specs.declared.Landing.{Landing}
 use Rattle.memory.specs.declared.Landing.the-variants.{Stored, Device, Ignored}
@@ -17,6 +17,7 @@ use Rattle.machine.specs.Record.{Cycles, Instructions, bytes, front, counter, o
 use Rattle.machine.proofs.Header.{header-in-parts, length-front, length-counter, length-header}
 use Rattle.journal.specs.Record.{Saved, recordLength, entries, encode, mostStored, entryLength, countAt, entriesAt}
 use Rattle.journal.specs.Recorded.{savedAt, savedFor}
+use Rattle.journal.proofs.Reading.{length-entries, length-encode}
 
 -- ---- parts
 
@@ -25,53 +26,67 @@ sets-more : (d p q : List ℕ) (k n : ℕ) → k + length p ≡ n → sets (sets
 sets-more d [] q k n e = let f : n ≡ k = omega arith in rw f
 sets-more d (v ∷ p) q k n e = sets-more (set d k v) p q (suc k) n (omega arith)
 
--- ---- the header, and zeros after it
-
-pub header-laid : (m : Machine) (d : List ℕ) → recordLength ≤ length d
-    → let z : List ℕ = replicate (recordLength - headerLength) 0 in
-    sets (sets (sets (sets d 0 (front m)) (offset Cycles) (counter (m .cycles))) (offset Instructions) (counter (m .instructions))) headerLength z
-    ≡ header m ++ (z ++ drop recordLength d)
-header-laid m d h =
-    let l = length-header m in
+pub header-laid : (m : Machine) (d : List ℕ)
+    → sets (sets (sets d 0 (front m)) (offset Cycles) (counter (m .cycles))) (offset Instructions) (counter (m .instructions)) ≡ sets d 0 (header m)
+header-laid m d =
     let lf = length-front m in
     let lc = length-counter (m .cycles) in
     let la = length-append (front m) (counter (m .cycles)) in
-    let z : List ℕ = replicate (recordLength - headerLength) 0 in
-    let w : length (header m ++ z) ≡ recordLength = simp length-append (omega (arith, l)) in
     rw (
       sets-more d (front m) (counter (m .cycles)) 0 (offset Cycles) (omega arith),
       sets-more d (front m ++ counter (m .cycles)) (counter (m .instructions)) 0 (offset Instructions) (omega arith),
       header-in-parts m,
-      sets-more d (header m) z 0 headerLength (omega (arith, l)),
     )
-    (sets-eq (header m ++ z) d 0 (omega arith) ∙ rw w (append-assoc (header m) z (drop recordLength d)))
 
 -- ---- the entries
-
-pub length-entries : (es : List Saved) → length (entries es) ≡ entryLength * length es
-unfolding entries bytes
-length-entries [] = refl
-length-entries (e ∷ es) = omega (arith, length-entries es)
 
 entries-append : (es fs : List Saved) → entries (es ++ fs) ≡ entries es ++ entries fs
 unfolding entries bytes
 entries-append [] fs = refl
 entries-append (e ∷ es) fs = rw (entries-append es fs)
 
-saved-more : (top : ℕ) (ws : List Write) (w : Write) (mem : List ℕ) → savedFor top (ws ++ (w ∷ [])) mem ≡ savedFor top ws mem ++ savedAt mem (landingOf (w .at) top (w .system))
+saved-append : (top : ℕ) (ws vs : List Write) (mem : List ℕ) → savedFor top (ws ++ vs) mem ≡ savedFor top ws mem ++ savedFor top vs mem
 unfolding savedFor
-saved-more top [] w mem = append-nil (savedAt mem (landingOf (w .at) top (w .system)))
-saved-more top (v ∷ ws) w mem =
-    rw (saved-more top ws w mem) (sym (append-assoc (savedAt mem (landingOf (v .at) top (v .system))) (savedFor top ws mem) (savedAt mem (landingOf (w .at) top (w .system)))))
+saved-append top [] vs mem = refl
+saved-append top (w ∷ ws) vs mem =
+    rw (saved-append top ws vs mem) (sym (append-assoc (savedAt mem (landingOf (w .at) top (w .system))) (savedFor top ws mem) (savedFor top vs mem)))
 
--- a turn of the loop: the entry of the write at i, after those of the first i
+saved-one : (top : ℕ) (w : Write) (mem : List ℕ) → savedFor top (w ∷ []) mem ≡ savedAt mem (landingOf (w .at) top (w .system))
+unfolding savedFor
+saved-one top w mem = append-nil (savedAt mem (landingOf (w .at) top (w .system)))
+
+-- the first i writes have no more entries than those that count
+pub saved-some : (top : ℕ) (list : List Write) (i count : ℕ) (mem : List ℕ) → i ≤ count
+    → length (savedFor top (take i list) mem) ≤ length (savedFor top (take count list) mem)
+saved-some top list i count mem h =
+    let e : take i (take count list) ++ drop i (take count list) ≡ take count list = take-append-drop i (take count list) in
+    let f : take i (take count list) ≡ take i list = first i count list h in
+    let g : length (savedFor top (take count list) mem) ≡ length (savedFor top (take i list) mem) + length (savedFor top (drop i (take count list)) mem) =
+    ap (λ (l : List Write). length (savedFor top l mem)) (sym e)
+    ∙ ap length (saved-append top (take i (take count list)) (drop i (take count list)) mem)
+    ∙ length-append (savedFor top (take i (take count list)) mem) (savedFor top (drop i (take count list)) mem)
+    ∙ ap (λ (l : List Write). length (savedFor top l mem) + length (savedFor top (drop i (take count list)) mem)) f in
+    omega arith
+  where
+    first : (i count : ℕ) (list : List Write) → i ≤ count → take i (take count list) ≡ take i list
+    first zero count list h = refl
+    first (suc i) zero list h = absurd (omega arith)
+    first (suc i) (suc count) [] h = refl
+    first (suc i) (suc count) (w ∷ ws) h = ap (λ (l : List Write). w ∷ l) (first i count ws (omega arith))
+
+-- a turn of a loop: the entry of the write at i, after those of the first i
 module _ (top : ℕ) (list : List Write) (i : ℕ) (none : Write) (full : length list ≡ mostStored) (h : i < mostStored) (mem : List ℕ) where
   saved-next : savedFor top (take (i + 1) list) mem ≡ savedFor top (take i list) mem ++ savedAt mem (landingOf (getD list i none .at) top (getD list i none .system))
-  saved-next = rw (add-one, take-suc list i none (omega arith)) (saved-more top (take i list) (getD list i none) mem)
+  saved-next =
+      rw (add-one, take-suc list i none (omega arith), saved-append top (take i list) (getD list i none ∷ []) mem, saved-one top (getD list i none) mem)
 
   pub turn-count : (n : ℕ) → n ≡ length (savedFor top (take i list) mem)
       → n + length (savedAt mem (landingOf (getD list i none .at) top (getD list i none .system))) ≡ length (savedFor top (take (i + 1) list) mem)
   turn-count n e = rw (saved-next, length-append, e)
+
+  pub save-fits : (n count size : ℕ) → n ≡ length (savedFor top (take i list) mem) → i + 1 ≤ count → entriesAt + length (savedFor top (take count list) mem) * entryLength ≤ size
+      → entriesAt + (n + length (savedAt mem (landingOf (getD list i none .at) top (getD list i none .system)))) * entryLength ≤ size
+  save-fits n count size e k l = omega (arith, turn-count n e, saved-some top list (i + 1) count mem k)
 
   pub turn-laid : (n : ℕ) (d : List ℕ) → n ≡ length (savedFor top (take i list) mem)
       → sets (sets d entriesAt (entries (savedFor top (take i list) mem))) (entriesAt + n * entryLength) (entries (savedAt mem (landingOf (getD list i none .at) top (getD list i none .system))))
@@ -95,22 +110,33 @@ saved-few top (w ∷ ws) mem = simp length-append (omega (arith, saved-few top w
 pub saved-twelve : (top : ℕ) (list : List Write) (i : ℕ) (mem : List ℕ) → length list ≡ mostStored → i ≤ mostStored → length (savedFor top (take i list) mem) ≤ i
 saved-twelve top list i mem full h = omega (arith, saved-few top (take i list) mem, length-take-le i list (omega arith))
 
--- ---- the count
+-- ---- the whole record: header, count, entries, length
 
-zeros-left : (k m : ℕ) (d : List ℕ) → k ≤ m → drop k (replicate m 0 ++ d) ≡ replicate (m - k) 0 ++ d
-zeros-left zero m d h = rw sub-zero
-zeros-left (suc k) zero d h = absurd (omega arith)
-zeros-left (suc k) (suc m) d h =
-    let e : suc m - suc k ≡ m - k = omega arith in
-    rw e (zeros-left k m d (omega arith))
-
-pub record-laid : (m : Machine) (es : List Saved) (d : List ℕ) (n : ℕ) → n ≡ length es → n ≤ mostStored
-    → set (sets (header m ++ (replicate (recordLength - headerLength) 0 ++ d)) entriesAt (entries es)) countAt n ≡ encode m es ++ d
-unfolding encode header bytes
+pub record-laid : (m : Machine) (es : List Saved) (d : List ℕ) (n : ℕ) → n ≡ length es → recordLength n ≤ length d
+    → set (sets (set (sets d 0 (header m)) countAt n) entriesAt (entries es)) (entriesAt + n * entryLength) (recordLength n) ≡ encode m es ++ drop (recordLength n) d
+unfolding encode
 record-laid m es d n e h =
-    let k : length (entries es) ≡ entryLength * length es = length-entries es in
-    let x : drop (entriesAt + length (entries es)) (header m ++ (replicate (recordLength - headerLength) 0 ++ d)) ≡ replicate ((mostStored * entryLength) - entryLength * length es) 0 ++ d =
-    sym (drop-drop (length (entries es)) entriesAt (header m ++ (replicate (recordLength - headerLength) 0 ++ d))) ∙ rw k (zeros-left (entryLength * length es) (mostStored * entryLength) d (omega arith)) in
-    ap (λ (l : List ℕ). set l countAt n) (sets-eq (entries es) (header m ++ (replicate (recordLength - headerLength) 0 ++ d)) entriesAt (omega arith))
-    ∙ ap (λ (l : List ℕ). set (take entriesAt (header m ++ (replicate (recordLength - headerLength) 0 ++ d)) ++ entries es ++ l) countAt n) x
-    ∙ rw (e, append-assoc (entries es) (replicate ((mostStored * entryLength) - entryLength * length es) 0) d)
+    let a = length-header m in
+    let b = length-append (header m) (n ∷ []) in
+    let c = length-entries es in
+    let f = length-append (header m ++ (n ∷ [])) (entries es) in
+    let at : ℕ = entriesAt + n * entryLength in
+    let z : recordLength n ≡ recordLength (length es) = ap recordLength e in
+    let l : length (encode m es) ≡ recordLength n = length-encode m es ∙ sym z in
+    ap (λ (x : List ℕ). set (sets x entriesAt (entries es)) at (recordLength n)) (sets-more d (header m) (n ∷ []) 0 countAt (omega arith))
+    ∙ ap (λ (x : List ℕ). set x at (recordLength n)) (sets-more d (header m ++ (n ∷ [])) (entries es) 0 entriesAt (omega arith))
+    ∙ sets-more d ((header m ++ (n ∷ [])) ++ entries es) (recordLength n ∷ []) 0 at (omega arith)
+    ∙ ap (sets d 0) (append-assoc (header m ++ (n ∷ [])) (entries es) (recordLength n ∷ []) ∙ append-assoc (header m) (n ∷ []) (entries es ++ (recordLength n ∷ [])))
+    ∙ ap (λ (x : ℕ). sets d 0 (header m ++ (x ∷ (entries es ++ (recordLength n ∷ []))))) e
+    ∙ ap (λ (x : ℕ). sets d 0 (header m ++ (length es ∷ (entries es ++ (x ∷ []))))) z
+    ∙ rw (zero-add, l) at (sets-eq (encode m es) d 0 (omega arith))
+
+-- the unused rest with the record at its front, back in the journal
+pub placed : (u size : ℕ) (r j last : List ℕ) → size ≡ length r → u + size ≤ length j → last ≡ r ++ drop size (take (length j - u) (drop u j))
+    → take u j ++ (last ++ drop (length j - u) (drop u j)) ≡ sets j u r
+placed u size r j last q h e =
+    let n : length (drop u j) ≡ length j - u = length-drop u j in
+    let t : take (length j - u) (drop u j) ≡ drop u j = take-all (length j - u) (drop u j) (omega arith) in
+    let e2 : last ≡ r ++ drop (u + length r) j = e ∙ rw (t, q, drop-drop (length r) u j) in
+    let z : drop (length j - u) (drop u j) ≡ [] = rw (← n) (drop-length (drop u j)) in
+    rw (z, e2, append-nil, sets-eq r j u (omega arith)) (sym (append-assoc (take u j) r (drop (u + length r) j)))

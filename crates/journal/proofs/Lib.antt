@@ -1,10 +1,7 @@
+pub mod Reading
 pub mod Laying
 pub mod Parts
 pub mod Answers
-pub mod Reading
-pub mod Stores
-pub mod Chain
-pub mod Theorem
-pub mod Unique
+pub mod Walking
 pub mod Typed
-pub mod History
+pub mod Unique

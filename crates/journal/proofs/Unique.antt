@@ -1,7 +1,7 @@
 -- No second answer, and no second memory or journal, fits a public function's contract.
 -- Assumes nothing.
 use mathlib.Core.Path.{_≡_, refl, sym, ap, _∙_}
-use mathlib.Core.List.{List}
+use mathlib.Core.List.{List, []}
 use Prim.Native.Nat.{ℕ}
 use contract.Lifetimes.{Lfts}
 use denote.Ref.{now}
@@ -10,12 +10,17 @@ use borrow.Fn.Kinds.{Dens, resT, endedOf}
 use Rattle.answers.proofs.Determined.{Determines}
 use Rattle.journal.proofs.recorded
 use Rattle.journal.proofs.undos
+use Rattle.journal.proofs.drops
 use Rattle.journal.proofs.Twin
 
 -- the result, and memory and journal at exit
 pub step : Determines 2 recorded.step.Kinds.ps recorded.step.Kinds.r recorded.step.Reads.Post
 step κs a x y ws vs p q =
     (p .0 .result ∙ sym (q .0 .result), λ i. ((p .0 .memory-is ∙ sym (q .0 .memory-is)) i, ((p .0 .journal-is ∙ sym (q .0 .journal-is)) i, (tt, (tt, tt)))))
+
+pub call : Determines 2 recorded.call.Kinds.ps recorded.call.Kinds.r recorded.call.Reads.Post
+call κs a x y ws vs p q =
+    (p .0 .result ∙ sym (q .0 .result), λ i. ((p .0 .memory-is ∙ sym (q .0 .memory-is)) i, ((p .0 .journal-is ∙ sym (q .0 .journal-is)) i, (tt, (tt, (tt, tt))))))
 
 pub interrupt : Determines 2 recorded.interrupt.Kinds.ps recorded.interrupt.Kinds.r recorded.interrupt.Reads.Post
 interrupt κs a x y ws vs p q =
@@ -28,6 +33,10 @@ reset κs a x y ws vs p q =
 -- the journal is lent to be read only
 pub undo : Determines 2 undos.undo.Kinds.ps undos.undo.Kinds.r undos.undo.Reads.Post
 undo κs a x y ws vs p q = (p .0 .result ∙ sym (q .0 .result), ap (λ (l : List ℕ). (l, (tt, (tt, tt)))) (p .0 .memory-is ∙ sym (q .0 .memory-is)))
+
+-- no memory is lent
+pub drop : Determines 1 drops.drop.Kinds.ps drops.drop.Kinds.r drops.drop.Reads.Post
+drop κs a x y ws vs p q = (p [] .result ∙ sym (q [] .result), ap (λ (l : List ℕ). (l, (tt, (tt, tt)))) (p [] .journal-is ∙ sym (q [] .journal-is)))
 
 -- a returned part is its bytes and its place: no two that differ in either fit
 pub newest : (κs : Lfts 1) (a : Dens κs undos.newest.Kinds.ps) (x y : resT undos.newest.Kinds.r κs .Denot)

@@ -1,45 +1,43 @@
--- The recorded calls (document 01, sections "Journal" and "Numbers returned").
+-- The recorded calls (document 01, sections "Journal" and "Numbers returned"; document 02, [9]).
 -- Assumes nothing.
-use Prim.Native.Nat.{ℕ, _+_, _-_, _*_}
-use mathlib.Core.Bool.{Bool, true, false, cond, _&&_}
+use Prim.Native.Nat.{ℕ, _+_, _-_, _^_}
+use mathlib.Core.Bool.{Bool, true, false}
 use mathlib.Core.List.{List, [], _∷_, _++_}
 use mathlib.Core.Path.{_≡_}
 use lib.Dec.{leb, ltb, eqb}
-use lib.ListN.{length, getD, take, drop, set}
+use lib.ListN.{length, getD}
 use lib.Seq.{sets}
+use Rattle.answers.specs.declared.Answer.{Answer}
+use Rattle.answers.specs.declared.Answer.the-variants.{Done, Refused}
+use Rattle.answers.specs.declared.Refusal.{Refusal}
+use Rattle.answers.specs.declared.Refusal.the-variants.{MemoryLength, JournalFull, JournalLength}
 use Rattle.memory.specs.Fits.{Bytes}
 use Rattle.memory.specs.Map.{landingOf}
 use Rattle.memory.specs.Writes.{writesOf, listed, stored, reported}
-use Rattle.answers.specs.declared.Answer.{Answer}
-use Rattle.answers.specs.declared.Answer.the-variants.{Done, Refused}
 use Rattle.memory.specs.declared.Landing.{Landing}
 use Rattle.memory.specs.declared.Landing.the-variants.{Stored, Device, Ignored}
-use Rattle.answers.specs.declared.Refusal.{Refusal}
-use Rattle.answers.specs.declared.Refusal.the-variants.{MemoryLength, Waiting, JournalFull, NoRecord, JournalLength}
 use Rattle.memory.specs.declared.writes.Write.{Write}
 use Rattle.memory.specs.declared.writes.Writes.{Writes}
-use Rattle.machine.specs.declared.Wait.{Wait}
-use Rattle.machine.specs.declared.Wait.the-variants.{Running, Cwai, Sync}
-use Rattle.calls.specs.Steps.{stepPlan}
-use Rattle.calls.specs.declared.Plan.{Plan}
-use Rattle.machine.specs.declared.Settings.{Settings}
-use Rattle.calls.specs.Interrupts.{interruptPlan}
-use Rattle.calls.specs.Resets.{resetPlan}
-use Rattle.calls.specs.declared.InterruptType.{InterruptType}
 use Rattle.machine.specs.Machine.{MachineFits, fresh}
-use Rattle.journal.specs.Record.{Saved, encode, recordLength}
+use Rattle.machine.specs.declared.Settings.{Settings}
+use Rattle.calls.specs.Calls.{Call, step, interrupt, reset, settingsIn, planOf}
+use Rattle.calls.specs.declared.InterruptType.{InterruptType}
+use Rattle.calls.specs.declared.Plan.{Plan}
+use Rattle.journal.specs.Record.{Saved, encode}
+use Rattle.journal.specs.declared.CallType.{CallType}
+use Rattle.journal.specs.declared.CallType.the-variants.{Step, Interrupt, Reset}
 use Rattle.journal.specs.declared.Outcome.{Outcome}
 use Rattle.journal.specs.declared.Twin.{Twin}
 
--- What a call has in hand: the machine with the count of its records, the lent memory and the lent journal
+-- What a call has in hand: the machine with the counts of its journal, the lent memory and the lent journal
 pub record State : Type 0 where
   pub twin : Twin
   pub memory : List ℕ
   pub journal : List ℕ
 
--- a fresh machine, and no record used
+-- a fresh machine, no record held and no byte used
 abbrev pub freshTwin : Twin
-freshTwin = record { machine = fresh; used = 0 }
+freshTwin = record { machine = fresh; records = 0; bytes = 0 }
 
 abbrev pub inHand : List ℕ → List ℕ → Twin → State
 inHand memory journal twin = record { twin = twin; memory = memory; journal = journal }
@@ -69,6 +67,10 @@ pub record Leaves (r : Outcome) (memory journal : List ℕ) (e : Ended) : Type 0
   pub memory-is : memory ≡ e .state .memory
   pub journal-is : journal ≡ e .state .journal
 
+-- a call that is lent no memory: whatever memory is, it is left as the call ends
+abbrev pub LeavesEach : Outcome → List ℕ → (List ℕ → Ended) → Type 0
+LeavesEach r journal e = (memory : List ℕ) → Leaves r memory journal (e memory)
+
 -- `need test x rest`: refused by x where the test fails; `unless a rest`: refused as a is; else the rest
 abbrev pub need : Bool → Refusal → Answer → Answer
 need true x rest = rest
@@ -77,13 +79,6 @@ need false x rest = Refused x
 abbrev pub unless : Answer → Answer → Answer
 unless Done rest = rest
 unless (Refused x) rest = Refused x
-
--- Record k of the journal, and the journal with a record stored there
-unfoldable pub recordAt : ℕ → List ℕ → List ℕ
-recordAt k j = take recordLength (drop (k * recordLength) j)
-
-unfoldable pub withRecord : ℕ → List ℕ → List ℕ → List ℕ
-withRecord k r j = sets j (k * recordLength) r
 
 -- The entries of a call's writes: one for each that is stored, with the byte from before the whole call
 abbrev pub savedAt : List ℕ → Landing → List Saved
@@ -95,46 +90,63 @@ unfoldable pub savedFor : ℕ → List Write → List ℕ → List Saved
 savedFor top [] mem = []
 savedFor top (w ∷ ws) mem = savedAt mem (landingOf (w .at) top (w .system)) ++ savedFor top ws mem
 
--- What is judged first, in this order: 1, 12, then `early`, the call's own refusal (2 of a step), then 10
-unfoldable pub admitted : ℕ → ℕ → ℕ → Answer → Answer
-admitted memory journal used early =
+-- The record of a call with this plan
+unfoldable pub recordFor : Settings → Plan → State → List ℕ
+recordFor t p s = encode (s .twin .machine) (savedFor (t .«ram_top») (listed (p .writes)) (s .memory))
+
+-- ---- what a call answers
+
+-- the greatest count of records that its number holds
+abbrev pub mostRecords : ℕ
+mostRecords = 2 ^ 64 - 1
+
+-- before its plan: 1, then 12, by the bytes used or by a count of records that cannot rise
+unfoldable pub admitted : ℕ → ℕ → ℕ → ℕ → Answer
+admitted memory journal records bytes =
     need (eqb memory 65536) MemoryLength
-    (need (leb (used * recordLength) journal) JournalLength
-    (unless early
-    (need (leb (used * recordLength + recordLength) journal) JournalFull Done)))
+    (need (leb bytes journal) JournalLength
+    (need (ltb records mostRecords) JournalLength Done))
 
-abbrev pub callAnswer : Answer → Plan → State → Answer
-callAnswer early p s = unless (admitted (length (s .memory)) (length (s .journal)) (s .twin .used) early) (p .answer)
+-- then as its plan is refused: 2 and the instruction's own of a step, 8 and 9 of an interrupt; last 10, where its own record does not fit
+abbrev pub planAnswer : Settings → Plan → State → Answer
+planAnswer t p s = unless (p .answer) (need (leb (s .twin .bytes + length (recordFor t p s)) (length (s .journal))) JournalFull Done)
 
--- An accepted call: the new machine, its writes in memory, its record after the used ones
+abbrev pub callAnswer : Settings → Plan → State → Answer
+callAnswer t p s = unless (admitted (length (s .memory)) (length (s .journal)) (s .twin .records) (s .twin .bytes)) (planAnswer t p s)
+
+-- ---- how it ends
+
+-- An accepted call: the new machine, its writes in memory, its record behind the bytes used
 unfoldable pub recorded : Settings → Plan → State → State
 recorded t p s =
     record {
-      twin = record { machine = p .machine; used = s .twin .used + 1 };
+      twin = record { machine = p .machine; records = s .twin .records + 1; bytes = s .twin .bytes + length (recordFor t p s) };
       memory = stored (t .«ram_top») (listed (p .writes)) (s .memory);
-      journal = withRecord (s .twin .used) (encode (s .twin .machine) (savedFor (t .«ram_top») (listed (p .writes)) (s .memory))) (s .journal);
+      journal = sets (s .journal) (s .twin .bytes) (recordFor t p s);
     }
 
 -- how a call with this plan ends, by its answer
 abbrev pub concluded : Answer → Settings → Plan → State → Ended
 concluded a t p s = ending a s (recorded t p s) (reported (t .«ram_top») (listed (p .writes)))
 
--- Any forward call, recorded: its own refusal between 12 and 10, its settings, and its plan
-unfoldable pub called : Answer → Settings → Plan → State → Ended
-called early t p s = concluded (callAnswer early p s) t p s
+unfoldable pub called : Settings → Plan → State → Ended
+called t p s = concluded (callAnswer t p s) t p s
 
--- The recorded step: 2 while waiting
-abbrev pub whileWaiting : Wait → Answer
-whileWaiting Running = Done
-whileWaiting Cwai = Refused Waiting
-whileWaiting Sync = Refused Waiting
+-- Any forward call, recorded
+abbrev pub call : Call → State → Ended
+call c s = called (settingsIn c) (planOf c (s .memory) (s .twin .machine)) s
 
 abbrev pub stepped : Settings → State → Ended
-stepped t s = called (whileWaiting (s .twin .machine .wait)) t (stepPlan (s .memory) (s .twin .machine) t) s
+stepped t s = call (step t) s
 
--- The recorded interrupt and reset
 abbrev pub interrupted : Settings → InterruptType → State → Ended
-interrupted t i s = called Done t (interruptPlan (s .memory) (s .twin .machine) t i) s
+interrupted t i s = call (interrupt t i) s
 
 abbrev pub wasReset : Settings → State → Ended
-wasReset t s = called Done t (resetPlan (s .memory) (s .twin .machine)) s
+wasReset t s = call (reset t) s
+
+-- the call that the code's type names, with its settings
+abbrev pub callOf : CallType → Settings → Call
+callOf Step t = step t
+callOf (Interrupt i) t = interrupt t i
+callOf Reset t = reset t

@@ -1,20 +1,26 @@
-// The journal: recorded calls, undo, and the newest record. A record holds the machine and the bytes of memory from before a call.
+// The journal: recorded calls, undo, the newest record, and drop. A record holds the machine and the bytes of memory from before a call.
+mod drops;
 mod recorded;
 mod undos;
 
+ghost use Prim.Native.Nat.{_≤_};
 ghost use mathlib.Core.Path.{_≡_};
+ghost use Rattle.journal.specs.Record.{mostStored, recordLength};
 ghost use Rattle.journal.specs.Recorded.{freshTwin};
 use answers::Answer;
+use calls::InterruptType;
+pub use drops::drop;
 use machine::HEADER;
 use machine::Machine;
 use memory::Writes;
+pub use recorded::call;
 pub use recorded::interrupt;
 pub use recorded::reset;
 pub use recorded::step;
 pub use undos::newest;
 pub use undos::undo;
 
-// A record: the machine, the count of its entries, and room for twelve entries of a place and the byte that it had.
+// Where the count and the entries stand; an entry is a place and the byte that it had.
 const COUNT: usize = HEADER;
 
 const ENTRIES: usize = COUNT + 1;
@@ -23,19 +29,33 @@ const ENTRY: usize = 3;
 
 const MOST: usize = 12;
 
-pub const RECORD: usize = ENTRIES + MOST * ENTRY;
-
-// A machine, and how many records of its journal are used.
-pub struct Twin {
-    pub machine: Machine,
-    pub used: usize,
+// The length of a record with n entries.
+fn record_length(n: usize) -> usize
+    requires { ⌜ n ≤ mostStored ⌝ }
+    ensures { λ r. ⌜ r ≡ recordLength n ⌝ }
+{
+    ENTRIES + n * ENTRY + 1
 }
 
-// What a call returns: the device writes that it reports, the machine and the count after it, its answer.
+// A machine, how many records its journal holds, and how many bytes they use.
+pub struct Twin {
+    pub machine: Machine,
+    pub records: usize,
+    pub bytes: usize,
+}
+
+// What a call returns: the device writes that it reports, the machine and the counts after it, its answer.
 pub struct Outcome {
     pub devices: Writes,
     pub twin: Twin,
     pub answer: Answer,
+}
+
+// The calls that are recorded.
+pub enum CallType {
+    Step,
+    Interrupt(InterruptType),
+    Reset,
 }
 
 impl Twin {
@@ -45,7 +65,8 @@ impl Twin {
     {
         Twin {
             machine: Machine::fresh(),
-            used: 0,
+            records: 0,
+            bytes: 0,
         }
     }
 }

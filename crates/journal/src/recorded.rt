@@ -1,31 +1,33 @@
-// The recorded calls. A call's record is written to the unused rest of the journal before its writes are stored.
+// The recorded calls. A call's record is written to the unused rest of the journal before its writes are stored: the machine, the count of
+// its entries, the entries, and its length as the last byte.
+ghost use Prim.Native.Nat.{ℕ, _+_, _*_, _≤_, _<_};
 ghost use mathlib.Core.Path.{_≡_};
-ghost use mathlib.Core.List.{[], _++_};
-ghost use Prim.Native.Nat.{_+_, _-_, _*_, _≤_, _<_};
-ghost use lib.ListN.{length, drop, replicate};
+ghost use mathlib.Core.List.{List, [], _++_};
+ghost use lib.ListN.{length, drop};
 ghost use lib.Seq.{sets};
 ghost use Rattle.memory.specs.Map.{landingOf};
 ghost use Rattle.memory.specs.Writes.{listed, writesOf};
 ghost use Rattle.machine.specs.Record.{header, headerLength};
+ghost use Rattle.calls.specs.Calls.{planOf};
 ghost use Rattle.journal.specs.Record.{mostStored, entryLength, entriesAt, recordLength, entries, encode};
-ghost use Rattle.journal.specs.Recorded.{inHand, Typed, Leaves, savedAt, savedFor, admitted, concluded, whileWaiting, stepped, interrupted, wasReset};
+ghost use Rattle.journal.specs.Recorded.{inHand, Typed, Leaves, mostRecords, savedAt, savedFor, admitted, planAnswer, concluded, callOf};
+ghost use Rattle.journal.specs.Recorded.{call as callEnds, stepped, interrupted, wasReset};
 use super::COUNT;
+use super::CallType;
 use super::ENTRIES;
 use super::ENTRY;
 use super::MOST;
 use super::Outcome;
-use super::RECORD;
 use super::Twin;
+use super::record_length;
 use answers::Answer;
 use answers::Refusal;
 use calls::InterruptType;
 use calls::Plan;
 use machine::CYCLES;
-use machine::HEADER;
 use machine::INSTRUCTIONS;
 use machine::Machine;
 use machine::Settings;
-use machine::Wait;
 use memory::Landing;
 use memory::Write;
 use memory::Writes;
@@ -52,24 +54,48 @@ fn lay(rest: &mut [u8], at: usize, part: &[u8])
     }
 }
 
-// The machine, and zeros for the count and the entries.
 fn write_header(rest: &mut [u8], machine: Machine)
-    requires { ⌜ recordLength ≤ length (now rest) ⌝ }
-    ensures { λ _. ⌜ now (rest .exit) ≡ header machine ++ (replicate (recordLength - headerLength) 0 ++ drop recordLength (now (rest .entry))) ⌝ }
+    requires { ⌜ headerLength ≤ length (now rest) ⌝ }
+    ensures { λ _. ⌜ now (rest .exit) ≡ sets (now (rest .entry)) 0 (header machine) ⌝ }
 {
     let front = machine::front_of(machine);
     let cycles = machine::counter_of(machine.cycles);
     let instructions = machine::counter_of(machine.instructions);
-    let unused = [0u8; RECORD - HEADER];
     lay(rest, 0, &front);
     lay(rest, CYCLES, &cycles);
     lay(rest, INSTRUCTIONS, &instructions);
-    lay(rest, COUNT, &unused);
+}
+
+// How many entries a write has: 1 if it is stored.
+fn entries_for(ram_top: u16, one: Write) -> usize
+    ensures { λ r. ⌜ ((mem : List ℕ) → r ≡ length (savedAt mem (landingOf (one .at) «ram_top» (one .system)))) ⌝ }
+{
+    match memory::lands(one.at, ram_top, one.system) {
+        Landing::Stored(_) => 1,
+        Landing::Device => 0,
+        Landing::Ignored => 0,
+    }
+}
+
+// How many entries a call's writes have: so its record's length is known before a byte of the journal is written.
+fn count_entries(ram_top: u16, writes: Writes) -> usize
+    ensures { λ r. ⌜ (r ≤ mostStored) × ((mem : List ℕ) → r ≡ length (savedFor «ram_top» (listed writes) mem)) ⌝ }
+{
+    let count = writes.count;
+    let list = writes.list;
+    let mut n: usize = 0;
+    let mut i = 0;
+    while i < MOST && i < count {
+        let one = list[i];
+        n += entries_for(ram_top, one);
+        i += 1;
+    }
+    n
 }
 
 // One write's entry, if it is stored, after the n that are there; how many are there then.
 fn save(rest: &mut [u8], n: usize, mem: &[u8], ram_top: u16, one: Write) -> usize
-    requires { ⌜ (n < mostStored) × ((recordLength ≤ length (now rest)) × (length (now mem) ≡ 65536)) ⌝ }
+    requires { ⌜ (n < mostStored) × ((entriesAt + (n + length (savedAt (now mem) (landingOf (one .at) «ram_top» (one .system)))) * entryLength ≤ length (now rest)) × (length (now mem) ≡ 65536)) ⌝ }
     ensures { λ r. ⌜ (r ≡ n + length (savedAt (now (mem .entry)) (landingOf (one .at) «ram_top» (one .system)))) × (now (rest .exit) ≡ sets (now (rest .entry)) (entriesAt + n * entryLength) (entries (savedAt (now (mem .entry)) (landingOf (one .at) «ram_top» (one .system))))) ⌝ }
 {
     let at = one.at;
@@ -85,10 +111,10 @@ fn save(rest: &mut [u8], n: usize, mem: &[u8], ram_top: u16, one: Write) -> usiz
     }
 }
 
-// The entries of a call's writes, in order, and their count.
-fn save_all(rest: &mut [u8], mem: &[u8], ram_top: u16, writes: Writes) -> usize
-    requires { ⌜ (recordLength ≤ length (now rest)) × (length (now mem) ≡ 65536) ⌝ }
-    ensures { λ r. ⌜ (r ≡ length (savedFor «ram_top» (listed writes) (now (mem .entry)))) × ((r ≤ mostStored) × (now (rest .exit) ≡ sets (now (rest .entry)) entriesAt (entries (savedFor «ram_top» (listed writes) (now (mem .entry)))))) ⌝ }
+// The entries of a call's writes, in order.
+fn save_all(rest: &mut [u8], mem: &[u8], ram_top: u16, writes: Writes)
+    requires { ⌜ (entriesAt + length (savedFor «ram_top» (listed writes) (now mem)) * entryLength ≤ length (now rest)) × (length (now mem) ≡ 65536) ⌝ }
+    ensures { λ _. ⌜ now (rest .exit) ≡ sets (now (rest .entry)) entriesAt (entries (savedFor «ram_top» (listed writes) (now (mem .entry)))) ⌝ }
 {
     let count = writes.count;
     let list = writes.list;
@@ -99,43 +125,56 @@ fn save_all(rest: &mut [u8], mem: &[u8], ram_top: u16, writes: Writes) -> usize
         n = save(rest, n, mem, ram_top, one);
         i += 1;
     }
-    n
 }
 
-// A call's record, at the front of the unused rest of the journal.
-fn write_record(rest: &mut [u8], mem: &[u8], machine: Machine, ram_top: u16, writes: Writes)
-    requires { ⌜ (recordLength ≤ length (now rest)) × (length (now mem) ≡ 65536) ⌝ }
-    ensures { λ _. ⌜ now (rest .exit) ≡ encode machine (savedFor «ram_top» (listed writes) (now (mem .entry))) ++ drop recordLength (now (rest .entry)) ⌝ }
+// A call's record, of n entries, at the front of the unused rest of the journal.
+fn write_record(
+    rest: &mut [u8],
+    mem: &[u8],
+    machine: Machine,
+    ram_top: u16,
+    writes: Writes,
+    n: usize,
+)
+    requires { ⌜ (n ≡ length (savedFor «ram_top» (listed writes) (now mem))) × ((n ≤ mostStored) × ((recordLength n ≤ length (now rest)) × (length (now mem) ≡ 65536))) ⌝ }
+    ensures { λ _. ⌜ now (rest .exit) ≡ encode machine (savedFor «ram_top» (listed writes) (now (mem .entry))) ++ drop (recordLength n) (now (rest .entry)) ⌝ }
 {
     write_header(rest, machine);
-    let n = save_all(rest, mem, ram_top, writes);
     rest[COUNT] = n as u8;
+    save_all(rest, mem, ram_top, writes);
+    let last = ENTRIES + n * ENTRY;
+    rest[last] = (last + 1) as u8;
 }
 
-// What stands before every recorded call: `early` is the call's own refusal between 12 and 10.
-fn admits(memory: usize, journal: usize, used: usize, early: Answer) -> Answer
-    ensures { λ r. ⌜ r ≡ admitted memory journal used early ⌝ }
+// What is judged before a call's plan: memory, the journal's length, and that one more record can be counted.
+fn admits(memory: usize, journal: usize, records: usize, bytes: usize) -> Answer
+    ensures { λ r. ⌜ r ≡ admitted memory journal records bytes ⌝ }
 {
     if memory != 65536 {
         return Answer::Refused(Refusal::MemoryLength);
     }
-    let whole = journal / RECORD;
-    if used > whole {
+    if bytes > journal {
         return Answer::Refused(Refusal::JournalLength);
     }
-    match early {
-        Answer::Refused(refusal) => Answer::Refused(refusal),
-        Answer::Done => {
-            if used < whole {
-                Answer::Done
-            } else {
-                Answer::Refused(Refusal::JournalFull)
-            }
-        }
+    if records == 0xFFFF_FFFF_FFFF_FFFF {
+        return Answer::Refused(Refusal::JournalLength);
+    }
+    Answer::Done
+}
+
+// What each call will do.
+fn plan(mem: &[u8], machine: Machine, settings: Settings, which: CallType) -> Plan
+    ensures { λ r. ⌜ r ≡ planOf (callOf which settings) (now (mem .entry)) machine ⌝ }
+{
+    match which {
+        CallType::Step => calls::plan_step(mem, machine, settings),
+        CallType::Interrupt(line) => calls::plan_interrupt(mem, machine, settings, line),
+        CallType::Reset => calls::plan_reset(mem, machine),
     }
 }
 
-// What every recorded call does with its plan. The record is written before the writes are stored.
+// What every recorded call does with its plan. Whether the record fits is known before a byte of it is written, and it is written before the
+// writes are stored.
 fn conclude(
     mem: &mut [u8],
     journal: &mut [u8],
@@ -143,25 +182,39 @@ fn conclude(
     settings: Settings,
     plan: Plan,
 ) -> Outcome
-    requires { ⌜ (length (now mem) ≡ 65536) × (twin .used * recordLength + recordLength ≤ length (now journal)) ⌝ }
-    ensures { λ r. ⌜ Leaves r (now (mem .exit)) (now (journal .exit)) (concluded (plan .answer) settings plan (inHand (now (mem .entry)) (now (journal .entry)) twin)) ⌝ }
+    requires { ⌜ (length (now mem) ≡ 65536) × ((twin .bytes ≤ length (now journal)) × (twin .records < mostRecords)) ⌝ }
+    ensures { λ r. ⌜ Leaves r (now (mem .exit)) (now (journal .exit)) (concluded (planAnswer settings plan (inHand (now (mem .entry)) (now (journal .entry)) twin)) settings plan (inHand (now (mem .entry)) (now (journal .entry)) twin)) ⌝ }
 {
     let answer = plan.answer;
     match answer {
         Answer::Refused(refusal) => refused(twin, refusal),
         Answer::Done => {
-            let used = twin.used;
+            let writes = plan.writes;
+            let bytes = twin.bytes;
+            let n = count_entries(settings.ram_top, writes);
+            let size = record_length(n);
+            if journal.len() - bytes < size {
+                return refused(twin, Refusal::JournalFull);
+            }
+            let end = bytes + size;
+            let records = twin.records + 1;
             let before = twin.machine;
             let machine = plan.machine;
-            let writes = plan.writes;
-            let at = used * RECORD;
-            write_record(&mut journal[at..], mem, before, settings.ram_top, writes);
+            write_record(
+                &mut journal[bytes..],
+                mem,
+                before,
+                settings.ram_top,
+                writes,
+                n,
+            );
             let devices = memory::store_all(mem, settings.ram_top, writes);
             Outcome {
                 devices,
                 twin: Twin {
                     machine,
-                    used: used + 1,
+                    records,
+                    bytes: end,
                 },
                 answer,
             }
@@ -169,14 +222,24 @@ fn conclude(
     }
 }
 
-// Step's own refusal.
-fn waiting(wait: Wait) -> Answer
-    ensures { λ r. ⌜ r ≡ whileWaiting wait ⌝ }
+// Any recorded call. A loop that makes calls of several kinds makes them here, so that the call is compiled into it once.
+pub fn call(
+    mem: &mut [u8],
+    journal: &mut [u8],
+    twin: Twin,
+    settings: Settings,
+    which: CallType,
+) -> Outcome
+    ensures { λ r. ⌜ Leaves r (now (mem .exit)) (now (journal .exit)) (callEnds (callOf which settings) (inHand (now (mem .entry)) (now (journal .entry)) twin)) ⌝ }
+    ensures { λ _. ⌜ Typed (inHand (now (mem .entry)) (now (journal .entry)) twin) ⌝ }
 {
-    match wait {
-        Wait::Running => Answer::Done,
-        Wait::Cwai => Answer::Refused(Refusal::Waiting),
-        Wait::Sync => Answer::Refused(Refusal::Waiting),
+    let machine = twin.machine;
+    match admits(mem.len(), journal.len(), twin.records, twin.bytes) {
+        Answer::Refused(refusal) => refused(twin, refusal),
+        Answer::Done => {
+            let plan = plan(mem, machine, settings, which);
+            conclude(mem, journal, twin, settings, plan)
+        }
     }
 }
 
@@ -184,15 +247,7 @@ pub fn step(mem: &mut [u8], journal: &mut [u8], twin: Twin, settings: Settings) 
     ensures { λ r. ⌜ Leaves r (now (mem .exit)) (now (journal .exit)) (stepped settings (inHand (now (mem .entry)) (now (journal .entry)) twin)) ⌝ }
     ensures { λ _. ⌜ Typed (inHand (now (mem .entry)) (now (journal .entry)) twin) ⌝ }
 {
-    let machine = twin.machine;
-    let wait = machine.wait;
-    match admits(mem.len(), journal.len(), twin.used, waiting(wait)) {
-        Answer::Refused(refusal) => refused(twin, refusal),
-        Answer::Done => {
-            let plan = calls::plan_step(mem, machine, settings);
-            conclude(mem, journal, twin, settings, plan)
-        }
-    }
+    call(mem, journal, twin, settings, CallType::Step)
 }
 
 pub fn interrupt(
@@ -205,26 +260,12 @@ pub fn interrupt(
     ensures { λ r. ⌜ Leaves r (now (mem .exit)) (now (journal .exit)) (interrupted settings which (inHand (now (mem .entry)) (now (journal .entry)) twin)) ⌝ }
     ensures { λ _. ⌜ Typed (inHand (now (mem .entry)) (now (journal .entry)) twin) ⌝ }
 {
-    let machine = twin.machine;
-    match admits(mem.len(), journal.len(), twin.used, Answer::Done) {
-        Answer::Refused(refusal) => refused(twin, refusal),
-        Answer::Done => {
-            let plan = calls::plan_interrupt(mem, machine, settings, which);
-            conclude(mem, journal, twin, settings, plan)
-        }
-    }
+    call(mem, journal, twin, settings, CallType::Interrupt(which))
 }
 
 pub fn reset(mem: &mut [u8], journal: &mut [u8], twin: Twin, settings: Settings) -> Outcome
     ensures { λ r. ⌜ Leaves r (now (mem .exit)) (now (journal .exit)) (wasReset settings (inHand (now (mem .entry)) (now (journal .entry)) twin)) ⌝ }
     ensures { λ _. ⌜ Typed (inHand (now (mem .entry)) (now (journal .entry)) twin) ⌝ }
 {
-    let machine = twin.machine;
-    match admits(mem.len(), journal.len(), twin.used, Answer::Done) {
-        Answer::Refused(refusal) => refused(twin, refusal),
-        Answer::Done => {
-            let plan = calls::plan_reset(mem, machine);
-            conclude(mem, journal, twin, settings, plan)
-        }
-    }
+    call(mem, journal, twin, settings, CallType::Reset)
 }

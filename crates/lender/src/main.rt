@@ -18,8 +18,8 @@ use registers::Flags;
 
 type Memory = [u8; 0x10000];
 
-// Room for two records.
-type Journal = [u8; 136];
+// Room for the records of NOP and STA, 34 and 37 bytes.
+type Journal = [u8; 71];
 
 const CELL: usize = 0x0200;
 
@@ -67,7 +67,7 @@ fn show(answer: Answer, twin: Twin, byte: u8) -> bool {
         letter(low / 16),
         letter(low),
         b' ',
-        letter((twin.used % 16) as u8),
+        letter((twin.records % 16) as u8),
         b' ',
         letter(byte / 16),
         letter(byte),
@@ -109,7 +109,7 @@ fn start() -> Twin {
 
 fn main() {
     let mut mem = [0u8; 0x10000];
-    let mut journal = [0u8; 136];
+    let mut journal = [0u8; 71];
     mem[0x0100] = 0x12;
     mem[0x0101] = 0xB7;
     mem[0x0102] = 0x02;

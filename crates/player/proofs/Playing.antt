@@ -1,7 +1,7 @@
 -- One operation more: its line, and what is in hand after it.
 -- Assumes nothing.
 use Prim.Native.Nat.{ℕ, _+_, _-_, _*_, _≤_, _<_}
-use mathlib.Core.Path.{_≡_, refl, sym, ap, _∙_}
+use mathlib.Core.Path.{_≡_, refl, sym, ap, _∙_, subst}
 use mathlib.Core.List.{List, [], _∷_, _++_, append-assoc, append-nil}
 use native.Mathlib.Omega.{arith}
 use native.Mathlib.Numerals.{add-one}
@@ -11,21 +11,25 @@ use Rattle.answers.specs.Numbers.{numberOf, numberOfAnswer}
 use Rattle.answers.specs.declared.Answer.{Answer}
 use Rattle.answers.specs.declared.Answer.the-variants.{Done, Refused}
 use Rattle.answers.specs.declared.Refusal.{Refusal}
-use Rattle.answers.specs.declared.Refusal.the-variants.{MemoryLength, Waiting, Opcode, PastEnd, PostByte, TransferCode, StackTooSmall, ZeroAtVector, JournalFull, NoRecord, JournalLength, DivisionByZero, LeftByte, NoRoom, Malformed, OutputShort, LineShape, Checksum, PastTop, NoEnd, PostByte8F}
+use Rattle.answers.specs.declared.Refusal.the-variants.{MemoryLength, Waiting, Opcode, PastEnd, PostByte, TransferCode, StackTooSmall, ZeroAtVector, JournalFull, NoRecord, JournalLength, DivisionByZero, LeftByte, NoRoom, Malformed, OutputShort, LineShape, Checksum, PastTop, NoEnd, PostByte8F, TooFewRecords}
 use Rattle.text.proofs.Stores.{sets-append}
 use Rattle.text.proofs.Texts.{line-fits}
 use Rattle.machine.specs.declared.Machine.{Machine}
 use Rattle.machine.specs.declared.Settings.{Settings}
 use Rattle.journal.specs.declared.Outcome.{Outcome}
-use Rattle.journal.specs.Recorded.{State, inHand, Leaves}
+use Rattle.journal.specs.Recorded.{State, Ended, inHand, Leaves, call, callOf}
+use Rattle.journal.specs.Undos.{undone}
 use Rattle.runfile.specs.Format.{Parsed, says, malformed, parsed, operationAt, loaded, nextOf}
 use Rattle.runfile.specs.declared.Operation.{Operation}
-use Rattle.runfile.specs.declared.Operation.the-variants.{Step}
+use Rattle.runfile.specs.declared.Operation.the-variants.{Step, Irq, Firq, Nmi, Reset, Undo}
 use Rattle.runfile.specs.declared.Next.the-variants.{Is}
 use Rattle.runfile.specs.declared.Start.{Start}
 use Rattle.runfile.specs.declared.Loaded.the-variants.{Ready, Refused as NotLoaded}
 use Rattle.runfile.proofs.Operations.{in-order, they-fit, not-longer}
-use Rattle.player.specs.Plays.{acted, callLine, refusalLine, lineFor, lines, played}
+use Rattle.player.specs.Plays.{acted, wantedBy, shownOf, LeavesShown, callLine, refusalLine, lineFor, lines, played}
+use Rattle.player.specs.declared.plays.Shown.{Shown}
+use Rattle.player.specs.declared.plays.Wanted.{Wanted}
+use Rattle.player.specs.declared.plays.Wanted.the-variants.{Call as Calling, Undo as Undoing}
 
 -- an answer's number is a byte
 number-fits : (a : Answer) → numberOfAnswer a < 256
@@ -54,9 +58,29 @@ number-fits (Refused x) = go x
     go PastTop = omega arith
     go NoEnd = omega arith
     go PostByte8F = omega arith
+    go TooFewRecords = omega arith
 
 pub line-bound : (a : Answer) (m : Machine) → length (callLine a m) ≤ 33
 line-bound a m = line-fits (numberOfAnswer a) (m .regs .pc) (m .regs .cc .reg) (m .cycles) (number-fits a)
+
+-- an operation is the call that is wanted by it
+abbrev wantedEnds : Settings → Wanted → State → Ended
+wantedEnds t (Calling w) s = call (callOf w t) s
+wantedEnds t Undoing s = undone s
+
+acted-by : (t : Settings) (o : Operation) (s : State) → wantedEnds t (wantedBy o) s ≡ acted t o s
+acted-by t Step s = refl
+acted-by t Irq s = refl
+acted-by t Firq s = refl
+acted-by t Nmi s = refl
+acted-by t Reset s = refl
+acted-by t Undo s = refl
+
+pub acts : (t : Settings) (o : Operation) (s : State) (w : Wanted) (q : Outcome) (r : Shown) (mem j : List ℕ) → w ≡ wantedBy o → Leaves q mem j (wantedEnds t w s) → r ≡ shownOf q
+    → LeavesShown r mem j (acted t o s)
+acts t o s w q r mem j e l p =
+    let x : wantedEnds t w s ≡ acted t o s = ap (λ (v : Wanted). wantedEnds t v s) e ∙ acted-by t o s in
+    subst (LeavesShown r mem j) x (record { result = p ∙ ap shownOf (l .result); memory-is = l .memory-is; journal-is = l .journal-is })
 
 -- what is in hand after some operations
 unfoldable pub after : Settings → List Operation → State → State
@@ -93,14 +117,14 @@ module _ (t : Settings) (os : List Operation) (s₀ : State) (out₀ : List ℕ)
   at-first = record { count = refl; text = refl; state = refl }
 
   pub turn : (i used : ℕ) (out : List ℕ) (s : State) → Sofar t os s₀ out₀ i used out s → i < length os
-      → {o : Operation} → o ≡ getD os i Step → {r : Outcome} {mem journal : List ℕ} → Leaves r mem journal (acted t o s)
+      → {o : Operation} → o ≡ getD os i Step → {r : Shown} {mem journal : List ℕ} → LeavesShown r mem journal (acted t o s)
       → {size : ℕ} {out′ : List ℕ} → size ≡ length (callLine (r .answer) (r .twin .machine)) → out′ ≡ sets out used (callLine (r .answer) (r .twin .machine))
       → Sofar t os s₀ out₀ (i + 1) (used + size) out′ (inHand mem journal (r .twin))
   turn i used out s h k {o} eo {r} {mem} {journal} l {size} {out′} eu et =
       let f : take (i + 1) os ≡ take i os ++ (o ∷ []) = rw (add-one, eo) (take-suc os i Step k) in
       let y = lines-more t (take i os) o s₀ in
       let x = callLine (r .answer) (r .twin .machine) in
-      let e : x ≡ lineFor (acted t o (after t (take i os) s₀)) = ap (λ (q : Outcome). callLine (q .answer) (q .twin .machine)) (l .result) ∙ rw (h .state) in
+      let e : x ≡ lineFor (acted t o (after t (take i os) s₀)) = ap (λ (q : Shown). callLine (q .answer) (q .twin .machine)) (l .result) ∙ rw (h .state) in
       let z : used ≡ 0 + length (lines t (take i os) s₀) = omega (arith, h .count) in
       record {
         count = rw (eu, f, y, ← e, h .count) (sym (length-append (lines t (take i os) s₀) x));

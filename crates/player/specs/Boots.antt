@@ -78,10 +78,10 @@ bootPrinted input =
 
 -- ---- the laws
 
--- while a journal of 960 records has room, the same calls recorded print the same: a reset and up to 959 steps
+-- while the journal has room, whatever the calls store, the same calls recorded print the same: a reset and up to 931 steps
 abbrev pub AsRecorded : Type 0
 AsRecorded =
-    (t : Settings) (n : ℕ) (mem : List ℕ) → length mem ≡ 65536 → n < 960
+    (t : Settings) (n : ℕ) (mem : List ℕ) → length mem ≡ 65536 → n < 932
     → runLines t n mem ≡ lines t (Reset ∷ replicate n Step) (inHand mem (zeros journalLength) freshTwin)
 
 -- at most 65,536 lines of at most 33 bytes

@@ -2,15 +2,16 @@
 ghost use mathlib.Core.Path.{_≡_};
 ghost use lib.ListN.{length};
 ghost use lib.Seq.{sets};
-ghost use Rattle.journal.specs.Recorded.{freshTwin, inHand, interrupted, Leaves};
+ghost use Rattle.journal.specs.Recorded.{freshTwin, inHand};
 ghost use Rattle.runfile.specs.Format.{loaded, parsed};
-ghost use Rattle.player.specs.Plays.{zeros, journalLength, acted, played, printed};
+ghost use Rattle.player.specs.Plays.{zeros, journalLength, acted, wantedBy, shownOf, LeavesShown, played, printed};
 use super::put_call;
 use super::put_refusal;
 use super::zeroed_memory;
+use answers::Answer;
 use calls::InterruptType;
+use journal::CallType;
 use journal::Outcome;
-use journal::RECORD;
 use journal::Twin;
 use machine::Settings;
 use runfile::Loaded;
@@ -18,7 +19,8 @@ use runfile::Next;
 use runfile::Operation;
 use runfile::Start;
 
-const JOURNAL: usize = 960 * RECORD;
+// Room for 1,920 records without an entry.
+const JOURNAL: usize = 65_280;
 
 fn empty_journal() -> [u8; JOURNAL]
     ensures { λ r. ⌜ r ≡ zeros journalLength ⌝ }
@@ -26,35 +28,52 @@ fn empty_journal() -> [u8; JOURNAL]
     [0; JOURNAL]
 }
 
-// The three interrupts share this one call, so that it is compiled in once.
-fn interrupt(
-    mem: &mut [u8],
-    journal: &mut [u8],
-    twin: Twin,
-    settings: Settings,
-    which: InterruptType,
-) -> Outcome
-    ensures { λ r. ⌜ Leaves r (now (mem .exit)) (now (journal .exit)) (interrupted settings which (inHand (now (mem .entry)) (now (journal .entry)) twin)) ⌝ }
-{
-    journal::interrupt(mem, journal, twin, settings, which)
+// A recorded call, or undo.
+enum Wanted {
+    Call(CallType),
+    Undo,
 }
 
+fn wanted(operation: Operation) -> Wanted
+    ensures { λ r. ⌜ r ≡ wantedBy operation ⌝ }
+{
+    match operation {
+        Operation::Step => Wanted::Call(CallType::Step),
+        Operation::Irq => Wanted::Call(CallType::Interrupt(InterruptType::Irq)),
+        Operation::Firq => Wanted::Call(CallType::Interrupt(InterruptType::Firq)),
+        Operation::Nmi => Wanted::Call(CallType::Interrupt(InterruptType::Nmi)),
+        Operation::Reset => Wanted::Call(CallType::Reset),
+        Operation::Undo => Wanted::Undo,
+    }
+}
+
+// What is printed of a call. Its list of device writes is not handed on, so that it is not copied where the arms of `act` join.
+struct Shown {
+    twin: Twin,
+    answer: Answer,
+}
+
+fn shown(outcome: Outcome) -> Shown
+    ensures { λ r. ⌜ r ≡ shownOf outcome ⌝ }
+{
+    let twin = outcome.twin;
+    let answer = outcome.answer;
+    Shown { twin, answer }
+}
+
+// All recorded calls are made at one place, so that the call is compiled in once.
 fn act(
     mem: &mut [u8],
     journal: &mut [u8],
     twin: Twin,
     settings: Settings,
     operation: Operation,
-) -> Outcome
-    ensures { λ r. ⌜ Leaves r (now (mem .exit)) (now (journal .exit)) (acted settings operation (inHand (now (mem .entry)) (now (journal .entry)) twin)) ⌝ }
+) -> Shown
+    ensures { λ r. ⌜ LeavesShown r (now (mem .exit)) (now (journal .exit)) (acted settings operation (inHand (now (mem .entry)) (now (journal .entry)) twin)) ⌝ }
 {
-    match operation {
-        Operation::Step => journal::step(mem, journal, twin, settings),
-        Operation::Irq => interrupt(mem, journal, twin, settings, InterruptType::Irq),
-        Operation::Firq => interrupt(mem, journal, twin, settings, InterruptType::Firq),
-        Operation::Nmi => interrupt(mem, journal, twin, settings, InterruptType::Nmi),
-        Operation::Reset => journal::reset(mem, journal, twin, settings),
-        Operation::Undo => journal::undo(mem, journal, twin),
+    match wanted(operation) {
+        Wanted::Call(which) => shown(journal::call(mem, journal, twin, settings, which)),
+        Wanted::Undo => shown(journal::undo(mem, journal, twin)),
     }
 }
 

@@ -2,7 +2,7 @@
 ghost use Prim.Native.Nat.{_+_, _≤_};
 
 // A scene's line. An example's is shorter, and stands at its front.
-pub const LINE: usize = 117;
+pub const LINE: usize = 134;
 
 pub const EXAMPLE: usize = 74;
 
@@ -17,7 +17,8 @@ fn is_call(b: u8) -> bool {
 
 fn is_journal_operation(b: u8) -> bool {
     match b {
-        b'U' | b'w' | b'c' => true,
+        b'U' | b'0'..=b'9' | b'a' | b'x' => true,
+        b'w' | b'm' | b'c' | b'd' | b'l' | b'h' | b'o' | b'p' => true,
         _ => is_call(b),
     }
 }
@@ -58,25 +59,25 @@ pub fn is_example(line: &Line) -> bool {
 pub fn is_scene(line: &Line) -> bool {
     has_shape(
         line,
-        b"xxx xx xx xx xx xxxx xxxx xxxx xxxx xxxx xxxx xxxxxxxxxxxx xxxx xxxxxxxx xxxxx xxxx xxxxxxxxxxxxxxxx jjjjjjjj xxxx j\n",
+        b"xxx xx xx xx xx xxxx xxxx xxxx xxxx xxxx xxxx xxxxxxxxxxxx xxxx xxxxxxxx xxxxx xxxx xxxxxxxxxxxxxxxx xxxxxxxxxxxxxxxx jjjjjjjj xxxx j\n",
     )
 }
 
 pub fn byte_at(line: &Line, at: usize) -> u8
-    requires { ⌜ at + 2 ≤ 117 ⌝ }
+    requires { ⌜ at + 2 ≤ 134 ⌝ }
 {
     text::byte(line[at], line[at + 1])
 }
 
 pub fn word_at(line: &Line, at: usize) -> u16
-    requires { ⌜ at + 4 ≤ 117 ⌝ }
+    requires { ⌜ at + 4 ≤ 134 ⌝ }
 {
     byte_at(line, at) as u16 * 256 + byte_at(line, at + 2) as u16
 }
 
 // Sixteen digits.
 pub fn long_at(line: &Line, at: usize) -> u64
-    requires { ⌜ at + 16 ≤ 117 ⌝ }
+    requires { ⌜ at + 16 ≤ 134 ⌝ }
 {
     let high = word_at(line, at) as u64 * 0x10000 + word_at(line, at + 4) as u64;
     let low = word_at(line, at + 8) as u64 * 0x10000 + word_at(line, at + 12) as u64;
@@ -85,7 +86,7 @@ pub fn long_at(line: &Line, at: usize) -> u64
 
 // Five digits, the first of them 0 or 1.
 pub fn length_at(line: &Line, at: usize) -> usize
-    requires { ⌜ at + 5 ≤ 117 ⌝ }
+    requires { ⌜ at + 5 ≤ 134 ⌝ }
     ensures { λ r. ⌜ r ≤ 65536 ⌝ }
 {
     let rest = word_at(line, at + 1) as usize;

@@ -1,5 +1,5 @@
-// A scene of the journal: recorded calls and undos on the lengths of memory and journal that the line says, and the newest record.
-ghost use Prim.Native.Nat.{_≤_};
+// A scene of the journal: recorded calls, undos and drops on the lengths of memory and journal that the line says, and the newest record.
+ghost use Prim.Native.Nat.{_≤_, _<_};
 use super::line::Line;
 use super::line::byte_of;
 use super::line::length_at;
@@ -15,9 +15,9 @@ use super::start;
 use super::start::BYTES;
 use answers::Answer;
 use journal::Outcome;
-use journal::RECORD;
 use journal::Twin;
 use libc::STDOUT_FILENO;
+use machine::ARMED;
 use machine::HEADER;
 use machine::Machine;
 use machine::Settings;
@@ -25,7 +25,10 @@ use machine::WAIT;
 use memory::Writes;
 use registers::Flags;
 
-const OUT: usize = 196;
+const OUT: usize = 226;
+
+// The longest record.
+const RECORD: usize = 70;
 
 fn settings(line: &Line) -> Settings {
     Settings::new(word_at(line, 41), Flags::Manual)
@@ -37,7 +40,8 @@ fn twin(line: &Line) -> Twin {
     machine.instructions = 0x1112_1314_1516_1718;
     Twin {
         machine,
-        used: long_at(line, 84) as usize,
+        records: long_at(line, 84) as usize,
+        bytes: long_at(line, 101) as usize,
     }
 }
 
@@ -49,23 +53,55 @@ fn started(line: &Line) -> Outcome {
     }
 }
 
-// A byte of the newest record overwritten, where there is one.
-fn damage(journal: &mut [u8], used: usize, at: usize, byte: u8)
-    requires { ⌜ at ≤ 67 ⌝ }
-{
-    if used == 0 {
-        return;
-    }
-    if used > journal.len() / RECORD {
-        return;
-    }
-    let p = (used - 1) * RECORD + at;
-    if p < journal.len() {
-        journal[p] = byte;
+fn overwrite(journal: &mut [u8], at: usize, byte: u8) {
+    if at < journal.len() {
+        journal[at] = byte;
     }
 }
 
-// One operation by its letter: w and c damage the newest record's wait state and count, and there is none for `-`.
+// Where the newest record begins, by the last of the bytes used.
+fn newest_at(journal: &[u8], bytes: usize) -> usize
+    requires { ⌜ 0 < bytes ⌝ }
+    ensures { λ r. ⌜ r ≤ bytes ⌝ }
+{
+    let size = byte_of(journal, bytes - 1) as usize;
+    if size > bytes {
+        return 0;
+    }
+    bytes - size
+}
+
+// A byte of the newest record overwritten, or, by o and p, the oldest record's count.
+fn damage(journal: &mut [u8], bytes: usize, letter: u8) {
+    if bytes == 0 {
+        return;
+    }
+    if bytes > BYTES {
+        return;
+    }
+    let at = newest_at(journal, bytes);
+    match letter {
+        b'w' => overwrite(journal, at + WAIT, 3),
+        b'm' => overwrite(journal, at + ARMED, 2),
+        b'c' => overwrite(journal, at + HEADER, 13),
+        b'd' => overwrite(journal, at + HEADER, 1),
+        b'l' => overwrite(journal, bytes - 1, 33),
+        b'h' => overwrite(journal, bytes - 1, 255),
+        b'o' => overwrite(journal, HEADER, 13),
+        _ => overwrite(journal, HEADER, 12),
+    }
+}
+
+// How many records an operation drops: a digit's, all that are held, or the largest number.
+fn dropped(letter: u8, records: usize) -> usize {
+    match letter {
+        b'0'..=b'9' => (letter - b'0') as usize,
+        b'a' => records,
+        _ => usize::MAX,
+    }
+}
+
+// One operation by its letter; there is none for `-`.
 fn act(
     mem: &mut [u8],
     journal: &mut [u8],
@@ -81,15 +117,12 @@ fn act(
         }
         b'R' => journal::reset(mem, journal, twin, settings),
         b'U' => journal::undo(mem, journal, twin),
-        b'w' => {
-            damage(journal, twin.used, WAIT, 3);
+        b'0'..=b'9' | b'a' | b'x' => journal::drop(journal, twin, dropped(letter, twin.records)),
+        b'-' => before,
+        _ => {
+            damage(journal, twin.bytes, letter);
             before
         }
-        b'c' => {
-            damage(journal, twin.used, HEADER, 13);
-            before
-        }
-        _ => before,
     }
 }
 
@@ -99,7 +132,7 @@ fn turn(mem: &mut [u8], journal: &mut [u8], before: Outcome, line: &Line) -> Out
     let mut outcome = before;
     let mut i = 0;
     while i < 8 {
-        outcome = act(mem, journal, outcome, settings, line[101 + i]);
+        outcome = act(mem, journal, outcome, settings, line[118 + i]);
         i += 1;
     }
     outcome
@@ -107,7 +140,7 @@ fn turn(mem: &mut [u8], journal: &mut [u8], before: Outcome, line: &Line) -> Out
 
 fn turns(mem: &mut [u8], journal: &mut [u8], line: &Line) -> Outcome {
     let mut outcome = started(line);
-    let mut left = word_at(line, 110);
+    let mut left = word_at(line, 127);
     while left > 0 {
         outcome = turn(mem, journal, outcome, line);
         left -= 1;
@@ -126,7 +159,7 @@ fn end(mem: &mut [u8], journal: &[u8], before: Outcome, line: &Line) -> Ended {
     let mut outcome = before;
     let mut undos: u64 = 0;
     let mut left: u64 = 100000;
-    let mut going = line[115] == b'U';
+    let mut going = line[132] == b'U';
     while left > 0 && going {
         left -= 1;
         outcome = journal::undo(mem, journal, outcome.twin);
@@ -141,34 +174,43 @@ fn put_machine(out: &mut [u8], machine: Machine) {
     let regs = machine.regs;
     let cc = regs.cc;
     let wait = machine.wait;
-    put_word(out, 29, regs.pc);
-    put_byte(out, 34, cc.get_as_byte());
-    put_decimal(out, 38, wait_number(wait));
+    put_word(out, 46, regs.pc);
+    put_byte(out, 51, cc.get_as_byte());
+    put_decimal(out, 55, wait_number(wait));
 }
 
 // Sixteen digits.
-fn put_used(out: &mut [u8], n: u64) {
-    put_word(out, 7, (n / 0x1_0000_0000_0000 % 0x10000) as u16);
-    put_word(out, 11, (n / 0x1_0000_0000 % 0x10000) as u16);
-    put_word(out, 15, (n / 0x10000 % 0x10000) as u16);
-    put_word(out, 19, (n % 0x10000) as u16);
+fn put_long(out: &mut [u8], at: usize, n: u64)
+    requires { ⌜ at ≤ 100 ⌝ }
+{
+    put_word(out, at, (n / 0x1_0000_0000_0000 % 0x10000) as u16);
+    put_word(out, at + 4, (n / 0x1_0000_0000 % 0x10000) as u16);
+    put_word(out, at + 8, (n / 0x10000 % 0x10000) as u16);
+    put_word(out, at + 12, (n % 0x10000) as u16);
 }
 
 // How many device writes the last call reported, and the first of them.
 fn put_devices(out: &mut [u8], devices: Writes) {
     let first = devices.list[0];
-    put_decimal(out, 50, devices.count as u64);
-    put_word(out, 51, first.at);
-    put_byte(out, 56, first.byte);
+    put_decimal(out, 67, devices.count as u64);
+    put_word(out, 68, first.at);
+    put_byte(out, 73, first.byte);
 }
 
-// The newest record; where the part handed back is empty, hyphens stay.
-fn put_record(out: &mut [u8], journal: &[u8], used: usize) {
-    let record = journal::newest(journal, used);
+// Four bytes of the journal behind those in use; 00 past its end.
+fn put_behind(out: &mut [u8], journal: &[u8], bytes: usize) {
+    if bytes < journal.len() {
+        put_view(out, 76, &journal[bytes..], 0);
+    }
+}
+
+// The newest record; where the part handed back is empty, and past its end, hyphens stay.
+fn put_record(out: &mut [u8], journal: &[u8], records: usize, bytes: usize) {
+    let record = journal::newest(journal, records, bytes);
     let n = record.len();
     let mut i = 0;
     while i < RECORD && i < n {
-        put_byte(out, 59 + 2 * i, byte_of(record, i));
+        put_byte(out, 85 + 2 * i, byte_of(record, i));
         i += 1;
     }
 }
@@ -180,8 +222,9 @@ fn put_outcome(out: &mut [u8], line: &Line, ended: Ended) {
     let devices = outcome.devices;
     let machine = twin.machine;
     put_front(out, line, answer);
-    put_used(out, twin.used as u64);
-    put_decimal(out, 28, ended.undos);
+    put_long(out, 7, twin.records as u64);
+    put_long(out, 24, twin.bytes as u64);
+    put_decimal(out, 45, ended.undos);
     put_machine(out, machine);
     put_devices(out, devices);
 }
@@ -194,12 +237,13 @@ fn printed(mem: &[u8], journal: &[u8], line: &Line, ended: Ended) -> [u8; OUT] {
     text::put(
         &mut out,
         0,
-        b"000 00 0000000000000000 0000 0000 00 0 00000000 00 0000 00 ",
+        b"000 00 0000000000000000 0000000000000000 0000 0000 00 0 00000000 00 0000 00 00000000 ",
     );
     text::put(&mut out, OUT - 1, b"\n");
     put_outcome(&mut out, line, ended);
-    put_view(&mut out, 39, mem, word_at(line, 59));
-    put_record(&mut out, journal, twin.used);
+    put_view(&mut out, 56, mem, word_at(line, 59));
+    put_behind(&mut out, journal, twin.bytes);
+    put_record(&mut out, journal, twin.records, twin.bytes);
     out
 }
 

@@ -5,6 +5,7 @@ use super::line::byte_at;
 use super::line::word_at;
 use calls::InterruptType;
 use machine::Machine;
+use machine::Wait;
 use registers::CCBits;
 use registers::Set;
 
@@ -36,9 +37,7 @@ pub fn machine(line: &Line, at: usize, pc: u16) -> Machine
     requires { ⌜ at ≤ 6 ⌝ }
 {
     let regs = registers(line, at, pc);
-    let mut machine = Machine::fresh();
-    machine.regs = regs;
-    machine
+    Machine::fresh().with_registers(regs, Wait::Running)
 }
 
 // A byte put raw into memory, if memory is long enough.
@@ -51,7 +50,7 @@ fn put_one(mem: &mut [u8], at: u16, byte: u8) {
 
 // Bytes of the line.
 fn put(mem: &mut [u8], at: u16, line: &Line, from: usize, count: usize)
-    requires { ⌜ from + 2 * count ≤ 117 ⌝ }
+    requires { ⌜ from + 2 * count ≤ 134 ⌝ }
 {
     let mut place = at;
     let mut i = 0;

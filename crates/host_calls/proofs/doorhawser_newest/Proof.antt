@@ -1,18 +1,20 @@
--- None, past the end, there.
+-- None, or up to the end of the bytes used.
 -- Assumes nothing.
 use borrow.Author.Needs.{needs}
-use Rattle.host_calls.proofs.Newest.{none-used, beyond, whole}
+use mathlib.Core.Path.{ap}
+use lib.ListN.{length}
+use Rattle.host_calls.proofs.Newest.{no-part, a-part}
 use Rattle.host_calls.proofs.doorhawser_newest.Statement.{statement}
 use Rattle.host_calls.proofs.doorhawser_newest.Tie as tie
 
 returns : tie.Need-returns
-returns c = none-used _ _ (c .if1 .taken)
+returns c = no-part _ _ _ _ (ap length (c .before .newest .ensures .0)) (c .if1 .taken)
+
+sub-at : tie.Need-sub-t10
+sub-at c = a-part _ _ _ _ (ap length (c .before .newest .ensures .0)) (c .if1 .left) .0
 
 returns-2 : tie.Need-returns-2
-returns-2 c = beyond _ _ (c .before .if1 .left) (c .if2 .taken)
-
-returns-3 : tie.Need-returns-3
-returns-3 c = whole _ _ (c .before .if1 .left) (c .if2 .left)
+returns-2 c = a-part _ _ _ _ (ap length (c .before .newest .ensures .0)) (c .if1 .left) .1
 
 pub doorhawser-newest-spec : {M : Type 1} → statement M
-doorhawser-newest-spec = tie.close (tie.spec returns returns-2 (search needs) (search needs) returns-3)
+doorhawser-newest-spec = tie.close (tie.spec (search needs) returns sub-at returns-2)

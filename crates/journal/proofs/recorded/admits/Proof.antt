@@ -1,7 +1,8 @@
--- `admits` meets its contract.
+-- Test by test.
 -- Assumes nothing.
-use Rattle.journal.proofs.Answers.{short-memory, short-journal, early-refused, room, full}
 use borrow.Author.Needs.{needs}
+use native.Mathlib.Omega.{arith}
+use Rattle.journal.proofs.Answers.{short-memory, short-journal, most-counted, admits-all}
 use Rattle.journal.proofs.recorded.admits.Statement.{statement}
 use Rattle.journal.proofs.recorded.admits.Tie as tie
 
@@ -12,15 +13,12 @@ returns-2 : tie.Need-returns-2
 returns-2 c = short-journal _ _ _ _ (c .before .if1 .left) (c .if2 .taken)
 
 returns-3 : tie.Need-returns-3
-returns-3 c = early-refused _ _ _ _ (c .before .before .before .before .if1 .left) (c .before .before .before .if2 .left) _ (c .before .early .given .1)
+returns-3 c = most-counted _ _ _ _ (c .before .before .if1 .left) (c .before .if2 .left) (omega arith)
 
 returns-4 : tie.Need-returns-4
-returns-4 c = room _ _ _ _ (c .before .before .before .before .if1 .left) (c .before .before .before .if2 .left) (c .before .enum-told .given .1) (c .if3 .taken)
-
-returns-5 : tie.Need-returns-5
-returns-5 c = full _ _ _ _ (c .before .before .before .before .if1 .left) (c .before .before .before .if2 .left) (c .before .enum-told .given .1) (c .if3 .left)
+returns-4 c = admits-all _ _ _ _ (c .before .before .if1 .left) (c .before .if2 .left) (omega arith)
 
 pub admits-spec : {M : Type 1} → statement M
 admits-spec =
     tie.close
-    (tie.spec returns returns-2 (search needs) (search needs) returns-3 returns-4 returns-5)
+    (tie.spec returns returns-2 returns-3 returns-4)

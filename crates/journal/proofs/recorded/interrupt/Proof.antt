@@ -1,39 +1,13 @@
--- `interrupt` meets its contract.
+-- The recorded call of this kind.
 -- Assumes nothing.
-use mathlib.Core.Path.{sym, _∙_}
-use Rattle.answers.specs.declared.Answer.the-variants.{Done}
-use Rattle.calls.specs.Interrupts.{interruptPlan}
-use Rattle.journal.specs.Recorded.{inHand}
-use Rattle.journal.proofs.Answers.{admitted-done, called-refused, called-done}
 use borrow.Author.Needs.{needs}
-use Rattle.journal.proofs.Typed.{typed}
 use Rattle.journal.proofs.recorded.interrupt.Statement.{statement}
 use Rattle.journal.proofs.recorded.interrupt.Tie as tie
 
-conclude-requires : tie.Need-conclude-requires
-conclude-requires c κs =
-    let h = admitted-done _ _ _ _ (sym (c .before .before .before .before .before .before .admits .ensures) ∙ c .before .before .before .before .enum-told .given .1) in
-    (h .size, h .space)
-
 returns : tie.Need-returns
-returns c =
-    let a = c .before .before .before .before .before .before .before .before .args in
-    let s = inHand (a .mem .now) (a .journal .now) (a .twin) in (
-      called-refused Done (a .settings) (interruptPlan (a .mem .now) (a .twin .machine) (a .settings) (a .which)) s _ (c .refused .result)
-          (sym (c .before .before .before .before .admits .ensures) ∙ c .before .before .refusal .given .1) (c .refused .ensures),
-      typed (a .mem .now) (a .journal .now) (a .twin) _ (c .before .before .before .before .before .before .before .before .good .1 .1 .0) (λ i. c .before .before .before .before .before .before .before .slice-known .given i .fits),
-    )
-
-returns-2 : tie.Need-returns-2
-returns-2 c =
-    let a = c .before .before .before .before .before .before .before .before .before .before .before .before .before .before .before .args in
-    let s = inHand (a .mem .now) (a .journal .now) (a .twin) in (
-      called-done Done (a .settings) (interruptPlan (a .mem .now) (a .twin .machine) (a .settings) (a .which)) s _ _ _
-          (sym (c .before .before .before .before .before .before .before .before .before .before .before .admits .ensures) ∙ c .before .before .before .before .before .before .before .before .before .enum-told .given .1) (rw (c .before .before .before .before .before .before .before .plan-interrupt .ensures) at (c .before .before .before .before .conclude .ensures)),
-      typed (a .mem .now) (a .journal .now) (a .twin) _ (c .before .before .before .before .before .before .before .before .before .before .before .before .before .before .before .good .1 .1 .0) (λ i. c .before .before .before .before .before .before .before .before .before .before .before .before .before .before .slice-known .given i .fits),
-    )
+returns c = c .before .before .before .before .call .ensures
 
 pub interrupt-spec : {M : Type 1} → statement M
 interrupt-spec =
     tie.close
-    (tie.spec (search needs) (search needs) (search needs) (search needs) (search needs) conclude-requires returns (search needs) (search needs) returns-2)
+    (tie.spec (search needs) (search needs) (search needs) returns)

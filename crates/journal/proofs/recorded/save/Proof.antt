@@ -1,13 +1,24 @@
 -- `save` meets its contract.
 -- Assumes nothing.
-use mathlib.Core.Path.{refl, sym, _∙_}
+use mathlib.Core.Path.{_≡_, refl, sym, _∙_}
 use native.Mathlib.Nat.{add-zero}
 use native.Mathlib.Omega.{arith}
+use lib.ListN.{length}
+use Rattle.memory.specs.Map.{landingOf}
 use Rattle.journal.specs.Record.{entries}
+use Rattle.journal.specs.Recorded.{savedAt}
 use Rattle.machine.proofs.Header.{two}
 use borrow.Author.Needs.{needs}
 use Rattle.journal.proofs.recorded.save.Statement.{statement}
 use Rattle.journal.proofs.recorded.save.Tie as tie
+
+-- the entry is laid where it is stored
+lay-requires : tie.Need-lay-requires
+lay-requires c κs =
+    let a = c .before .before .before .before .before .before .before .before .before .args in
+    let e = sym (c .before .before .before .before .before .before .lands .ensures) ∙ c .before .before .before .before .p .given .1 in
+    let n : length (savedAt (a .mem .now) (landingOf (a .one .at) (a .ram-top) (a .one .system))) ≡ 1 = rw e in
+    omega (arith, c .before .before .before .before .before .before .before .before .before .pre .1 .0, n)
 
 returns : tie.Need-returns
 unfolding entries
@@ -26,4 +37,4 @@ returns-3 c = let e = sym (c .before .before .lands .ensures) ∙ c .enum-told2 
 pub save-spec : {M : Type 1} → statement M
 save-spec =
     tie.close
-    (tie.spec (search needs) (search needs) (search needs) (search needs) (search needs) (search needs) (search needs) (search needs) (search needs) (search needs) (search needs) (search needs) (search needs) (search needs) returns returns-2 returns-3)
+    (tie.spec (search needs) (search needs) (search needs) (search needs) (search needs) (search needs) (search needs) (search needs) (search needs) lay-requires (search needs) (search needs) (search needs) (search needs) returns returns-2 returns-3)

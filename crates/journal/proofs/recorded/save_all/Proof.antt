@@ -1,7 +1,7 @@
--- `save_all` meets its contract.
+-- After i turns the entries of the first i writes are laid.
 -- Assumes nothing.
 use borrow.Author.Tests.{ltb-true, ltb-false}
-use Prim.Native.Nat.{_≤_, _<_, _-_}
+use Prim.Native.Nat.{_+_, _≤_, _<_, _-_}
 use mathlib.Core.Path.{_≡_, refl, _∙_}
 use mathlib.Core.Logic.{inl, inr}
 use native.Mathlib.Omega.{arith}
@@ -10,7 +10,7 @@ use Rattle.memory.proofs.Folds.{all-taken}
 use lib.Seq.{sets}
 use Rattle.journal.specs.Record.{entries, mostStored, entriesAt}
 use Rattle.journal.specs.Recorded.{savedFor}
-use Rattle.journal.proofs.Laying.{saved-twelve, turn-count, turn-laid}
+use Rattle.journal.proofs.Laying.{saved-twelve, save-fits, turn-count, turn-laid}
 use Rattle.journal.proofs.recorded.save_all.Statement.{statement}
 use Rattle.journal.proofs.recorded.save_all.Tie as tie
 
@@ -45,7 +45,11 @@ save-requires : tie.Need-save-requires Inv-loop μ-loop
 save-requires c κs =
     let l = c .before .before .before .before .loop in
     let a = c .before .before .before .before .before .before .before .before .args in
-    omega (arith, l .inv, saved-twelve (a .ram-top) (a .writes .list) (l .i) (a .mem .now) (l .inv .1 .0) (omega arith), c .before .before .before .before .before .before .before .before .pre)
+    let p = c .before .before .before .before .before .before .before .before .pre in
+    let t : l .i < mostStored = omega arith in
+    let u : l .i + 1 ≤ a .writes .count = omega (arith, ltb-true, c .before .before) in
+    let s = saved-twelve (a .ram-top) (a .writes .list) (l .i) (a .mem .now) (l .inv .1 .0) (omega arith) in
+    (omega (arith, s, l .inv .1 .1 .1 .0), (save-fits (a .ram-top) (a .writes .list) (l .i) _ (l .inv .1 .0) t (a .mem .now) (l .n) (a .writes .count) _ (l .inv .1 .1 .1 .0) u (omega (arith, p .0, l .inv .1 .1 .0)), p .1))
 
 add-i : tie.Need-add-i Inv-loop μ-loop
 add-i c = omega arith
@@ -78,10 +82,9 @@ same-length c = c .before .before .loop .inv .1 .1 .0
 returns : tie.Need-returns Inv-loop μ-loop
 returns c =
     let w = c .before .before .before .before .before .before .args .writes in
-    let a = c .before .before .before .before .before .before .args in
     let l = c .before .before .loop in
     let e = all-taken (w .list) (l .i) (w .count) (l .inv .1 .0) (l .inv .0) (inl (ltb-false _ _ (c .if1 .left))) in
-    rw (← e) (l .inv .1 .1 .1 .0, (omega (arith, l .inv .1 .1 .1 .0, saved-twelve (a .ram-top) (a .writes .list) (l .i) (a .mem .now) (l .inv .1 .0) (l .inv .0 .0)), l .inv .1 .1 .1 .1))
+    rw (← e) (l .inv .1 .1 .1 .1)
 
 same-length-2 : tie.Need-same-length-2 Inv-loop μ-loop
 same-length-2 c = c .before .loop .inv .1 .1 .0
@@ -89,10 +92,9 @@ same-length-2 c = c .before .loop .inv .1 .1 .0
 returns-2 : tie.Need-returns-2 Inv-loop μ-loop
 returns-2 c =
     let w = c .before .before .before .before .before .args .writes in
-    let a = c .before .before .before .before .before .args in
     let l = c .before .loop in
     let e = all-taken (w .list) (l .i) (w .count) (l .inv .1 .0) (l .inv .0) (inr (c .loop-test .left)) in
-    rw (← e) (l .inv .1 .1 .1 .0, (omega (arith, l .inv .1 .1 .1 .0, saved-twelve (a .ram-top) (a .writes .list) (l .i) (a .mem .now) (l .inv .1 .0) (l .inv .0 .0)), l .inv .1 .1 .1 .1))
+    rw (← e) (l .inv .1 .1 .1 .1)
 
 pub save-all-spec : {M : Type 1} → statement M
 save-all-spec =

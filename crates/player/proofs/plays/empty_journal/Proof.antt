@@ -1,4 +1,4 @@
--- The array is `zeros`: 960 records of the code are 960 of the definition.
+-- The array is `zeros`, as long as the definition says.
 -- Assumes nothing.
 use mathlib.Core.Path.{refl}
 use Rattle.player.specs.Plays.{zeros}

@@ -6,10 +6,10 @@ use Rattle.scenes.proofs.line.has_shape.Statement.{statement}
 use Rattle.scenes.proofs.line.has_shape.Tie as tie
 
 abbrev Inv-loop : tie.InvT-loop
-Inv-loop line shape good₀ i₀ good i = i ≤ 117
+Inv-loop line shape good₀ i₀ good i = i ≤ 134
 
 abbrev μ-loop : tie.MeasureT-loop
-μ-loop line shape good₀ i₀ good i = 117 - i
+μ-loop line shape good₀ i₀ good i = 134 - i
 
 pub has-shape-spec : {M : Type 1} → statement M
 has-shape-spec =

@@ -8,10 +8,10 @@ use Rattle.scenes.proofs.scene.put_record.Statement.{statement}
 use Rattle.scenes.proofs.scene.put_record.Tie as tie
 
 abbrev Inv-loop : tie.InvT-loop
-Inv-loop out₀ journal used «record» n i₀ out i = (length out ≡ length out₀) × (i ≤ 68)
+Inv-loop out₀ journal records bytes «record» n i₀ out i = (length out ≡ length out₀) × (i ≤ 70)
 
 abbrev μ-loop : tie.MeasureT-loop
-μ-loop out₀ journal used «record» n i₀ out i = 68 - i
+μ-loop out₀ journal records bytes «record» n i₀ out i = 70 - i
 
 pub put-record-spec : {M : Type 1} → statement M
 put-record-spec =

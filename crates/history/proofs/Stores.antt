@@ -16,11 +16,10 @@ use Rattle.memory.proofs.Folds.{length-stored}
 use Rattle.memory.proofs.Places.{stored-below}
 use Rattle.memory.specs.Fits.{Bytes, AllFit}
 use Rattle.memory.proofs.Fits.{bytes-set}
-use Rattle.journal.specs.Record.{Saved}
+use Rattle.journal.specs.Record.{All, Saved, SavedFits}
 use Rattle.journal.specs.Recorded.{savedAt, savedFor}
 use Rattle.journal.specs.Undos.{putBack}
-use Rattle.journal.specs.Sequence.{Window, Same, All}
-use Rattle.journal.proofs.Reading.{SavedFits}
+use Rattle.history.specs.Sequence.{Window, Same}
 
 pub length-putBack : (m : List ℕ) (es : List Saved) → length (putBack m es) ≡ length m
 unfolding putBack

@@ -1,0 +1,19 @@
+-- Each call has its own plan.
+-- Assumes nothing.
+use borrow.Author.Needs.{needs}
+use Rattle.journal.proofs.recorded.plan.Statement.{statement}
+use Rattle.journal.proofs.recorded.plan.Tie as tie
+
+returns : tie.Need-returns
+returns c = rw (c .before .enum-told .given .1) (c .plan-step .ensures)
+
+returns-2 : tie.Need-returns-2
+returns-2 c = rw (c .before .before .which .given .1) (c .plan-interrupt .ensures)
+
+returns-3 : tie.Need-returns-3
+returns-3 c = rw (c .before .enum-told2 .given .1) (c .plan-reset .ensures)
+
+pub plan-spec : {M : Type 1} → statement M
+plan-spec =
+    tie.close
+    (tie.spec (search needs) (search needs) (search needs) (search needs) (search needs) (search needs) returns returns-2 returns-3)
