@@ -244,13 +244,27 @@ fn decide_memory(op: MemoryOp, settings: Settings, mem: &[u8], regs: Set, ea: u1
     }
 }
 
+// The whole value anew, not two fields of it: then the compiler keeps each field by itself.
 fn bill(decision: Decision, cycles: u16, arms: bool) -> Decision
     ensures { λ r. ⌜ r ≡ billed decision cycles arms ⌝ }
 {
-    let mut after = decision;
-    after.cycles = cycles;
-    after.arms = arms;
-    after
+    let own = decision.own;
+    let refusal = decision.refusal;
+    let op = decision.op;
+    let kind = decision.kind;
+    let regs = decision.regs;
+    Decision {
+        regs,
+        cycles,
+        at: decision.at,
+        value: decision.value,
+        mask: decision.mask,
+        arms,
+        own,
+        refusal,
+        op,
+        kind,
+    }
 }
 
 // The operation. `extra` is the operand's, known before the address is found.

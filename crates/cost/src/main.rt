@@ -1,39 +1,33 @@
 // Runs a loop so many recorded steps, so that what they execute can be counted (`tools/bench`, docs/PERFORMANCE.md). The letter of its
-// input is R for steps that stay, B for steps that are each taken back. The journal is emptied after every 10,000 steps. It prints the low
-// bytes of cycles and of the count of records.
+// input is R for steps that stay, B for steps that are each taken back. It prints the low bytes of cycles and of the count of records.
 use costing::Memory;
 use journal::Twin;
 use libc::STDIN_FILENO;
 use libc::STDOUT_FILENO;
-use machine::Machine;
+use machine::Settings;
 
-const BATCH: u32 = 10000;
-
-// 70 bytes for each step of a batch: no record is longer.
+// 70 bytes for each of 10,000 steps: no record is longer.
 const ROOM: usize = 700_000;
 
 type Journal = [u8; ROOM];
 
-// A twin with an empty journal.
-fn emptied(machine: Machine) -> Twin {
+fn settings() -> Settings {
+    costing::settings()
+}
+
+fn start() -> Twin {
+    let machine = costing::start();
     let mut twin = Twin::fresh();
     twin.machine = machine;
     twin
 }
 
-// Recorded steps on an empty journal, each taken back at once if `back`.
-fn batch(
-    mem: &mut Memory,
-    journal: &mut Journal,
-    machine: Machine,
-    count: u32,
-    back: bool,
-) -> Twin {
-    let settings = costing::settings();
-    let mut twin = emptied(machine);
+// Recorded steps, each taken back at once if `back`.
+fn recorded(mem: &mut Memory, journal: &mut Journal, count: u32, back: bool) -> Twin {
+    let mut twin = start();
     let mut left = count;
     while left > 0 {
-        let outcome = journal::step(mem, journal, twin, settings);
+        let outcome = journal::step(mem, journal, twin, settings());
         twin = outcome.twin;
         if back {
             let undone = journal::undo(mem, journal, twin);
@@ -44,26 +38,9 @@ fn batch(
     twin
 }
 
-fn recorded(
-    mem: &mut Memory,
-    journal: &mut Journal,
-    machine: Machine,
-    count: u32,
-    back: bool,
-) -> Twin {
-    let mut twin = emptied(machine);
-    let mut left = count;
-    while left > 0 {
-        let n = if left < BATCH { left } else { BATCH };
-        twin = batch(mem, journal, twin.machine, n, back);
-        left -= n;
-    }
-    twin
-}
-
-fn run(mem: &mut Memory, machine: Machine, count: u32, back: bool) -> Twin {
+fn run(mem: &mut Memory, calls: u8, count: u32) -> Twin {
     let mut journal = [0u8; ROOM];
-    recorded(mem, &mut journal, machine, count, back)
+    recorded(mem, &mut journal, count, calls == b'B')
 }
 
 fn write(out: &[u8; 4]) -> bool {
@@ -77,11 +54,6 @@ fn main() {
     let _ = io::read_full(STDIN_FILENO, &mut code);
     let mut mem = [0u8; costing::BYTES];
     costing::fill(&mut mem, &code);
-    let twin = run(
-        &mut mem,
-        costing::start(),
-        costing::count_of(head),
-        head[0] == b'B',
-    );
+    let twin = run(&mut mem, head[0], costing::count_of(head));
     let _ = write(&costing::report(twin.machine, twin.records));
 }

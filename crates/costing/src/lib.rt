@@ -51,10 +51,14 @@ pub fn fill(mem: &mut Memory, code: &Loop) {
     }
 }
 
+fn word(high: u8, low: u8) -> u16 {
+    high as u16 * 256 + low as u16
+}
+
 pub fn count_of(head: Head) -> u32 {
-    let high = head[1] as u32 * 256 + head[2] as u32;
-    let low = head[3] as u32 * 256 + head[4] as u32;
-    high * 0x1_0000 + low
+    let high = word(head[1], head[2]);
+    let low = word(head[3], head[4]);
+    high as u32 * 0x1_0000 + low as u32
 }
 
 // The low bytes of cycles and of the count of records.
