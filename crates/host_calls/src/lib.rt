@@ -169,10 +169,8 @@ pub extern "C" fn doorhawser_newest(journal: &[u8], records: usize, bytes: usize
     if size == 0 {
         return HostPart { at: 0, count: 0 };
     }
-    HostPart {
-        at: bytes - size,
-        count: size,
-    }
+    let at = bytes - size;
+    HostPart { at, count: size }
 }
 
 // An S-record file is laid in memory.

@@ -34,7 +34,7 @@ enum Wanted {
     Undo,
 }
 
-fn wanted(operation: Operation) -> Wanted
+fn wanted_by(operation: Operation) -> Wanted
     ensures { λ r. ⌜ r ≡ wantedBy operation ⌝ }
 {
     match operation {
@@ -53,7 +53,7 @@ struct Shown {
     answer: Answer,
 }
 
-fn shown(outcome: Outcome) -> Shown
+fn shown_of(outcome: Outcome) -> Shown
     ensures { λ r. ⌜ r ≡ shownOf outcome ⌝ }
 {
     let twin = outcome.twin;
@@ -71,9 +71,9 @@ fn act(
 ) -> Shown
     ensures { λ r. ⌜ LeavesShown r (now (mem .exit)) (now (journal .exit)) (acted settings operation (inHand (now (mem .entry)) (now (journal .entry)) twin)) ⌝ }
 {
-    match wanted(operation) {
-        Wanted::Call(which) => shown(journal::call(mem, journal, twin, settings, which)),
-        Wanted::Undo => shown(journal::undo(mem, journal, twin)),
+    match wanted_by(operation) {
+        Wanted::Call(which) => shown_of(journal::call(mem, journal, twin, settings, which)),
+        Wanted::Undo => shown_of(journal::undo(mem, journal, twin)),
     }
 }
 

@@ -10,7 +10,7 @@ use Rattle.host_calls.proofs.doorhawser_newest.Tie as tie
 returns : tie.Need-returns
 returns c = no-part _ _ _ _ (ap length (c .before .newest .ensures .0)) (c .if1 .taken)
 
-sub-at : tie.Need-sub-t10
+sub-at : tie.Need-sub-at
 sub-at c = a-part _ _ _ _ (ap length (c .before .newest .ensures .0)) (c .if1 .left) .0
 
 returns-2 : tie.Need-returns-2

@@ -19,7 +19,7 @@ returns c = many-entries (c .before .before .before .args .r .now) (c .if1 .take
 
 returns-2 : tie.Need-returns-2
 unfolding countOf waitAt markAt
-returns-2 c = few-entries (c .before .before .before .before .before .args .r .now) _ (c .before .before .if1 .left) (c .before .record-length .ensures)
+returns-2 c = few-entries (c .before .before .before .before .before .before .args .r .now) _ (c .before .before .before .if1 .left) (c .before .before .record-length .ensures)
 
 pub is-record-spec : {M : Type 1} → statement M
 is-record-spec =

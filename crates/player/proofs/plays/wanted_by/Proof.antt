@@ -1,8 +1,8 @@
 -- Each operation is the recorded call of its name.
 -- Assumes nothing.
 use borrow.Author.Needs.{needs}
-use Rattle.player.proofs.plays.wanted.Statement.{statement}
-use Rattle.player.proofs.plays.wanted.Tie as tie
+use Rattle.player.proofs.plays.wanted_by.Statement.{statement}
+use Rattle.player.proofs.plays.wanted_by.Tie as tie
 
 returns : tie.Need-returns
 returns c = rw (c .enum-told .given .1)
@@ -22,7 +22,7 @@ returns-5 c = rw (c .enum-told5 .given .1)
 returns-6 : tie.Need-returns-6
 returns-6 c = rw (c .enum-told6 .given .1)
 
-pub wanted-spec : {M : Type 1} → statement M
-wanted-spec =
+pub wanted-by-spec : {M : Type 1} → statement M
+wanted-by-spec =
     tie.close
     (tie.spec (search needs) (search needs) (search needs) (search needs) (search needs) (search needs) returns returns-2 returns-3 returns-4 returns-5 returns-6)
