@@ -1,3 +1,5 @@
+pub mod PlainWrites
+pub mod Decided
 pub mod Laws
 pub mod Accepted
 pub mod Room

@@ -1,5 +1,6 @@
 pub mod Plans
 pub mod Steps
+pub mod Decisions
 pub mod Interrupts
 pub mod Resets
 pub mod Calls

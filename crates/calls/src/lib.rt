@@ -1,7 +1,9 @@
 // The calls on a machine: step, interrupt and reset (exec_next, start_interrupt, stack_for_interrupt and reset of runtime.rs).
 // Each call makes a plan first, which reads memory and changes nothing, so that a refusal has nothing to take back. Then the plan is
 // carried out.
+mod decisions;
 mod interrupts;
+mod plain;
 mod plans;
 mod resets;
 mod steps;

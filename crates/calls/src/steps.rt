@@ -1,35 +1,35 @@
-// One step: decode the instruction, find its address, evaluate it, store its writes.
+// One step: what it does is decided first, and then done.
 ghost use mathlib.Core.Path.{_≡_};
+ghost use mathlib.Core.Bool.{false};
+ghost use Prim.Native.Nat.{_≤_};
+ghost use lib.ListN.{length};
+ghost use Rattle.registers.specs.Names.{stackWord};
+ghost use Rattle.registers.specs.RegisterSet.{wordOf};
 ghost use Rattle.machine.specs.Effect.{changes};
-ghost use Prim.Native.Nat.{_+_};
-ghost use Rattle.decode.specs.declared.instruction.Decoded.the-variants.{Instruction as Decodes};
-ghost use Rattle.evaluate.specs.Arming.{arms};
-ghost use Rattle.evaluate.specs.Evaluate.{evaluateOf};
-ghost use Rattle.memory.specs.Map.{byteAt};
-ghost use Rattle.cycles.specs.Cycles.{operationExtra};
-ghost use Rattle.calls.specs.Steps.{afterInstruction, finished, ofDecoded, decodedTo, planned, stepPlan, stepOf, memoryAfterStep};
+ghost use Rattle.stack.specs.Pushing.{bytesPushed, pushed};
+ghost use Rattle.evaluate.specs.Evaluate.{memoryOf};
+ghost use Rattle.calls.specs.Plans.{refusedWith, carriedOut, memoryWith};
+ghost use Rattle.calls.specs.Steps.{afterInstruction, finished, decodedTo, planned, stepPlan, stepOf, memoryAfterStep};
+ghost use Rattle.calls.specs.Decisions.{planTold, Plain};
 use super::Plan;
 use super::Report;
+use super::decisions::Decision;
+use super::decisions::Kind;
+use super::decisions::decide;
+use super::plain;
 use super::plans::carry_out;
 use super::plans::refused;
-use addressing::Resolved;
 use answers::Answer;
 use answers::Refusal;
-use cycles::cost;
-use cycles::memory_extra;
-use cycles::operand_extra;
-use cycles::registers_extra;
-use decode::Decoded;
-use decode::Instruction;
 use machine::Effect;
 use machine::Machine;
 use machine::Settings;
 use machine::Wait;
+use memory::Write;
 use memory::Writes;
-use opcodes::Entry;
-use opcodes::Op;
-use operations::Changed;
+use opcodes::MemoryOp;
 use registers::Set;
+use registers::Stack;
 
 // An instruction that is carried out counts once, and its cycles are added; once NMI is armed, it stays so.
 fn advance(machine: Machine, cycles: u16, arms: bool, regs: Set, wait: Wait) -> Machine
@@ -72,63 +72,54 @@ fn finish(machine: Machine, cycles: u16, arms: bool, effect: Effect) -> Plan
     }
 }
 
-// The operation. `extra` is the operand's, known before the address is found.
-fn operate(
-    mem: &[u8],
-    machine: Machine,
-    settings: Settings,
-    entry: Entry,
-    extra: u8,
-    regs: Set,
-    ea: u16,
-) -> Plan
-    ensures { λ r. ⌜ r ≡ finished machine (entry .cycles + (extra + operationExtra (entry .op) (entry .mode) (now (mem .entry)) regs ea)) (arms (entry .op) (byteAt (now (mem .entry)) ea)) (evaluateOf (entry .op) settings (now (mem .entry)) regs ea) ⌝ }
+// The list of writes of what was decided.
+fn plan_of(mem: &[u8], machine: Machine, settings: Settings, decision: Decision) -> Plan
+    requires { ⌜ Plain (settings .«ram_top») decision ⌝ }
+    ensures { λ r. ⌜ r ≡ planTold machine settings (now (mem .entry)) decision ⌝ }
 {
-    let op = entry.op;
-    let mode = entry.mode;
-    let flags = settings.flags;
-    match op {
-        Op::Registers(on) => {
-            let cycles = cost(entry.cycles, extra, registers_extra(on, mode, regs.cc));
-            let arms = evaluate::registers_arm(on, mem, ea);
-            match operations::change(on, flags, mem, regs, ea) {
-                Changed::After(after) => change(machine, cycles, arms, after),
-                Changed::Refused(refusal) => refused(machine, refusal),
-            }
+    let kind = decision.kind;
+    let cycles = decision.cycles;
+    let arms = decision.arms;
+    let regs = decision.regs;
+    let at = decision.at;
+    match kind {
+        Kind::Refused => {
+            let refusal = decision.refusal;
+            refused(machine, refusal)
         }
-        Op::Memory(on) => {
-            let cycles = cost(entry.cycles, extra, memory_extra(on, mem, regs, ea));
-            let arms = evaluate::memory_arms(on, mem, ea);
-            let effect = evaluate::evaluate_memory(on, settings, mem, regs, ea);
+        Kind::Change => change(machine, cycles, arms, regs),
+        Kind::Byte => {
+            let one = Write {
+                at,
+                byte: (decision.value % 256) as u8,
+                system: false,
+            };
+            let writes = Writes::none().add(one);
+            finish(machine, cycles, arms, Effect::stores(regs, writes))
+        }
+        Kind::Word => {
+            let writes = Writes::none().add_word(at, decision.value, false);
+            finish(machine, cycles, arms, Effect::stores(regs, writes))
+        }
+        Kind::Push => {
+            let own = decision.own;
+            let effect = stack::push(regs, own, decision.mask, false);
+            finish(machine, cycles, arms, effect)
+        }
+        Kind::Rest => {
+            let op = decision.op;
+            let effect = evaluate::evaluate_memory(op, settings, mem, regs, at);
             finish(machine, cycles, arms, effect)
         }
     }
 }
 
-fn execute(mem: &[u8], machine: Machine, settings: Settings, instruction: Instruction) -> Plan
-    ensures { λ r. ⌜ r ≡ planned (now (mem .entry)) machine settings (ofDecoded (now (mem .entry)) (machine .regs) (Decodes instruction)) ⌝ }
-{
-    let entry = instruction.entry;
-    let operand = instruction.operand;
-    let extra = operand_extra(operand);
-    match addressing::resolve(mem, machine.regs, operand, instruction.next) {
-        Resolved::Refused(refusal) => refused(machine, refusal),
-        Resolved::At(found) => {
-            let after = found.regs;
-            operate(mem, machine, settings, entry, extra, after, found.ea)
-        }
-    }
-}
-
 // A machine that is running.
-fn run(mem: &[u8], machine: Machine, settings: Settings) -> Plan
+fn plan_running(mem: &[u8], machine: Machine, settings: Settings) -> Plan
     ensures { λ r. ⌜ r ≡ planned (now (mem .entry)) machine settings (decodedTo (now (mem .entry)) (machine .regs)) ⌝ }
 {
-    let regs = machine.regs;
-    match decode::decode(mem, regs.pc) {
-        Decoded::Refused(refusal) => refused(machine, refusal),
-        Decoded::Instruction(instruction) => execute(mem, machine, settings, instruction),
-    }
+    let decision = decide(mem, machine, settings);
+    plan_of(mem, machine, settings, decision)
 }
 
 // What a step will do: 1 by the memory's length, 2 while waiting, then as the instruction meets them.
@@ -140,15 +131,123 @@ pub fn plan_step(mem: &[u8], machine: Machine, settings: Settings) -> Plan
     }
     let wait = machine.wait;
     match wait {
-        Wait::Running => run(mem, machine, settings),
+        Wait::Running => plan_running(mem, machine, settings),
         Wait::Cwai => refused(machine, Refusal::Waiting),
         Wait::Sync => refused(machine, Refusal::Waiting),
     }
 }
 
+// A step that is done, whose writes, if it has some, met no device.
+fn did(machine: Machine, cycles: u16, arms: bool, regs: Set) -> Report
+    ensures { λ r. ⌜ ((s : Settings) → r ≡ carriedOut s (finished machine cycles arms (changes regs))) ⌝ }
+{
+    Report {
+        devices: Writes::none(),
+        machine: advance(machine, cycles, arms, regs, Wait::Running),
+        answer: Answer::Done,
+    }
+}
+
+fn refuse(machine: Machine, refusal: Refusal) -> Report
+    ensures { λ r. ⌜ ((s : Settings) → r ≡ carriedOut s (refusedWith machine refusal)) ⌝ }
+{
+    Report {
+        devices: Writes::none(),
+        machine,
+        answer: Answer::Refused(refusal),
+    }
+}
+
+// By way of the list of writes.
+fn carry_rest(
+    mem: &mut [u8],
+    machine: Machine,
+    settings: Settings,
+    cycles: u16,
+    arms: bool,
+    op: MemoryOp,
+    regs: Set,
+    ea: u16,
+) -> Report
+    ensures { λ r. ⌜ (r ≡ carriedOut settings (finished machine cycles arms (memoryOf op settings (now (mem .entry)) regs ea))) × (now (mem .exit) ≡ memoryWith settings (finished machine cycles arms (memoryOf op settings (now (mem .entry)) regs ea)) (now (mem .entry))) ⌝ }
+{
+    let effect = evaluate::evaluate_memory(op, settings, mem, regs, ea);
+    let plan = finish(machine, cycles, arms, effect);
+    carry_out(mem, settings, plan)
+}
+
+// The registers of a post-byte are stored, and the pointer in use is lowered.
+fn carry_push(
+    mem: &mut [u8],
+    machine: Machine,
+    cycles: u16,
+    arms: bool,
+    regs: Set,
+    own: Stack,
+    mask: u8,
+) -> Report
+    requires { ⌜ (length (now mem) ≡ 65536) × ((wordOf regs (stackWord own) ≤ 0xFF00) × (bytesPushed mask ≤ wordOf regs (stackWord own))) ⌝ }
+    ensures { λ r. ⌜ ((s : Settings) → wordOf regs (stackWord own) ≤ s .«ram_top» → (r ≡ carriedOut s (finished machine cycles arms (pushed regs own mask false))) × (now (mem .exit) ≡ memoryWith s (finished machine cycles arms (pushed regs own mask false)) (now (mem .entry)))) ⌝ }
+{
+    let word = own.word();
+    let pointer = plain::push(mem, regs, own, regs.word(word), mask);
+    did(machine, cycles, arms, regs.with_word(word, pointer))
+}
+
+// What was decided is done: the machine after it, and memory.
+fn carry(mem: &mut [u8], machine: Machine, settings: Settings, decision: Decision) -> Report
+    requires { ⌜ (length (now mem) ≡ 65536) × Plain (settings .«ram_top») decision ⌝ }
+    ensures { λ r. ⌜ (r ≡ carriedOut settings (planTold machine settings (now (mem .entry)) decision)) × (now (mem .exit) ≡ memoryWith settings (planTold machine settings (now (mem .entry)) decision) (now (mem .entry))) ⌝ }
+{
+    let kind = decision.kind;
+    let cycles = decision.cycles;
+    let arms = decision.arms;
+    let regs = decision.regs;
+    let at = decision.at;
+    match kind {
+        Kind::Refused => {
+            let refusal = decision.refusal;
+            refuse(machine, refusal)
+        }
+        Kind::Change => did(machine, cycles, arms, regs),
+        Kind::Byte => {
+            plain::put_byte(mem, at, (decision.value % 256) as u8);
+            did(machine, cycles, arms, regs)
+        }
+        Kind::Word => {
+            plain::put_word(mem, at, decision.value);
+            did(machine, cycles, arms, regs)
+        }
+        Kind::Push => {
+            let own = decision.own;
+            carry_push(mem, machine, cycles, arms, regs, own, decision.mask)
+        }
+        Kind::Rest => {
+            let op = decision.op;
+            carry_rest(mem, machine, settings, cycles, arms, op, regs, at)
+        }
+    }
+}
+
+// A machine that is running.
+fn step_running(mem: &mut [u8], machine: Machine, settings: Settings) -> Report
+    requires { ⌜ length (now mem) ≡ 65536 ⌝ }
+    ensures { λ r. ⌜ (r ≡ carriedOut settings (planned (now (mem .entry)) machine settings (decodedTo (now (mem .entry)) (machine .regs)))) × (now (mem .exit) ≡ memoryWith settings (planned (now (mem .entry)) machine settings (decodedTo (now (mem .entry)) (machine .regs))) (now (mem .entry))) ⌝ }
+{
+    let decision = decide(mem, machine, settings);
+    carry(mem, machine, settings, decision)
+}
+
 pub fn step(mem: &mut [u8], machine: Machine, settings: Settings) -> Report
     ensures { λ r. ⌜ (r ≡ stepOf (now (mem .entry)) machine settings) × (now (mem .exit) ≡ memoryAfterStep (now (mem .entry)) machine settings) ⌝ }
 {
-    let plan = plan_step(mem, machine, settings);
-    carry_out(mem, settings, plan)
+    if mem.len() != 65536 {
+        return refuse(machine, Refusal::MemoryLength);
+    }
+    let wait = machine.wait;
+    match wait {
+        Wait::Running => step_running(mem, machine, settings),
+        Wait::Cwai => refuse(machine, Refusal::Waiting),
+        Wait::Sync => refuse(machine, Refusal::Waiting),
+    }
 }

@@ -1,48 +1,29 @@
-// Runs an instruction so many times, so that what it executes can be counted (docs/PERFORMANCE.md). Standard input has four
-// bytes: which code, R for recorded steps or B for steps that are taken back, and the count, high byte first. It prints the low
-// bytes of cycles and of the count of records.
-mod program;
-
+// Runs a loop so many recorded steps, so that what they execute can be counted (`tools/bench`, docs/PERFORMANCE.md). The letter of its
+// input is R for steps that stay, B for steps that are each taken back. It prints the low bytes of cycles and of the count of records.
+use costing::Memory;
 use journal::Twin;
 use libc::STDIN_FILENO;
 use libc::STDOUT_FILENO;
-use machine::Machine;
 use machine::Settings;
-use program::Memory;
-use registers::CCBits;
-use registers::Flags;
-use registers::Set;
 
-// As the run program's.
-const ROOM: usize = 65_280;
+// 70 bytes for each of 10,000 steps: no record is longer.
+const ROOM: usize = 700_000;
 
 type Journal = [u8; ROOM];
 
 fn settings() -> Settings {
-    Settings::new(0xFFFF, Flags::Manual)
+    costing::settings()
 }
 
 fn start() -> Twin {
-    let regs = Set {
-        x: 0x9000,
-        y: 0x9100,
-        u: 0x9200,
-        s: 0xF000,
-        pc: program::START,
-        a: 1,
-        b: 2,
-        dp: 0x90,
-        cc: CCBits::reset(),
-    };
-    let mut machine = Machine::fresh();
-    machine.regs = regs;
+    let machine = costing::start();
     let mut twin = Twin::fresh();
     twin.machine = machine;
     twin
 }
 
 // Recorded steps, each taken back at once if `back`.
-fn recorded(mem: &mut Memory, journal: &mut Journal, count: u16, back: bool) -> Twin {
+fn recorded(mem: &mut Memory, journal: &mut Journal, count: u32, back: bool) -> Twin {
     let mut twin = start();
     let mut left = count;
     while left > 0 {
@@ -57,7 +38,7 @@ fn recorded(mem: &mut Memory, journal: &mut Journal, count: u16, back: bool) -> 
     twin
 }
 
-fn run(mem: &mut Memory, calls: u8, count: u16) -> Twin {
+fn run(mem: &mut Memory, calls: u8, count: u32) -> Twin {
     let mut journal = [0u8; ROOM];
     recorded(mem, &mut journal, count, calls == b'B')
 }
@@ -66,27 +47,13 @@ fn write(out: &[u8; 4]) -> bool {
     io::write_all(STDOUT_FILENO, out)
 }
 
-fn report(twin: Twin) -> bool {
-    let machine = twin.machine;
-    write(
-        &[
-            (machine.cycles / 256 % 256) as u8,
-            (machine.cycles % 256) as u8,
-            (twin.records / 256 % 256) as u8,
-            (twin.records % 256) as u8,
-        ],
-    )
-}
-
-fn word(high: u8, low: u8) -> u16 {
-    high as u16 * 256 + low as u16
-}
-
 fn main() {
-    let mut line = [0u8; 4];
-    let _ = io::read_full(STDIN_FILENO, &mut line);
-    let mut mem = [0u8; program::BYTES];
-    program::fill(&mut mem, line[0]);
-    let twin = run(&mut mem, line[1], word(line[2], line[3]));
-    let _ = report(twin);
+    let mut head = [0u8; costing::HEAD];
+    let _ = io::read_full(STDIN_FILENO, &mut head);
+    let mut code = [0u8; costing::LOOP];
+    let _ = io::read_full(STDIN_FILENO, &mut code);
+    let mut mem = [0u8; costing::BYTES];
+    costing::fill(&mut mem, &code);
+    let twin = run(&mut mem, head[0], costing::count_of(head));
+    let _ = write(&costing::report(twin.machine, twin.records));
 }

@@ -41,3 +41,14 @@ transferable κs a x y ws vs p q = (p ∙ sym q, refl)
 
 pub transfer-name : Determines 0 transfers.transfer_name.Kinds.ps transfers.transfer_name.Kinds.r transfers.transfer_name.Reads.Post
 transfer-name κs a x y ws vs p q = (p ∙ sym q, refl)
+pub accumulator : Determines 0 eight_bit.accumulator.Kinds.ps eight_bit.accumulator.Kinds.r eight_bit.accumulator.Reads.Post
+accumulator κs a x y ws vs p q = (p ∙ sym q, refl)
+
+pub test : Determines 0 eight_bit.test.Kinds.ps eight_bit.test.Kinds.r eight_bit.test.Reads.Post
+test κs a x y ws vs p q = (p ∙ sym q, refl)
+
+pub unary : Determines 0 eight_bit.unary.Kinds.ps eight_bit.unary.Kinds.r eight_bit.unary.Reads.Post
+unary κs a x y ws vs p q = (p ∙ sym q, refl)
+
+pub test16 : Determines 0 words.test16.Kinds.ps words.test16.Kinds.r words.test16.Reads.Post
+test16 κs a x y ws vs p q = (p ∙ sym q, refl)

@@ -82,7 +82,7 @@ fn clear(cc: CCBits) -> Out8
     }
 }
 
-fn unary(flags: Flags, op: Unary, cc: CCBits, m: u8) -> Out8
+pub fn unary(flags: Flags, op: Unary, cc: CCBits, m: u8) -> Out8
     ensures { λ r. ⌜ r ≡ unaryOf op flags cc m ⌝ }
 {
     match op {

@@ -15,14 +15,18 @@ pub use branches::jump;
 pub use codes::and_codes;
 pub use codes::or_codes;
 pub use codes::with_codes;
+pub use eight_bit::accumulator;
 pub use eight_bit::on_memory;
 pub use eight_bit::store8;
+pub use eight_bit::test;
+pub use eight_bit::unary;
 use opcodes::RegisterOp;
 use registers::Flags;
 use registers::Set;
 pub use transfers::transfer_name;
 pub use transfers::transferable;
 pub use words::store16;
+pub use words::test16;
 
 // Result of an instruction that only changes registers. TFR and EXG alone may be refused.
 pub enum Changed {

@@ -9,7 +9,7 @@ use registers::Index;
 use registers::Set;
 use registers::Word;
 
-fn test16(regs: Set, m: u16) -> Set
+pub fn test16(regs: Set, m: u16) -> Set
     ensures { λ r. ⌜ r ≡ tested16 regs m ⌝ }
 {
     with_codes(regs, regs.cc.tst_u16(m))

@@ -23,3 +23,9 @@ return-from-interrupt κs a x y ws vs p q = (p ∙ sym q, refl)
 
 pub frame : Determines 0 frames.frame.Kinds.ps frames.frame.Kinds.r frames.frame.Reads.Post
 frame κs a x y ws vs p q = (p ∙ sym q, refl)
+
+pub pull-registers : Determines 1 pulling.pull_registers.Kinds.ps pulling.pull_registers.Kinds.r pulling.pull_registers.Reads.Post
+pull-registers κs a x y ws vs p q = (p ∙ sym q, refl)
+
+pub return-from-subroutine : Determines 1 pulling.return_from_subroutine.Kinds.ps pulling.return_from_subroutine.Kinds.r pulling.return_from_subroutine.Reads.Post
+return-from-subroutine κs a x y ws vs p q = (p ∙ sym q, refl)

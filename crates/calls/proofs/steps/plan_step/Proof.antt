@@ -12,7 +12,7 @@ returns c = rw (c .refused .ensures, ne-eqb _ 65536 (c .before .if1 .taken))
 
 returns-2 : tie.Need-returns-2
 unfolding stepPlan reached
-returns-2 c = rw (c .run .ensures, eq-eqb _ 65536 (c .before .before .before .if1 .left), c .before .enum-told .given .1)
+returns-2 c = rw (c .plan-running .ensures, eq-eqb _ 65536 (c .before .before .before .if1 .left), c .before .enum-told .given .1)
 
 returns-3 : tie.Need-returns-3
 unfolding stepPlan reached

@@ -1,0 +1,132 @@
+-- What a decision stands for, kind by kind; and what it does where its writes are plain.
+-- Assumes nothing.
+use Prim.Native.Nat.{ℕ, _+_, _-_, _/_, _%_, _≤_, _<_}
+use mathlib.Core.Bool.{Bool, false, cond}
+use mathlib.Core.List.{List, [], _∷_}
+use mathlib.Core.Path.{_≡_, refl, sym, ap, subst, _∙_}
+use native.Mathlib.Omega.{arith}
+use borrow.Author.Tests.{le-ltb}
+use lib.ListN.{set}
+use Rattle.u8oru16.specs.declared.u8u16.the-variants.{u8, u16}
+use Rattle.answers.specs.declared.Answer.the-variants.{Done}
+use Rattle.registers.specs.Names.{stackWord}
+use Rattle.registers.specs.RegisterSet.{wordOf, withWord}
+use Rattle.registers.specs.declared.Set.{Set}
+use Rattle.registers.specs.ConditionCodes.{bitAt}
+use Rattle.registers.specs.declared.Stack.{Stack}
+use Rattle.registers.specs.declared.Word.the-variants.{S}
+use Rattle.memory.specs.Writes.{writesOf, listed, stored, reported, valueWrites}
+use Rattle.memory.specs.declared.writes.Write.{Write}
+use Rattle.memory.proofs.Folds.{listed-back}
+use Rattle.machine.specs.Effect.{changes, stores}
+use Rattle.machine.specs.declared.Effect.{Effect}
+use Rattle.machine.specs.declared.Machine.{Machine}
+use Rattle.machine.specs.declared.Settings.{Settings}
+use Rattle.machine.specs.declared.Wait.the-variants.{Running}
+use Rattle.operations.specs.Branches.{jumped}
+use Rattle.stack.specs.Pushing.{chosen, registersNamed, bytesPushed, pushes, pushed, jumpedToSubroutine}
+use Rattle.calls.specs.Plans.{carriedOut, memoryWith}
+use Rattle.calls.specs.Steps.{afterInstruction, finished}
+use Rattle.calls.specs.Decisions.{billed, effectAs, effectTold, planTold, PlainAs, Plain, Decides}
+use Rattle.calls.specs.declared.Plan.{Plan}
+use Rattle.calls.specs.declared.Report.{Report}
+use Rattle.calls.specs.declared.decisions.Decision.{Decision}
+use Rattle.calls.specs.declared.decisions.Kind.{Kind}
+use Rattle.calls.specs.declared.decisions.Kind.the-variants.{Refused, Change, Byte, Word, Push, Rest}
+use Rattle.calls.proofs.PlainWrites.{outcome, byte-first, word-first, nothing}
+
+-- ---- a bill changes neither the effect nor where it is stored
+
+module _ (s : Settings) (mem : List ℕ) (d : Decision) (cycles : ℕ) (arms : Bool) where
+  effect-as : (k : Kind) → effectAs k s mem (billed d cycles arms) ≡ effectAs k s mem d
+  effect-as Refused = refl
+  effect-as Change = refl
+  effect-as Byte = refl
+  effect-as Word = refl
+  effect-as Push = refl
+  effect-as Rest = refl
+
+  pub billed-effect : effectTold s mem (billed d cycles arms) ≡ effectTold s mem d
+  billed-effect = effect-as (d .kind)
+
+  plain-as : (k : Kind) → PlainAs k (s .«ram_top») d → PlainAs k (s .«ram_top») (billed d cycles arms)
+  plain-as Refused p = p
+  plain-as Change p = p
+  plain-as Byte p = p
+  plain-as Word p = p
+  plain-as Push p = p
+  plain-as Rest p = p
+
+  pub billed-plain : Plain (s .«ram_top») d → Plain (s .«ram_top») (billed d cycles arms)
+  billed-plain p = plain-as (d .kind) p
+
+-- ---- by the kind
+
+pub plan-as : (m : Machine) (s : Settings) (mem : List ℕ) (d : Decision) {k : Kind} → d .kind ≡ k → planTold m s mem d ≡ finished m (d .cycles) (d .arms) (effectAs k s mem d)
+plan-as m s mem d e = ap (λ (k : Kind). finished m (d .cycles) (d .arms) (effectAs k s mem d)) e
+
+pub plain-by : (top : ℕ) (d : Decision) {k : Kind} → d .kind ≡ k → Plain top d → PlainAs k top d
+plain-by top d e p = subst (λ (k : Kind). PlainAs k top d) e p
+
+pub as-told : (m : Machine) (s : Settings) (mem : List ℕ) (d : Decision) {k : Kind} → d .kind ≡ k
+    → (carriedOut s (finished m (d .cycles) (d .arms) (effectAs k s mem d)) ≡ carriedOut s (planTold m s mem d))
+    × (memoryWith s (finished m (d .cycles) (d .arms) (effectAs k s mem d)) mem ≡ memoryWith s (planTold m s mem d) mem)
+as-told m s mem d e = (sym (ap (carriedOut s) (plan-as m s mem d e)), sym (ap (λ (p : Plan). memoryWith s p mem) (plan-as m s mem d e)))
+
+pub decides-plan : (m : Machine) (s : Settings) (mem : List ℕ) (d : Decision) {cycles : ℕ} {arms : Bool} {e : Effect} → Decides s mem cycles arms e d → planTold m s mem d ≡ finished m cycles arms e
+decides-plan m s mem d {cycles} {arms} {e} h =
+    ap (λ (n : ℕ). finished m n (d .arms) (effectTold s mem d)) (h .cycles)
+    ∙ (ap (λ (b : Bool). finished m cycles b (effectTold s mem d)) (h .arms) ∙ ap (λ (x : Effect). finished m cycles arms x) (h .effect))
+
+-- ---- writes that are stored and not reported
+
+pub record Done-plain (s : Settings) (m : Machine) (cycles : ℕ) (arms : Bool) (r : Set) (e : Effect) (mem after : List ℕ) : Type 0 where
+  pub report : carriedOut s (finished m cycles arms (changes r)) ≡ carriedOut s (finished m cycles arms e)
+  pub memory : after ≡ memoryWith s (finished m cycles arms e) mem
+
+module _ (s : Settings) (m : Machine) (cycles : ℕ) (arms : Bool) (r : Set) where
+  abbrev left : List Write → Report
+  left devices = record { devices = writesOf devices; machine = afterInstruction m cycles arms r Running; answer = Done }
+
+  whole : (ws : List Write) → carriedOut s (finished m cycles arms (stores r (writesOf ws))) ≡ left (reported (s .«ram_top») ws)
+  unfolding finished
+  whole ws = rw (listed-back ws)
+
+  none : left [] ≡ left (reported (s .«ram_top») [])
+  unfolding reported
+  none = refl
+
+  memory-whole : (ws : List Write) (mem : List ℕ) → memoryWith s (finished m cycles arms (stores r (writesOf ws))) mem ≡ stored (s .«ram_top») ws mem
+  unfolding finished
+  memory-whole ws mem = rw (listed-back ws)
+
+  pub plain-done : (ws : List Write) (mem after : List ℕ) → after ≡ stored (s .«ram_top») ws mem → reported (s .«ram_top») ws ≡ []
+      → Done-plain s m cycles arms r (stores r (writesOf ws)) mem after
+  plain-done ws mem after kept quiet =
+      record { report = whole [] ∙ (sym none ∙ (ap left (sym quiet) ∙ sym (whole ws))); memory = kept ∙ sym (memory-whole ws mem) }
+
+  by-outcome : (ws : List Write) (mem after : List ℕ) → outcome (s .«ram_top») ws mem ≡ (after, []) → Done-plain s m cycles arms r (stores r (writesOf ws)) mem after
+  by-outcome ws mem after e = plain-done ws mem after (sym (ap (λ (o : List ℕ × List Write). o .0) e)) (ap (λ (o : List ℕ × List Write). o .1) e)
+
+  pub byte-done : (at v : ℕ) (mem : List ℕ) → at < 0xFF00 → at ≤ s .«ram_top» → Done-plain s m cycles arms r (stores r (writesOf (valueWrites at (u8 v) false))) mem (set mem at v)
+  byte-done at v mem h g = by-outcome (valueWrites at (u8 v) false) mem (set mem at v) (byte-first (s .«ram_top») at v [] mem h g ∙ nothing (s .«ram_top») (set mem at v))
+
+  pub word-done : (at w : ℕ) (mem : List ℕ) → at + 1 < 0xFF00 → at + 1 ≤ s .«ram_top»
+      → Done-plain s m cycles arms r (stores r (writesOf (valueWrites at (u16 w) false))) mem (set (set mem at (w / 256)) (at + 1) (w % 256))
+  word-done at w mem h g =
+      by-outcome (valueWrites at (u16 w) false) mem (set (set mem at (w / 256)) (at + 1) (w % 256))
+      (word-first (s .«ram_top») at w [] mem h g ∙ nothing (s .«ram_top») (set (set mem at (w / 256)) (at + 1) (w % 256)))
+
+-- ---- a push that has room
+
+pub pushed-as : (r : Set) (own : Stack) (mask : ℕ) → bytesPushed mask ≤ wordOf r (stackWord own)
+    → pushed r own mask false
+    ≡ stores (withWord r (stackWord own) (wordOf r (stackWord own) - bytesPushed mask)) (writesOf (pushes r false (wordOf r (stackWord own)) (registersNamed own mask)))
+unfolding pushed
+pushed-as r own mask h = rw (le-ltb _ _ h)
+
+-- ---- JSR and BSR, where there is room
+
+pub called : (r : Set) (ea : ℕ) → 1 < r .s → jumpedToSubroutine r ea ≡ stores (jumped (withWord r S (r .s - 2)) ea) (writesOf (valueWrites (r .s - 2) (u16 (r .pc)) false))
+unfolding jumpedToSubroutine pushed chosen pushes bitAt
+called r ea h = let g : 2 ≤ r .s = omega arith in rw (le-ltb (r .s) 2 g)

@@ -1,0 +1,319 @@
+// What an instruction does, told by a small value: a list of twelve writes is made for the few that need one (docs/PERFORMANCE.md). A byte or
+// word that is told, or a frame that is pushed, lies below the devices and at or below ram_top, where nothing but the store is to be done.
+ghost use mathlib.Core.Path.{_≡_};
+ghost use mathlib.Core.Bool.{true};
+ghost use Prim.Native.Nat.{_+_, _<_, _≤_};
+ghost use Rattle.decode.specs.declared.instruction.Decoded.the-variants.{Instruction as Decodes};
+ghost use Rattle.evaluate.specs.Arming.{arms};
+ghost use Rattle.evaluate.specs.Evaluate.{evaluateOf};
+ghost use Rattle.memory.specs.Map.{byteAt};
+ghost use Rattle.cycles.specs.Cycles.{operationExtra};
+ghost use Rattle.calls.specs.Steps.{ofDecoded, decodedTo, planned};
+ghost use Rattle.opcodes.specs.declared.MemoryOp.the-variants.{OnMemory, Store8, Store16, Bsr, Push};
+ghost use Rattle.calls.specs.Decisions.{told, refusalTold, pushTold, leftOver, billed, Tells, Decides, DecidesPlan};
+use addressing::Resolved;
+use answers::Refusal;
+use cycles::cost;
+use cycles::memory_extra;
+use cycles::operand_extra;
+use cycles::registers_extra;
+use decode::Decoded;
+use decode::Instruction;
+use machine::Machine;
+use machine::Settings;
+use opcodes::Acc;
+use opcodes::Entry;
+use opcodes::MemoryOp;
+use opcodes::Op;
+use opcodes::Unary;
+use operations::Changed;
+use registers::Set;
+use registers::Stack;
+use registers::Word;
+
+// Refused by `refusal`; `regs` alone change; a byte or a word `value` is stored at `at`; the registers of `mask` are pushed on `own`; or
+// none of these, and `op` at `at` is left to be evaluated.
+pub enum Kind {
+    Refused,
+    Change,
+    Byte,
+    Word,
+    Push,
+    Rest,
+}
+
+// Fields that its kind does not name say nothing. There is no enum with values in its place: the compiler would pack and unpack them.
+pub struct Decision {
+    pub regs: Set,
+    pub cycles: u16,
+    pub at: u16,
+    pub value: u16,
+    pub mask: u8,
+    pub arms: bool,
+    pub own: Stack,
+    pub refusal: Refusal,
+    pub op: MemoryOp,
+    pub kind: Kind,
+}
+
+fn tell(kind: Kind, regs: Set, at: u16, value: u16) -> Decision
+    ensures { λ r. ⌜ r ≡ told kind regs at value ⌝ }
+{
+    Decision {
+        regs,
+        cycles: 0,
+        at,
+        value,
+        mask: 0,
+        arms: false,
+        own: Stack::S,
+        refusal: Refusal::Opcode,
+        op: MemoryOp::Sync,
+        kind,
+    }
+}
+
+fn refuse(refusal: Refusal, regs: Set) -> Decision
+    ensures { λ r. ⌜ r ≡ refusalTold refusal regs ⌝ }
+{
+    Decision {
+        regs,
+        cycles: 0,
+        at: 0,
+        value: 0,
+        mask: 0,
+        arms: false,
+        own: Stack::S,
+        refusal,
+        op: MemoryOp::Sync,
+        kind: Kind::Refused,
+    }
+}
+
+fn tell_push(regs: Set, own: Stack, mask: u8) -> Decision
+    ensures { λ r. ⌜ r ≡ pushTold regs own mask ⌝ }
+{
+    Decision {
+        regs,
+        cycles: 0,
+        at: 0,
+        value: 0,
+        mask,
+        arms: false,
+        own,
+        refusal: Refusal::Opcode,
+        op: MemoryOp::Sync,
+        kind: Kind::Push,
+    }
+}
+
+fn leave(op: MemoryOp, regs: Set, ea: u16) -> Decision
+    ensures { λ r. ⌜ r ≡ leftOver op regs ea ⌝ }
+{
+    Decision {
+        regs,
+        cycles: 0,
+        at: ea,
+        value: 0,
+        mask: 0,
+        arms: false,
+        own: Stack::S,
+        refusal: Refusal::Opcode,
+        op,
+        kind: Kind::Rest,
+    }
+}
+
+fn wide(byte: u8) -> u16
+    ensures { λ r. ⌜ (r ≡ byte) × (r < 256) ⌝ }
+{
+    byte as u16
+}
+
+// The last byte that is written lies below the devices and at or below ram_top.
+fn is_below(last: u16, ram_top: u16) -> bool
+    ensures { λ r. ⌜ (r ≡ true → (last < 0xFF00) × (last ≤ «ram_top»)) ⌝ }
+{
+    if last < 0xFF00 {
+        return last <= ram_top;
+    }
+    false
+}
+
+// Both bytes of a word.
+fn is_word_below(at: u16, ram_top: u16) -> bool
+    ensures { λ r. ⌜ (r ≡ true → (at + 1 < 0xFF00) × (at + 1 ≤ «ram_top»)) ⌝ }
+{
+    if at < 0xFEFF {
+        return at < ram_top;
+    }
+    false
+}
+
+fn store8(settings: Settings, mem: &[u8], regs: Set, acc: Acc, ea: u16) -> Decision
+    ensures { λ r. ⌜ Tells settings (now (mem .entry)) (Store8 acc) regs ea r ⌝ }
+{
+    if is_below(ea, settings.ram_top) {
+        let value = operations::accumulator(regs, acc);
+        return tell(Kind::Byte, operations::test(regs, value), ea, wide(value));
+    }
+    leave(MemoryOp::Store8(acc), regs, ea)
+}
+
+fn store16(settings: Settings, mem: &[u8], regs: Set, word: Word, ea: u16) -> Decision
+    ensures { λ r. ⌜ Tells settings (now (mem .entry)) (Store16 word) regs ea r ⌝ }
+{
+    if is_word_below(ea, settings.ram_top) {
+        let value = regs.word(word);
+        return tell(Kind::Word, operations::test16(regs, value), ea, value);
+    }
+    leave(MemoryOp::Store16(word), regs, ea)
+}
+
+fn on_memory(settings: Settings, mem: &[u8], regs: Set, op: Unary, ea: u16) -> Decision
+    ensures { λ r. ⌜ Tells settings (now (mem .entry)) (OnMemory op) regs ea r ⌝ }
+{
+    let flags = settings.flags;
+    if is_below(ea, settings.ram_top) {
+        let out = operations::unary(flags, op, regs.cc, memory::read_u8(mem, ea));
+        return tell(
+            Kind::Byte,
+            operations::with_codes(regs, out.cc),
+            ea,
+            wide(out.value),
+        );
+    }
+    leave(MemoryOp::OnMemory(op), regs, ea)
+}
+
+// BSR and JSR: PC is pushed as a word.
+fn call(settings: Settings, mem: &[u8], regs: Set, ea: u16) -> Decision
+    ensures { λ r. ⌜ Tells settings (now (mem .entry)) Bsr regs ea r ⌝ }
+{
+    let top = regs.s;
+    if 1 < top {
+        let at = top - 2;
+        if is_word_below(at, settings.ram_top) {
+            let pc = regs.pc;
+            return tell(
+                Kind::Word,
+                operations::jump(regs.with_word(Word::S, at), ea),
+                at,
+                pc,
+            );
+        }
+    }
+    leave(MemoryOp::Bsr, regs, ea)
+}
+
+fn push(settings: Settings, mem: &[u8], regs: Set, own: Stack, ea: u16) -> Decision
+    ensures { λ r. ⌜ Tells settings (now (mem .entry)) (Push own) regs ea r ⌝ }
+{
+    let mask = memory::read_u8(mem, ea);
+    let top = regs.word(own.word());
+    if wide(stack::bytes_of(mask)) <= top {
+        if is_below(top, settings.ram_top) {
+            return tell_push(regs, own, mask);
+        }
+    }
+    leave(MemoryOp::Push(own), regs, ea)
+}
+
+// The operations that may write memory, use a stack or wait.
+fn decide_memory(op: MemoryOp, settings: Settings, mem: &[u8], regs: Set, ea: u16) -> Decision
+    ensures { λ r. ⌜ Tells settings (now (mem .entry)) op regs ea r ⌝ }
+{
+    match op {
+        MemoryOp::Store8(acc) => store8(settings, mem, regs, acc, ea),
+        MemoryOp::Store16(word) => store16(settings, mem, regs, word, ea),
+        MemoryOp::OnMemory(unary) => on_memory(settings, mem, regs, unary, ea),
+        MemoryOp::Bsr => call(settings, mem, regs, ea),
+        MemoryOp::Jsr => call(settings, mem, regs, ea),
+        MemoryOp::Rts => tell(Kind::Change, stack::return_from_subroutine(mem, regs), 0, 0),
+        MemoryOp::Push(own) => push(settings, mem, regs, own, ea),
+        MemoryOp::Pull(own) => {
+            let mask = memory::read_u8(mem, ea);
+            tell(
+                Kind::Change,
+                stack::pull_registers(mem, regs, own, mask),
+                0,
+                0,
+            )
+        }
+        _ => leave(op, regs, ea),
+    }
+}
+
+// The whole value anew, not two fields of it: then the compiler keeps each field by itself.
+fn bill(decision: Decision, cycles: u16, arms: bool) -> Decision
+    ensures { λ r. ⌜ r ≡ billed decision cycles arms ⌝ }
+{
+    let own = decision.own;
+    let refusal = decision.refusal;
+    let op = decision.op;
+    let kind = decision.kind;
+    let regs = decision.regs;
+    Decision {
+        regs,
+        cycles,
+        at: decision.at,
+        value: decision.value,
+        mask: decision.mask,
+        arms,
+        own,
+        refusal,
+        op,
+        kind,
+    }
+}
+
+// The operation. `extra` is the operand's, known before the address is found.
+fn operate(mem: &[u8], settings: Settings, entry: Entry, extra: u8, regs: Set, ea: u16) -> Decision
+    ensures { λ r. ⌜ Decides settings (now (mem .entry)) (entry .cycles + (extra + operationExtra (entry .op) (entry .mode) (now (mem .entry)) regs ea)) (arms (entry .op) (byteAt (now (mem .entry)) ea)) (evaluateOf (entry .op) settings (now (mem .entry)) regs ea) r ⌝ }
+{
+    let op = entry.op;
+    let mode = entry.mode;
+    let flags = settings.flags;
+    match op {
+        Op::Registers(on) => {
+            let cycles = cost(entry.cycles, extra, registers_extra(on, mode, regs.cc));
+            let arms = evaluate::registers_arm(on, mem, ea);
+            match operations::change(on, flags, mem, regs, ea) {
+                Changed::After(after) => bill(tell(Kind::Change, after, 0, 0), cycles, arms),
+                Changed::Refused(refusal) => bill(refuse(refusal, regs), cycles, arms),
+            }
+        }
+        Op::Memory(on) => {
+            let cycles = cost(entry.cycles, extra, memory_extra(on, mem, regs, ea));
+            let arms = evaluate::memory_arms(on, mem, ea);
+            bill(decide_memory(on, settings, mem, regs, ea), cycles, arms)
+        }
+    }
+}
+
+fn execute(mem: &[u8], machine: Machine, settings: Settings, instruction: Instruction) -> Decision
+    ensures { λ r. ⌜ DecidesPlan machine settings (now (mem .entry)) (planned (now (mem .entry)) machine settings (ofDecoded (now (mem .entry)) (machine .regs) (Decodes instruction))) r ⌝ }
+{
+    let entry = instruction.entry;
+    let operand = instruction.operand;
+    let extra = operand_extra(operand);
+    let regs = machine.regs;
+    match addressing::resolve(mem, machine.regs, operand, instruction.next) {
+        Resolved::Refused(refusal) => refuse(refusal, regs),
+        Resolved::At(found) => {
+            let after = found.regs;
+            operate(mem, settings, entry, extra, after, found.ea)
+        }
+    }
+}
+
+// A machine that is running.
+pub fn decide(mem: &[u8], machine: Machine, settings: Settings) -> Decision
+    ensures { λ r. ⌜ DecidesPlan machine settings (now (mem .entry)) (planned (now (mem .entry)) machine settings (decodedTo (now (mem .entry)) (machine .regs))) r ⌝ }
+{
+    let regs = machine.regs;
+    match decode::decode(mem, regs.pc) {
+        Decoded::Refused(refusal) => refuse(refusal, regs),
+        Decoded::Instruction(instruction) => execute(mem, machine, settings, instruction),
+    }
+}
