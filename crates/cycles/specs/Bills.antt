@@ -37,8 +37,8 @@ InstructionBounded = (mem : List ℕ) (pc : ℕ) → Bytes mem → BoundedAt mem
 -- ---- post-bytes
 
 -- the manual's table once more, by the post-byte that it prints: 1RR00100 stands as 84, and RR is any register
-abbrev pub printed : List (ℕ × ℕ)
-printed =
+abbrev pub indexedTable : List (ℕ × ℕ)
+indexedTable =
     (0x84, 0) ∷ (0x94, 3) ∷ (0x88, 1) ∷ (0x98, 4) ∷ (0x89, 4) ∷ (0x99, 7)
     ∷ (0x86, 1) ∷ (0x96, 4) ∷ (0x85, 1) ∷ (0x95, 4) ∷ (0x8B, 4) ∷ (0x9B, 7)
     ∷ (0x80, 2) ∷ (0x81, 3) ∷ (0x91, 6) ∷ (0x82, 2) ∷ (0x83, 3) ∷ (0x93, 6)
@@ -51,7 +51,7 @@ foundIn (row ∷ rows) n = cond (eqb n (row .0)) (some (row .1)) (foundIn rows n
 
 -- 0RRnnnnn adds 1, 10011111 adds 5
 abbrev pub postByteExtra : ℕ → Option ℕ
-postByteExtra post = cond (ltb post 0x80) (some 1) (cond (eqb post 0x9F) (some 5) (foundIn printed (bitAnd post 0x9F)))
+postByteExtra post = cond (ltb post 0x80) (some 1) (cond (eqb post 0x9F) (some 5) (foundIn indexedTable (bitAnd post 0x9F)))
 
 -- what a post-byte adds by its form
 abbrev pub byForm : PostByte → ℕ → Option ℕ

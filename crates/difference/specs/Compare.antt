@@ -53,18 +53,18 @@ abbrev pub areWhole : List ℕ → List ℕ → Bool
 areWhole a b = eqb (length a) 65536 && eqb (length b) 65536
 
 -- the lent list has room for so many entries
-abbrev pub isShort : List ℕ → List Difference → Bool
-isShort list ds = ltb (length list) (entrySize * length ds)
+abbrev pub isListShort : List ℕ → List Difference → Bool
+isListShort list ds = ltb (length list) (entrySize * length ds)
 
 -- the answer, and the list afterwards: the entries at its front and the rest as it was; if refused, all as it was
 unfoldable pub compared : Machine → List ℕ → Machine → List ℕ → List ℕ → Compared
 compared l a r b list =
     cond (areWhole a b)
-    (cond (isShort list (differences l a r b)) (notCompared ListShort) (record { count = length (differences l a r b); answer = Done }))
+    (cond (isListShort list (differences l a r b)) (notCompared ListShort) (record { count = length (differences l a r b); answer = Done }))
     (notCompared MemoryLength)
 
 unfoldable pub listAfter : Machine → List ℕ → Machine → List ℕ → List ℕ → List ℕ
 listAfter l a r b list =
     cond (areWhole a b)
-    (cond (isShort list (differences l a r b)) list (sets list 0 (laidOut (differences l a r b))))
+    (cond (isListShort list (differences l a r b)) list (sets list 0 (laidOut (differences l a r b))))
     list

@@ -19,8 +19,8 @@ use Rattle.decode.specs.declared.instruction.Decoded.the-variants.{Instruction 
 use Rattle.decode.specs.declared.instruction.Instruction.{Instruction}
 use Rattle.operations.specs.Refusals.{codeRefused}
 use Rattle.disassembly.specs.Operands.{operandText}
-use Rattle.disassembly.specs.Line.{space, lineLength, columns, bytePairs, mnemonicText, lineWith, lineOf}
-use Rattle.disassembly.specs.Disassembly.{immediateAt, judged, judgedFrom, legible, answered, disassembledOf, writtenTo, lineAfter}
+use Rattle.disassembly.specs.Line.{space, lineLength, columns, bytePairs, mnemonicText, lineWith, instructionLine}
+use Rattle.disassembly.specs.Disassembly.{immediateAt, takenAsStep, judgedFrom, legible, answered, disassembledOf, writtenTo, lineAfter}
 use Rattle.disassembly.specs.Laws.{TextOf48, RefusedLine, LinesApart}
 use Rattle.disassembly.specs.declared.Disassembled.{Disassembled}
 use Rattle.disassembly.specs.declared.Disassembled.the-variants.{Line, Refused}
@@ -31,8 +31,8 @@ use Rattle.disassembly.proofs.Apart.{same-bytes}
 
 -- ---- what is taken was decoded, and the next address is a word
 
-judged-taken : (mem : List ℕ) (i j : Instruction) → judged mem i ≡ Taken j → (i ≡ j) × (i .next ≤ 0xFFFF)
-unfolding judged
+judged-taken : (mem : List ℕ) (i j : Instruction) → takenAsStep mem i ≡ Taken j → (i ≡ j) × (i .next ≤ 0xFFFF)
+unfolding takenAsStep
 judged-taken mem i j = go (leb (i .next) 0xFFFF) refl (codeRefused (i .entry .op) mem (immediateAt (i .operand)))
   where
     go : (s : Bool) → leb (i .next) 0xFFFF ≡ s → (t : Bool) → cond s (cond t (NotDecoded TransferCode) (Taken i)) (NotDecoded PastEnd) ≡ Taken j → (i ≡ j) × (i .next ≤ 0xFFFF)
@@ -68,7 +68,7 @@ few : (mem : List ℕ) (at : ℕ) (i : Instruction) → Bytes mem → at < 65536
 few mem at i h k e = omega (arith, one-to-five mem at i h k e .1)
 
 pub text-of-48 : TextOf48
-unfolding lineOf
+unfolding instructionLine
 text-of-48 mem at i h k e =
     line-length (hex4 at) (bytePairs (i .next - at) mem at) (mnemonicText (i .entry)) (operandText i mem) (omega arith)
     (omega (arith, few mem at i h k e, pairs-length (i .next - at) mem at)) (omega (arith, mnemonic-short (i .entry))) (operand-short i mem)
@@ -91,7 +91,7 @@ pub record Opened (mem line : List ℕ) (at n : ℕ) : Type 0 where
   instruction : Instruction
   decoded : decodedAt mem at ≡ Taken instruction
   many : n ≡ instruction .next - at
-  written : lineAfter mem at line ≡ lineOf mem at instruction ++ drop lineLength line
+  written : lineAfter mem at line ≡ instructionLine mem at instruction ++ drop lineLength line
 
 opened : (mem line : List ℕ) (at n : ℕ) → disassembledOf mem at (length line) ≡ Line n → Opened mem line at n
 unfolding disassembledOf lineAfter
@@ -110,13 +110,13 @@ regrouped : (a p s t r : List ℕ) → (a ++ ((p ++ s) ++ t)) ++ r ≡ a ++ (p +
 regrouped a p s t r = simp append-assoc
 
 -- the bytes' column of a text
-column : (mem rest : List ℕ) (at n : ℕ) (i : Instruction) → n ≡ i .next - at → n ≤ 5 → take (3 * n) (drop 6 (lineOf mem at i ++ rest)) ≡ bytePairs n mem at
-unfolding lineOf lineWith
+column : (mem rest : List ℕ) (at n : ℕ) (i : Instruction) → n ≡ i .next - at → n ≤ 5 → take (3 * n) (drop 6 (instructionLine mem at i ++ rest)) ≡ bytePairs n mem at
+unfolding instructionLine lineWith
 column mem rest at n i e h =
     let p = bytePairs n mem at in
     let tail = replicate (16 - length p) space ++ (columns 6 (mnemonicText (i .entry)) ++ columns 20 (operandText i mem)) in
     let parts = columns 6 (mnemonicText (i .entry)) ++ columns 20 (operandText i mem) in
-    let f : lineOf mem at i ++ rest ≡ columns 6 (hex4 at) ++ (p ++ (tail ++ rest)) =
+    let f : instructionLine mem at i ++ rest ≡ columns 6 (hex4 at) ++ (p ++ (tail ++ rest)) =
     ap (λ (m : ℕ). (columns 6 (hex4 at) ++ (columns 16 (bytePairs m mem at) ++ parts)) ++ rest) (sym e)
     ∙ regrouped (columns 6 (hex4 at)) p (replicate (16 - length p) space) parts rest in
     rw f (ap (take (3 * n)) (drop-at (columns 6 (hex4 at)) (p ++ (tail ++ rest)) 6 refl) ∙ take-at p (tail ++ rest) (3 * n) (pairs-length n mem at))
@@ -128,6 +128,6 @@ lines-apart one other line at n h k w p q e =
     let rest = drop lineLength line in
     let l : n ≤ 5 = omega (arith, r .many, few one at (r .instruction) h w (r .decoded)) in
     let m : n ≤ 5 = omega (arith, s .many, few other at (s .instruction) k w (s .decoded)) in
-    let f : lineOf one at (r .instruction) ++ rest ≡ lineOf other at (s .instruction) ++ rest = sym (r .written) ∙ (e ∙ s .written) in
+    let f : instructionLine one at (r .instruction) ++ rest ≡ instructionLine other at (s .instruction) ++ rest = sym (r .written) ∙ (e ∙ s .written) in
     same-bytes n one other at h k
     (sym (column one rest at n (r .instruction) (r .many) l) ∙ (ap (λ (x : List ℕ). take (3 * n) (drop 6 x)) f ∙ column other rest at n (s .instruction) (s .many) m))

@@ -14,7 +14,7 @@ use Rattle.decode.specs.declared.instruction.Instruction.{Instruction}
 use Rattle.decode.specs.declared.operand.Operand.{Operand}
 use Rattle.decode.specs.declared.operand.Operand.the-variants.{Inherent as Nothing, Immediate as ByValue, Direct as InPage, Indexed as ByIndex, Extended as AtAddress, Relative as Branch}
 use Rattle.operations.specs.Refusals.{codeRefused}
-use Rattle.disassembly.specs.Line.{lineLength, lineOf}
+use Rattle.disassembly.specs.Line.{lineLength, instructionLine}
 use Rattle.disassembly.specs.declared.Disassembled.{Disassembled}
 use Rattle.disassembly.specs.declared.Disassembled.the-variants.{Line, Refused}
 
@@ -28,14 +28,14 @@ immediateAt (AtAddress at) = 0
 immediateAt (Branch offset) = 0
 
 -- 4 where the next address lies past FFFF, 7 where TFR or EXG names no two registers of one size
-unfoldable pub judged : List ℕ → Instruction → Decoded
-judged mem i =
+unfoldable pub takenAsStep : List ℕ → Instruction → Decoded
+takenAsStep mem i =
     cond (leb (i .next) 0xFFFF)
     (cond (codeRefused (i .entry .op) mem (immediateAt (i .operand))) (NotDecoded TransferCode) (Taken i))
     (NotDecoded PastEnd)
 
 abbrev pub judgedFrom : List ℕ → Decoded → Decoded
-judgedFrom mem (Taken i) = judged mem i
+judgedFrom mem (Taken i) = takenAsStep mem i
 judgedFrom mem (NotDecoded x) = NotDecoded x
 
 -- the instruction at an address, as a step takes it
@@ -52,7 +52,7 @@ disassembledOf mem at room = cond (eqb (length mem) 65536) (answered at room (le
 
 -- the line afterwards: the text in its first 48 bytes and the rest as it was; if refused, all as it was
 abbrev pub writtenTo : List ℕ → ℕ → List ℕ → Decoded → List ℕ
-writtenTo mem at line (Taken i) = cond (ltb (length line) lineLength) line (lineOf mem at i ++ drop lineLength line)
+writtenTo mem at line (Taken i) = cond (ltb (length line) lineLength) line (instructionLine mem at i ++ drop lineLength line)
 writtenTo mem at line (NotDecoded x) = line
 
 unfoldable pub lineAfter : List ℕ → ℕ → List ℕ → List ℕ

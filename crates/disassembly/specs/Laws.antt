@@ -12,7 +12,7 @@ use Rattle.decode.specs.Decode.{decodedAt}
 use Rattle.decode.specs.declared.instruction.Decoded.the-variants.{Instruction as Taken}
 use Rattle.decode.specs.declared.instruction.Instruction.{Instruction}
 use Rattle.disassembly.specs.Operands.{operandText}
-use Rattle.disassembly.specs.Line.{lineLength, mnemonicText, lineOf}
+use Rattle.disassembly.specs.Line.{lineLength, mnemonicText, instructionLine}
 use Rattle.disassembly.specs.Disassembly.{disassembledOf, lineAfter}
 use Rattle.disassembly.specs.declared.Disassembled.the-variants.{Line, Refused}
 
@@ -29,7 +29,7 @@ MnemonicShort = (e : Entry) → length (mnemonicText e) ≤ 5
 
 -- so the text has 48 bytes, and the lent line keeps its length
 abbrev pub TextOf48 : Type 0
-TextOf48 = (mem : List ℕ) (at : ℕ) (i : Instruction) → Bytes mem → at < 65536 → decodedAt mem at ≡ Taken i → length (lineOf mem at i) ≡ lineLength
+TextOf48 = (mem : List ℕ) (at : ℕ) (i : Instruction) → Bytes mem → at < 65536 → decodedAt mem at ≡ Taken i → length (instructionLine mem at i) ≡ lineLength
 
 -- a refused call leaves every byte of the line
 abbrev pub RefusedLine : Type 0

@@ -40,5 +40,5 @@ unfoldable pub lineWith : List ℕ → List ℕ → List ℕ → List ℕ → Li
 lineWith address bytes name operand = columns 6 address ++ (columns 16 bytes ++ (columns 6 name ++ columns 20 operand))
 
 -- the address, the bytes, the mnemonic and the operand of an instruction
-unfoldable pub lineOf : List ℕ → ℕ → Instruction → List ℕ
-lineOf mem at i = lineWith (hex4 at) (bytePairs (i .next - at) mem at) (mnemonicText (i .entry)) (operandText i mem)
+unfoldable pub instructionLine : List ℕ → ℕ → Instruction → List ℕ
+instructionLine mem at i = lineWith (hex4 at) (bytePairs (i .next - at) mem at) (mnemonicText (i .entry)) (operandText i mem)

@@ -9,8 +9,8 @@ ghost use mathlib.Core.List.{_++_};
 ghost use Prim.Native.Nat.{_+_, _≤_};
 ghost use lib.ListN.{length, drop};
 ghost use Rattle.operations.specs.Refusals.{codeRefused};
-ghost use Rattle.disassembly.specs.Line.{lineLength, lineOf};
-ghost use Rattle.disassembly.specs.Disassembly.{immediateAt, judged, legible, disassembledOf, lineAfter};
+ghost use Rattle.disassembly.specs.Line.{lineLength, instructionLine};
+ghost use Rattle.disassembly.specs.Disassembly.{immediateAt, takenAsStep, legible, disassembledOf, lineAfter};
 use answers::Refusal;
 use decode::Decoded;
 use decode::Instruction;
@@ -52,7 +52,7 @@ fn code_refused(mem: &[u8], op: Op, at: u16) -> bool
 
 // What a step refuses once the instruction is decoded, save what it finds in registers.
 fn judge(mem: &[u8], i: Instruction) -> Decoded
-    ensures { λ r. ⌜ r ≡ judged (now (mem .entry)) i ⌝ }
+    ensures { λ r. ⌜ r ≡ takenAsStep (now (mem .entry)) i ⌝ }
 {
     if i.next > 0xFFFF {
         return Decoded::Refused(Refusal::PastEnd);
@@ -78,7 +78,7 @@ fn read(mem: &[u8], at: u16) -> Decoded
 // The operand is written last, to the rest of the line after the mnemonic.
 fn write_line(line: &mut [u8], mem: &[u8], at: u16, i: Instruction)
     requires { ⌜ (lineLength ≤ length (now line)) × ((at ≤ i .next) × ((i .next ≤ at + 5) × (i .next ≤ 0xFFFF))) ⌝ }
-    ensures { λ _. ⌜ now (line .exit) ≡ lineOf (now (mem .entry)) at i ++ drop lineLength (now (line .entry)) ⌝ }
+    ensures { λ _. ⌜ now (line .exit) ≡ instructionLine (now (mem .entry)) at i ++ drop lineLength (now (line .entry)) ⌝ }
 {
     let entry = i.entry;
     let count = i.next as u16 - at;

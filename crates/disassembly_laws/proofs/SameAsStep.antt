@@ -63,7 +63,7 @@ use Rattle.calls.specs.Steps.{Reached, At, NotReached, addressed, ofDecoded, de
 use Rattle.refusals.specs.Steps.{Runs, NextPast, Met, StepRefused, Answers}
 use Rattle.refusals.proofs.Steps.{steps-refused}
 use Rattle.disassembly.specs.Names.{nameText, slotText, listText}
-use Rattle.disassembly.specs.Disassembly.{immediateAt, judged, judgedFrom, legible, answered, disassembledOf}
+use Rattle.disassembly.specs.Disassembly.{immediateAt, takenAsStep, judgedFrom, legible, answered, disassembledOf}
 use Rattle.disassembly.specs.declared.Disassembled.{Disassembled}
 use Rattle.disassembly.specs.declared.Disassembled.the-variants.{Line, Refused}
 use Rattle.disassembly.proofs.Spans.{one-to-five}
@@ -174,7 +174,7 @@ module _ (mem : List ℕ) (at room : ℕ) where
   rest i s t = numberOfLine (answered at room (cond s (cond t (NotDecoded TransferCode) (Taken i)) (NotDecoded PastEnd)))
 
   of-taken : (i : Instruction) → our (Taken i) ≡ rest i (leb (i .next) 0xFFFF) (codeRefused (i .entry .op) mem (immediateAt (i .operand)))
-  unfolding judged
+  unfolding takenAsStep
   of-taken i = refl
 
   among : (i : Instruction) (s t : Bool) → (rest i s t ≡ 4) ⊎ ((rest i s t ≡ 7) ⊎ ((rest i s t ≡ numberOf LineShort) ⊎ (rest i s t ≡ 0)))
@@ -328,7 +328,7 @@ module _ (mem : List ℕ) (m : Machine) (s : Settings) (room : ℕ) (b : Bytes m
   length-of j n false t = λ q. no cc
 
   next-of : (e : Decoded) → decodedAt mem (m .regs .pc) ≡ e → (i : Instruction) (r : Set) (ea n : ℕ) → ofDecoded mem (m .regs) e ≡ At i r ea → answered (m .regs .pc) room (judgedFrom mem e) ≡ Line n → r .pc ≡ m .regs .pc + n
-  unfolding judged
+  unfolding takenAsStep
   next-of (NotDecoded x) e i r ea n p q = no cc
   next-of (Taken j) e i r ea n p q =
       let k = length-of j n (leb (j .next) 0xFFFF) (codeRefused (j .entry .op) mem (immediateAt (j .operand))) q in

@@ -15,7 +15,7 @@ use Rattle.difference.specs.Differences.{Difference}
 use Rattle.difference.specs.Compare.{asEntry}
 use Rattle.difference.proofs.Whole.{ceiling}
 use Rattle.dump.specs.Dumps.{isDump, memoryIn}
-use Rattle.dump.specs.Told.{leftDump, rightDump, dumpDifferences, entryLine, toldLines, told, ToldFits}
+use Rattle.dump.specs.Told.{leftDump, rightDump, dumpDifferences, entryLine, toldLines, differencesTold, ToldFits}
 use Rattle.dump.proofs.Parts.{line-short}
 
 lines-fit : (ds : List Difference) → length (toldLines ds) ≤ 48 * length ds
@@ -28,7 +28,7 @@ either true a b n p q = p
 either false a b n p q = q
 
 pub told-fits : ToldFits
-unfolding told
+unfolding differencesTold
 told-fits input =
     let l = leftDump input in
     let r = rightDump input in

@@ -18,7 +18,7 @@ use Rattle.machine.proofs.Header.{length-counter}
 use Rattle.difference.proofs.Turns.{rank-at}
 use Rattle.difference.specs.declared.entries.Entry.{Entry}
 use Rattle.registers.specs.ConditionCodes.{ascii}
-use Rattle.dump.specs.Told.{fieldText, waitText, markText, hexBytes, hexOf, valueText, lineWith, fieldAt, entryLine}
+use Rattle.dump.specs.Told.{fieldText, waitText, markText, hexBytes, hexOf, valueText, spacedLine, fieldAt, entryLine}
 
 -- ---- six parts are a line
 
@@ -38,9 +38,9 @@ module _ (name left right o₀ o₁ o₂ o₃ o₄ o₅ o₆ : List ℕ) (at n�
     pub p₆ : o₆ ≡ sets o₅ (at + n₁ + n₂ + n₃ + n₄ + n₅) (lineFeed ∷ [])
     pub l₆ : n₆ ≡ 1
 
-  parts : sets o₀ at (lineWith name left right)
+  parts : sets o₀ at (spacedLine name left right)
       ≡ sets (sets (sets (sets (sets (sets o₀ at name) (at + length name) (32 ∷ [])) (at + length name + 1) left) (at + length name + 1 + length left) (32 ∷ [])) (at + length name + 1 + length left + 1) right) (at + length name + 1 + length left + 1 + length right) (lineFeed ∷ [])
-  unfolding lineWith
+  unfolding spacedLine
   parts =
       let q₁ = sets o₀ at name in
       let q₂ = sets q₁ (at + length name) (32 ∷ []) in
@@ -52,11 +52,11 @@ module _ (name left right o₀ o₁ o₂ o₃ o₄ o₅ o₆ : List ℕ) (at n�
       ∙ sets-append q₃ (32 ∷ []) (right ++ (lineFeed ∷ [])) (at + length name + 1 + length left)
       ∙ sets-append q₄ right (lineFeed ∷ []) (at + length name + 1 + length left + 1)
 
-  pub line-put : Six → o₆ ≡ sets o₀ at (lineWith name left right)
+  pub line-put : Six → o₆ ≡ sets o₀ at (spacedLine name left right)
   line-put s = s .p₆ ∙ rw (s .p₅, s .p₄, s .p₃, s .p₂, s .p₁, s .l₁, s .l₂, s .l₃, s .l₄, s .l₅) (sym parts)
 
-  pub line-long : Six → at + n₁ + n₂ + n₃ + n₄ + n₅ + n₆ - at ≡ length (lineWith name left right)
-  unfolding lineWith
+  pub line-long : Six → at + n₁ + n₂ + n₃ + n₄ + n₅ + n₆ - at ≡ length (spacedLine name left right)
+  unfolding spacedLine
   line-long s = rw (length-append name (32 ∷ left ++ (32 ∷ right ++ (lineFeed ∷ []))), length-append left (32 ∷ right ++ (lineFeed ∷ [])), length-append right (lineFeed ∷ [])) (omega (arith, s .l₁, s .l₂, s .l₃, s .l₄, s .l₅, s .l₆))
 
 -- ---- hexadecimal
@@ -197,11 +197,11 @@ value-short f n =
 
 -- ---- an entry's line
 
-pub field-line : (e : Entry) → e .what < 13 → lineWith (fieldText (fieldAt (e .what))) (valueText (fieldAt (e .what)) (e .left)) (valueText (fieldAt (e .what)) (e .right)) ≡ entryLine e
+pub field-line : (e : Entry) → e .what < 13 → spacedLine (fieldText (fieldAt (e .what))) (valueText (fieldAt (e .what)) (e .left)) (valueText (fieldAt (e .what)) (e .right)) ≡ entryLine e
 unfolding entryLine
 field-line e h = rw (lt-ltb (e .what) 13 h)
 
-pub run-line : (e : Entry) → 13 ≤ e .what → lineWith (ascii "memory") (hexOf 2 (e .left)) (hexOf 2 (e .right)) ≡ entryLine e
+pub run-line : (e : Entry) → 13 ≤ e .what → spacedLine (ascii "memory") (hexOf 2 (e .left)) (hexOf 2 (e .right)) ≡ entryLine e
 unfolding entryLine
 run-line e h = rw (le-ltb (e .what) 13 h)
 
@@ -209,14 +209,14 @@ either-line : (t : Bool) (a b : List ℕ) → length a ≤ 48 → length b ≤ 4
 either-line true a b p q = p
 either-line false a b p q = q
 
-with-short : (name left right : List ℕ) → length name ≤ 12 → length left ≤ 16 → length right ≤ 16 → length (lineWith name left right) ≤ 48
-unfolding lineWith
+with-short : (name left right : List ℕ) → length name ≤ 12 → length left ≤ 16 → length right ≤ 16 → length (spacedLine name left right) ≤ 48
+unfolding spacedLine
 with-short name left right p q r = rw (length-append name (32 ∷ left ++ (32 ∷ right ++ (lineFeed ∷ []))), length-append left (32 ∷ right ++ (lineFeed ∷ [])), length-append right (lineFeed ∷ [])) (omega arith)
 
 pub line-short : (e : Entry) → length (entryLine e) ≤ 48
 unfolding entryLine
 line-short e =
     let f = fieldAt (e .what) in
-    either-line (ltb (e .what) 13) (lineWith (fieldText f) (valueText f (e .left)) (valueText f (e .right))) (lineWith (ascii "memory") (hexOf 2 (e .left)) (hexOf 2 (e .right)))
+    either-line (ltb (e .what) 13) (spacedLine (fieldText f) (valueText f (e .left)) (valueText f (e .right))) (spacedLine (ascii "memory") (hexOf 2 (e .left)) (hexOf 2 (e .right)))
     (with-short (fieldText f) (valueText f (e .left)) (valueText f (e .right)) (name-short f) (value-short f (e .left)) (value-short f (e .right)))
     (with-short (ascii "memory") (hexOf 2 (e .left)) (hexOf 2 (e .right)) (omega arith) (omega (arith, hex-of-length 2 (e .left))) (omega (arith, hex-of-length 2 (e .right))))

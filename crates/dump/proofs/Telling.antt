@@ -20,7 +20,7 @@ use Rattle.difference.specs.declared.Compared.{Compared}
 use Rattle.difference.proofs.Whole.{ceiling}
 use Rattle.difference.proofs.ReadBack.{entries-back}
 use Rattle.dump.specs.Dumps.{dumpLength, isDump, memoryIn}
-use Rattle.dump.specs.Told.{listLines, toldLines, leftDump, rightDump, dumpDifferences, told}
+use Rattle.dump.specs.Told.{listLines, toldLines, leftDump, rightDump, dumpDifferences, differencesTold}
 use Rattle.dump.proofs.Writing.{not-whole, dump-length, machine-fits}
 use Rattle.dump.proofs.Listed.{all-lines}
 
@@ -64,19 +64,19 @@ module _ (l r list : List ℕ) (dl : isDump l ≡ true) (dr : isDump r ≡ true)
         (all-lines (sets list 0 (laidOut (dumpDifferences l r))) (dumpDifferences l r) (λ j h. entries-back (machineOf l) (machineOf r) (memoryIn l) (memoryIn r) list j (machine-fits l bl) (machine-fits r br) (omega (arith, few)) h))
 
 module _ (input : List ℕ) where
-  pub left-malformed : isDump (leftDump input) ≡ false → told input ≡ alone (numberOf Malformed)
-  unfolding told
+  pub left-malformed : isDump (leftDump input) ≡ false → differencesTold input ≡ alone (numberOf Malformed)
+  unfolding differencesTold
   left-malformed h = rw h
 
-  pub too-short : length input < dumpLength → told input ≡ alone (numberOf Malformed)
+  pub too-short : length input < dumpLength → differencesTold input ≡ alone (numberOf Malformed)
   too-short h = left-malformed (sym (not-whole (leftDump input) (λ e. omega (arith, e, length-take dumpLength input))))
 
-  pub right-malformed : isDump (leftDump input) ≡ true → isDump (rightDump input) ≡ false → told input ≡ alone (numberOf Malformed)
-  unfolding told
+  pub right-malformed : isDump (leftDump input) ≡ true → isDump (rightDump input) ≡ false → differencesTold input ≡ alone (numberOf Malformed)
+  unfolding differencesTold
   right-malformed h g = rw (h, g)
 
-  pub both-told : isDump (leftDump input) ≡ true → isDump (rightDump input) ≡ true → told input ≡ toldLines (dumpDifferences (leftDump input) (rightDump input))
-  unfolding told
+  pub both-told : isDump (leftDump input) ≡ true → isDump (rightDump input) ≡ true → differencesTold input ≡ toldLines (dumpDifferences (leftDump input) (rightDump input))
+  unfolding differencesTold
   both-told h g = rw (h, g)
 
   -- the part from the second dump on

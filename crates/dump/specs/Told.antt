@@ -59,8 +59,8 @@ valueText f n = cond (eqb (rank f) (rank Waiting)) (waitText n) (cond (eqb (rank
 -- ---- lines
 
 -- NAME LEFT RIGHT, or memory FIRST LAST
-unfoldable pub lineWith : List ℕ → List ℕ → List ℕ → List ℕ
-lineWith name left right = name ++ (32 ∷ left ++ (32 ∷ right ++ (lineFeed ∷ [])))
+unfoldable pub spacedLine : List ℕ → List ℕ → List ℕ → List ℕ
+spacedLine name left right = name ++ (32 ∷ left ++ (32 ∷ right ++ (lineFeed ∷ [])))
 
 -- the field of a number; above them a run
 abbrev pub fieldAt : ℕ → Field
@@ -69,8 +69,8 @@ fieldAt what = getD fields what A
 unfoldable pub entryLine : Entry → List ℕ
 entryLine e =
     cond (ltb (e .what) runNumber)
-    (lineWith (fieldText (fieldAt (e .what))) (valueText (fieldAt (e .what)) (e .left)) (valueText (fieldAt (e .what)) (e .right)))
-    (lineWith (ascii "memory") (hexOf 2 (e .left)) (hexOf 2 (e .right)))
+    (spacedLine (fieldText (fieldAt (e .what))) (valueText (fieldAt (e .what)) (e .left)) (valueText (fieldAt (e .what)) (e .right)))
+    (spacedLine (ascii "memory") (hexOf 2 (e .left)) (hexOf 2 (e .right)))
 
 unfoldable pub toldLines : List Difference → List ℕ
 toldLines [] = []
@@ -92,12 +92,12 @@ rightDump input = drop dumpLength input
 abbrev pub dumpDifferences : List ℕ → List ℕ → List Difference
 dumpDifferences l r = differences (machineOf l) (memoryIn l) (machineOf r) (memoryIn r)
 
-unfoldable pub told : List ℕ → List ℕ
-told input =
+unfoldable pub differencesTold : List ℕ → List ℕ
+differencesTold input =
     cond (isDump (leftDump input) && isDump (rightDump input))
     (toldLines (dumpDifferences (leftDump input) (rightDump input)))
     (alone (numberOf Malformed))
 
 -- the law: a line has at most 48 bytes, and there are at most 32,781
 abbrev pub ToldFits : Type 0
-ToldFits = (input : List ℕ) → length (told input) ≤ 48 * 32781
+ToldFits = (input : List ℕ) → length (differencesTold input) ≤ 48 * 32781

@@ -8,7 +8,7 @@ ghost use Rattle.answers.specs.Numbers.{numberOf};
 ghost use Rattle.answers.specs.declared.Refusal.the-variants.{Malformed};
 ghost use Rattle.text.specs.Lines.{alone};
 ghost use Rattle.dump.specs.Dumps.{isDump};
-ghost use Rattle.dump.specs.Told.{listLines, toldLines, dumpDifferences, told};
+ghost use Rattle.dump.specs.Told.{listLines, toldLines, dumpDifferences, differencesTold};
 use super::DUMP;
 use super::is_dump;
 use super::lines::put_line;
@@ -61,7 +61,7 @@ fn put_refusal(out: &mut [u8]) -> usize
 
 // Writes what is printed of two dumps, one after the other, at the front of `out`, and returns its length.
 pub fn tell(input: &[u8], out: &mut [u8]) -> usize
-    ensures { λ r. ⌜ (r ≡ length (told (now (input .entry)))) × (now (out .exit) ≡ sets (now (out .entry)) 0 (told (now (input .entry)))) ⌝ }
+    ensures { λ r. ⌜ (r ≡ length (differencesTold (now (input .entry)))) × (now (out .exit) ≡ sets (now (out .entry)) 0 (differencesTold (now (input .entry)))) ⌝ }
 {
     if input.len() < DUMP {
         return put_refusal(out);

@@ -26,8 +26,8 @@ waits =
 unfoldable pub entry : Saved
 entry = record { place = 0x1234; byte = 0x56 }
 
-unfoldable pub first : List ℕ
-first = encode waits []
+unfoldable pub shortest : List ℕ
+shortest = encode waits []
 
 unfoldable pub second : List ℕ
 second = encode waits (entry ∷ [])
@@ -37,7 +37,7 @@ third = encode waits (entry ∷ entry ∷ [])
 
 -- 34, 37 and 40 bytes, so 111 are used
 unfoldable pub three : List ℕ
-three = first ++ (second ++ (third ++ (99 ∷ 99 ∷ [])))
+three = shortest ++ (second ++ (third ++ (99 ∷ 99 ∷ [])))
 
 -- what undo judges of the newest record, by the bytes used
 unfoldable pub undoJudges : List Bool
@@ -82,7 +82,7 @@ dropJudges =
 pub record PackedRecords : Type 0 where
   -- the sections as they are, then the entries in use, then the length
   pub written : second ≡ 1 ∷ 2 ∷ 3 ∷ 4 ∷ 5 ∷ 6 ∷ 7 ∷ 8 ∷ 9 ∷ 10 ∷ 11 ∷ 12 ∷ 13 ∷ 14 ∷ 2 ∷ 1 ∷ 0 ∷ 0 ∷ 0 ∷ 0 ∷ 0 ∷ 0 ∷ 1 ∷ 2 ∷ 0 ∷ 0 ∷ 0 ∷ 0 ∷ 0 ∷ 0 ∷ 0 ∷ 7 ∷ 1 ∷ 0x12 ∷ 0x34 ∷ 0x56 ∷ 37 ∷ []
-  pub lengths : length first ∷ length second ∷ length third ∷ reach 1 three ∷ reach 2 three ∷ reach 3 three ∷ [] ≡ 34 ∷ 37 ∷ 40 ∷ 34 ∷ 71 ∷ 111 ∷ []
+  pub lengths : length shortest ∷ length second ∷ length third ∷ reach 1 three ∷ reach 2 three ∷ reach 3 three ∷ [] ≡ 34 ∷ 37 ∷ 40 ∷ 34 ∷ 71 ∷ 111 ∷ []
   pub view : newestOf three 3 111 ≡ third
   pub undo : undoJudges ≡ true ∷ true ∷ false ∷ false ∷ false ∷ false ∷ false ∷ false ∷ false ∷ false ∷ false ∷ []
   pub drop-walk : dropJudges ≡ true ∷ false ∷ false ∷ true ∷ false ∷ true ∷ false ∷ false ∷ true ∷ true ∷ []

@@ -76,7 +76,7 @@ pub record SavedFits (e : Saved) : Type 0 where
   pub place : e .place < 0xFF00
   pub byte : e .byte < 256
 
-pub record ReadsBack (m : Machine) (es : List Saved) : Type 0 where
+pub record RecordReadsBack (m : Machine) (es : List Saved) : Type 0 where
   pub machine : machineOf (encode m es) ≡ m
   pub entries : entriesOf (encode m es) ≡ es
   pub size : length (encode m es) ≡ recordLength (length es)
@@ -84,4 +84,4 @@ pub record ReadsBack (m : Machine) (es : List Saved) : Type 0 where
   pub whole : isRecord (encode m es) ≡ true
 
 abbrev pub RecordsBack : Type 0
-RecordsBack = (m : Machine) (es : List Saved) → MachineFits m → All SavedFits es → length es ≤ mostStored → ReadsBack m es
+RecordsBack = (m : Machine) (es : List Saved) → MachineFits m → All SavedFits es → length es ≤ mostStored → RecordReadsBack m es

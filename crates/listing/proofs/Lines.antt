@@ -23,7 +23,7 @@ use Rattle.decode.specs.declared.instruction.Decoded.{Decoded}
 use Rattle.decode.specs.declared.instruction.Decoded.the-variants.{Instruction as Taken, Refused as NotDecoded}
 use Rattle.decode.specs.declared.instruction.Instruction.{Instruction}
 use Rattle.disassembly.specs.Figures.{byteText}
-use Rattle.disassembly.specs.Line.{space, lineLength, columns, lineWith, lineOf}
+use Rattle.disassembly.specs.Line.{space, lineLength, columns, lineWith, instructionLine}
 use Rattle.disassembly.specs.Disassembly.{legible, answered, disassembledOf, writtenTo, lineAfter}
 use Rattle.disassembly.specs.declared.Disassembled.{Disassembled}
 use Rattle.disassembly.specs.declared.Disassembled.the-variants.{Line, Refused}
@@ -115,7 +115,7 @@ module _ (mem : List ℕ) (at : ℕ) (h : length mem ≡ 65536) where
   line-of-49 b l = go (legible mem at) refl
     where
       go : (d : Decoded) → legible mem at ≡ d → length (lineFrom mem at d ++ (lineFeed ∷ [])) ≡ 49
-      go (Taken i) e = length-append (lineOf mem at i) (lineFeed ∷ []) ∙ omega (arith, text-of-48 mem at i b l (legible-taken mem at i e .0))
+      go (Taken i) e = length-append (instructionLine mem at i) (lineFeed ∷ []) ∙ omega (arith, text-of-48 mem at i b l (legible-taken mem at i e .0))
       go (NotDecoded x) e =
           length-append (refusedAt mem at x) (lineFeed ∷ [])
           ∙ omega (arith, line-length (hex4 at) (hex2 (byteAt mem at)) (ascii "FCB") (refusedText (byteAt mem at) x) (omega arith) (omega arith) (omega arith) (refused-short (byteAt mem at) x))

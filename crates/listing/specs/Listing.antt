@@ -19,7 +19,7 @@ use Rattle.registers.specs.ConditionCodes.{ascii}
 use Rattle.decode.specs.declared.instruction.Decoded.{Decoded}
 use Rattle.decode.specs.declared.instruction.Decoded.the-variants.{Instruction as Taken, Refused as NotDecoded}
 use Rattle.disassembly.specs.Figures.{byteText}
-use Rattle.disassembly.specs.Line.{lineWith, lineOf}
+use Rattle.disassembly.specs.Line.{lineWith, instructionLine}
 use Rattle.disassembly.specs.Disassembly.{legible}
 
 -- ---- a line
@@ -32,7 +32,7 @@ unfoldable pub refusedAt : List ℕ → ℕ → Refusal → List ℕ
 refusedAt mem at x = lineWith (hex4 at) (hex2 (byteAt mem at)) (ascii "FCB") (refusedText (byteAt mem at) x)
 
 abbrev pub lineFrom : List ℕ → ℕ → Decoded → List ℕ
-lineFrom mem at (Taken i) = lineOf mem at i
+lineFrom mem at (Taken i) = instructionLine mem at i
 lineFrom mem at (NotDecoded x) = refusedAt mem at x
 
 -- where the listing goes on: after the instruction, or at the next address

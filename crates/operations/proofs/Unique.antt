@@ -41,6 +41,7 @@ transferable κs a x y ws vs p q = (p ∙ sym q, refl)
 
 pub transfer-name : Determines 0 transfers.transfer_name.Kinds.ps transfers.transfer_name.Kinds.r transfers.transfer_name.Reads.Post
 transfer-name κs a x y ws vs p q = (p ∙ sym q, refl)
+
 pub accumulator : Determines 0 eight_bit.accumulator.Kinds.ps eight_bit.accumulator.Kinds.r eight_bit.accumulator.Reads.Post
 accumulator κs a x y ws vs p q = (p ∙ sym q, refl)
 

@@ -12,7 +12,7 @@ use borrow.Author.Tests.{lt-ltb, le-ltb}
 use Rattle.answers.specs.declared.Answer.the-variants.{Done}
 use Rattle.answers.specs.declared.Refusal.the-variants.{SalvageShort}
 use Rattle.srecord.proofs.Laying.{sets-two}
-use Rattle.salvage.specs.Mended.{keptOf, endIf, isAdded, mended, droppedNumbers, listing, tallyOf, isShort, salvagedNot, salvagedOf, outputMended, listFilled}
+use Rattle.salvage.specs.Mended.{keptOf, endIf, isAdded, mended, droppedNumbers, numberBytes, tallyOf, isShort, salvagedNot, salvagedOf, outputMended, listFilled}
 use Rattle.salvage.specs.declared.mended.Salvaged.{Salvaged}
 use Rattle.salvage.specs.declared.mended.Tally.{Tally}
 use Rattle.salvage.proofs.Laying.{eight-each}
@@ -26,8 +26,8 @@ module _ (file : List ℕ) (found : Tally) (f : found ≡ tallyOf file) where
   unfolding tallyOf isAdded
   end-same = rw f
 
-  pub numbers-same : length (listing file) ≡ 8 * found .numbers
-  unfolding tallyOf listing
+  pub numbers-same : length (numberBytes file) ≡ 8 * found .numbers
+  unfolding tallyOf numberBytes
   numbers-same = rw f (eight-each (droppedNumbers file))
 
   bytes-same : found .bytes ≡ length (keptOf file)
@@ -56,7 +56,7 @@ module _ (file : List ℕ) (found : Tally) (f : found ≡ tallyOf file) where
 
       short-list : length list < 8 * found .numbers → isShort file out list ≡ true
       unfolding isShort
-      short-list h = let n = numbers-same in rw (lt-ltb (length list) (length (listing file)) (omega arith)) (or-true (ltb (length out) (length (mended file))))
+      short-list h = let n = numbers-same in rw (lt-ltb (length list) (length (numberBytes file)) (omega arith)) (or-true (ltb (length out) (length (mended file))))
 
       pub no-room : length out < found .bytes + more → Unwritten
       no-room h = refuses (short-out h)
@@ -69,7 +69,7 @@ module _ (file : List ℕ) (found : Tally) (f : found ≡ tallyOf file) where
       long h k =
           let n = mended-length in
           let q = numbers-same in
-          rw (le-ltb (length out) (length (mended file)) (omega arith), le-ltb (length list) (length (listing file)) (omega arith))
+          rw (le-ltb (length out) (length (mended file)) (omega arith), le-ltb (length list) (length (numberBytes file)) (omega arith))
 
       whole : isShort file out list ≡ false
           → _≡_ {A = Salvaged} (record { bytes = found .bytes + more; numbers = found .numbers; added = not (found .ended); answer = Done }) (salvagedOf file out list)
@@ -83,12 +83,12 @@ module _ (file : List ℕ) (found : Tally) (f : found ≡ tallyOf file) where
           let b = bytes-same in
           q ∙ rw (e, p, end-same) (sets-two 0 (found .bytes) (keptOf file) (endIf (isAdded file)) out (omega arith))
 
-      list-whole : isShort file out list ≡ false → (new : List ℕ) → new ≡ sets list 0 (listing file) → new ≡ listFilled file out list
+      list-whole : isShort file out list ≡ false → (new : List ℕ) → new ≡ sets list 0 (numberBytes file) → new ≡ listFilled file out list
       unfolding listFilled
       list-whole e new p = rw e p
 
       pub accepts : (mid new filled : List ℕ) → found .bytes + more ≤ length out → 8 * found .numbers ≤ length list
-          → mid ≡ sets out 0 (keptOf file) → new ≡ sets mid (found .bytes) (endIf (not (found .ended))) → filled ≡ sets list 0 (listing file)
+          → mid ≡ sets out 0 (keptOf file) → new ≡ sets mid (found .bytes) (endIf (not (found .ended))) → filled ≡ sets list 0 (numberBytes file)
           → (_≡_ {A = Salvaged} (record { bytes = found .bytes + more; numbers = found .numbers; added = not (found .ended); answer = Done }) (salvagedOf file out list))
           × ((new ≡ outputMended file out list) × (filled ≡ listFilled file out list))
       accepts mid new filled h k p q s = let e = long h k in (whole e, (out-whole e mid new p q, list-whole e filled s))

@@ -11,7 +11,7 @@ use Rattle.answers.specs.declared.Refusal.{Refusal}
 use Rattle.machine.specs.Record.{bytes as lowBytes, counter}
 use Rattle.srecord.proofs.Laying.{sets-two}
 use Rattle.salvage.specs.Lines.{gathered, sifted}
-use Rattle.salvage.specs.Mended.{keptText, droppedNumber, keptOf, droppedNumbers, inBytes, listing}
+use Rattle.salvage.specs.Mended.{keptText, droppedNumber, keptOf, droppedNumbers, inBytes, numberBytes}
 use Rattle.salvage.specs.declared.Fate.the-variants.{Keep, Drop}
 use Rattle.salvage.specs.declared.Cursor.{Cursor}
 use Rattle.salvage.specs.declared.Turn.{Turn}
@@ -25,10 +25,10 @@ pub record Laid (file out₀ list₀ : List ℕ) (at : Cursor) (bytes listed : �
   pub out-same : length out ≡ length out₀
   pub list-same : length list ≡ length list₀
   pub out-is : sets out bytes (gathered keptText (rest file at)) ≡ sets out₀ 0 (keptOf file)
-  pub list-is : sets list listed (inBytes (gathered droppedNumber (rest file at))) ≡ sets list₀ 0 (listing file)
+  pub list-is : sets list listed (inBytes (gathered droppedNumber (rest file at))) ≡ sets list₀ 0 (numberBytes file)
 
-pub at-first : (file out list : List ℕ) (at : Cursor) → at ≡ record { from = 0; lines = 0; ended = false } → length (listing file) ≤ length list → Laid file out list at 0 0 out list
-unfolding keptOf droppedNumbers listing
+pub at-first : (file out list : List ℕ) (at : Cursor) → at ≡ record { from = 0; lines = 0; ended = false } → length (numberBytes file) ≤ length list → Laid file out list at 0 0 out list
+unfolding keptOf droppedNumbers numberBytes
 at-first file out list at e h = rw e (record { within = omega arith; few = omega arith; less = omega arith; room = omega arith; out-same = refl; list-same = refl; out-is = refl; list-is = refl })
 
 eight : (n : ℕ) → length (lowBytes 8 n) ≡ 8
@@ -106,6 +106,6 @@ module _ (file out₀ list₀ : List ℕ) (at : Cursor) (t : Turn) (bytes listed
       }
 
 pub at-last : (file out₀ list₀ : List ℕ) (at : Cursor) (bytes listed : ℕ) (out list : List ℕ) → Laid file out₀ list₀ at bytes listed out list
-    → length file ≤ at .from → (out ≡ sets out₀ 0 (keptOf file)) × (list ≡ sets list₀ 0 (listing file))
+    → length file ≤ at .from → (out ≡ sets out₀ 0 (keptOf file)) × (list ≡ sets list₀ 0 (numberBytes file))
 at-last file out₀ list₀ at bytes listed out list k h =
     (rw (none file at h keptText) at (k .out-is), rw (none file at h droppedNumber) at (k .list-is))

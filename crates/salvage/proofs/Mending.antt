@@ -16,8 +16,8 @@ use Rattle.answers.specs.declared.Refusal.{Refusal}
 use Rattle.answers.specs.declared.Refusal.the-variants.{SalvageShort, Malformed}
 use Rattle.text.specs.Lines.{alone}
 use Rattle.salvage.specs.Lines.{Sifted, sifted, gathered}
-use Rattle.salvage.specs.Mended.{isAdded, mended, droppedNumber, droppedNumbers, listing, isShort, salvagedNot, salvagedOf, outputMended}
-use Rattle.salvage.specs.Printed.{longest, droppedText, addedIf, reportOf, noNumbers, mendAnswer, outputPrinted, errorText, printedOf, PrintedFits, MendFits}
+use Rattle.salvage.specs.Mended.{isAdded, mended, droppedNumber, droppedNumbers, numberBytes, isShort, salvagedNot, salvagedOf, outputMended}
+use Rattle.salvage.specs.Printed.{longest, droppedText, addedIf, reportText, noNumbers, mendAnswer, outputPrinted, errorText, printedOf, PrintedFits, MendFits}
 use Rattle.salvage.specs.declared.Fate.{Fate}
 use Rattle.salvage.specs.declared.Fate.the-variants.{Keep, Drop}
 use Rattle.salvage.specs.declared.mended.Salvaged.{Salvaged}
@@ -94,15 +94,15 @@ or-right true b e = absurd (let z : _≡_ {A = ℕ} 0 1 = cc in omega arith)
 or-right false b e = e
 
 module _ (file out : List ℕ) where
-  not-short : isShort file out noNumbers ≡ false → (length (mended file) ≤ length out) × (length (listing file) ≤ length noNumbers)
+  not-short : isShort file out noNumbers ≡ false → (length (mended file) ≤ length out) × (length (numberBytes file) ≤ length noNumbers)
   unfolding isShort
   not-short e = (
-    ltb-false _ _ (or-left (ltb (length out) (length (mended file))) (ltb (length noNumbers) (length (listing file))) e),
-    ltb-false _ _ (or-right (ltb (length out) (length (mended file))) (ltb (length noNumbers) (length (listing file))) e),
+    ltb-false _ _ (or-left (ltb (length out) (length (mended file))) (ltb (length noNumbers) (length (numberBytes file))) e),
+    ltb-false _ _ (or-right (ltb (length out) (length (mended file))) (ltb (length noNumbers) (length (numberBytes file))) e),
   )
 
-  report-short : length (listing file) ≤ length noNumbers → length (reportOf file) ≤ 50 * 0x8000 + 17
-  unfolding reportOf listing droppedNumbers noNumbers
+  report-short : length (numberBytes file) ≤ length noNumbers → length (reportText file) ≤ 50 * 0x8000 + 17
+  unfolding reportText numberBytes droppedNumbers noNumbers
   report-short h =
       simp length-append
       (omega (arith, told-short (sifted file), added-short (isAdded file), eight-each (gathered droppedNumber (sifted file)), length-replicate {A = ℕ} (8 * 0x8000) 0))

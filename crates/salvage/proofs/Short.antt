@@ -12,7 +12,7 @@ use borrow.Author.Tests.{lt-ltb, ltb-true, ltb-false}
 use Rattle.answers.specs.declared.Answer.the-variants.{Done, Refused}
 use Rattle.answers.specs.declared.Refusal.{Refusal}
 use Rattle.answers.specs.declared.Refusal.the-variants.{SalvageShort}
-use Rattle.salvage.specs.Mended.{mended, listing, isShort, salvagedOf, outputMended, listFilled}
+use Rattle.salvage.specs.Mended.{mended, numberBytes, isShort, salvagedOf, outputMended, listFilled}
 use Rattle.salvage.specs.Laws.{ShortExactly}
 
 module _ (file out list : List ℕ) where
@@ -42,12 +42,12 @@ module _ (file out list : List ℕ) where
   unfolding listFilled
   list-kept e = rw e
 
-  which : isShort file out list ≡ true → (length out < length (mended file)) ⊎ (length list < length (listing file))
+  which : isShort file out list ≡ true → (length out < length (mended file)) ⊎ (length list < length (numberBytes file))
   unfolding isShort
   which = go (ltb (length out) (length (mended file))) refl
     where
-      go : (b : Bool) → ltb (length out) (length (mended file)) ≡ b → (b || ltb (length list) (length (listing file))) ≡ true
-          → (length out < length (mended file)) ⊎ (length list < length (listing file))
+      go : (b : Bool) → ltb (length out) (length (mended file)) ≡ b → (b || ltb (length list) (length (numberBytes file))) ≡ true
+          → (length out < length (mended file)) ⊎ (length list < length (numberBytes file))
       go true e h = inl (ltb-true _ _ e)
       go false e h = inr (ltb-true _ _ h)
 
@@ -55,10 +55,10 @@ module _ (file out list : List ℕ) where
   or-true true = refl
   or-true false = refl
 
-  either : (length out < length (mended file)) ⊎ (length list < length (listing file)) → isShort file out list ≡ true
+  either : (length out < length (mended file)) ⊎ (length list < length (numberBytes file)) → isShort file out list ≡ true
   unfolding isShort
   either (inl h) = rw (lt-ltb (length out) (length (mended file)) h)
-  either (inr h) = rw (lt-ltb (length list) (length (listing file)) h) (or-true (ltb (length out) (length (mended file))))
+  either (inr h) = rw (lt-ltb (length list) (length (numberBytes file)) h) (or-true (ltb (length out) (length (mended file))))
 
 pub short-exactly : ShortExactly
 short-exactly file out list =

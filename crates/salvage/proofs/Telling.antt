@@ -19,7 +19,7 @@ use Rattle.text.proofs.Decimals.{at-most-twenty}
 use Rattle.text.proofs.Texts.{text-is-whole, alone-fits}
 use Rattle.salvage.specs.Lines.{hasEnd, gathered, sifted}
 use Rattle.salvage.specs.Mended.{isAdded}
-use Rattle.salvage.specs.Printed.{droppedLine, droppedText, addedIf, reportOf}
+use Rattle.salvage.specs.Printed.{droppedLine, droppedText, addedIf, reportText}
 use Rattle.salvage.specs.declared.Fate.the-variants.{Keep, Drop}
 use Rattle.salvage.specs.declared.Cursor.{Cursor}
 use Rattle.salvage.specs.declared.Turn.{Turn}
@@ -128,8 +128,8 @@ module _ (file out₀ : List ℕ) (at : Cursor) (t : Turn) (used : ℕ) (out : L
 
 pub at-last : (file out₀ : List ℕ) (at : Cursor) (used : ℕ) (out : List ℕ) → Told file out₀ at used out → length file ≤ at .from
     → (more : ℕ) (new : List ℕ) → more ≡ length (addedIf (not (at .ended))) → new ≡ sets out used (addedIf (not (at .ended)))
-    → (used + more ≡ length (reportOf file)) × (new ≡ sets out₀ 0 (reportOf file))
-unfolding reportOf isAdded
+    → (used + more ≡ length (reportText file)) × (new ≡ sets out₀ 0 (reportText file))
+unfolding reportText isAdded
 at-last file out₀ at used out k h more new m s =
     let z : at .ended ≡ hasEnd (linesOf file) = sym (no-end file at h) ∙ k .ends-are in
     let g = gathered droppedText (sifted file) in

@@ -11,7 +11,7 @@ use Rattle.answers.specs.declared.Refusal.{Refusal}
 use Rattle.answers.specs.declared.Refusal.the-variants.{SalvageShort}
 use Rattle.srecord.specs.File.{linesOf, loadedOf}
 use Rattle.salvage.specs.Lines.{Sifted, sifted, gathered}
-use Rattle.salvage.specs.Mended.{endLine, isAdded, mended, droppedNumbers, listing, salvagedOf, outputMended, listFilled}
+use Rattle.salvage.specs.Mended.{endLine, isAdded, mended, droppedNumbers, numberBytes, salvagedOf, outputMended, listFilled}
 use Rattle.salvage.specs.declared.Fate.{Fate}
 use Rattle.salvage.specs.declared.Fate.the-variants.{Keep, Drop}
 
@@ -67,7 +67,7 @@ SoundAsIs = (mem file : List ℕ) → length mem ≡ 65536 → SoundBack mem fil
 
 -- it is given exactly where the output is shorter than the text, or the list than the numbers; output and list are then as they were
 pub record ShortRefused (file out list : List ℕ) : Type 0 where
-  pub exactly : (salvagedOf file out list .answer ≡ Refused SalvageShort) ↔ ((length out < length (mended file)) ⊎ (length list < length (listing file)))
+  pub exactly : (salvagedOf file out list .answer ≡ Refused SalvageShort) ↔ ((length out < length (mended file)) ⊎ (length list < length (numberBytes file)))
   pub only : (r : Refusal) → salvagedOf file out list .answer ≡ Refused r → r ≡ SalvageShort
   pub output : (r : Refusal) → salvagedOf file out list .answer ≡ Refused r → outputMended file out list ≡ out
   pub numbers : (r : Refusal) → salvagedOf file out list .answer ≡ Refused r → listFilled file out list ≡ list

@@ -64,8 +64,8 @@ abbrev pub inBytes : List ℕ → List ℕ
 inBytes [] = []
 inBytes (n ∷ ns) = bytes 8 n ++ inBytes ns
 
-unfoldable pub listing : List ℕ → List ℕ
-listing file = inBytes (droppedNumbers file)
+unfoldable pub numberBytes : List ℕ → List ℕ
+numberBytes file = inBytes (droppedNumbers file)
 
 -- ---- the call
 
@@ -75,7 +75,7 @@ tallyOf file = record { bytes = length (keptOf file); numbers = length (droppedN
 
 -- the output is too short for the text, or the list for the numbers
 unfoldable pub isShort : List ℕ → List ℕ → List ℕ → Bool
-isShort file out list = ltb (length out) (length (mended file)) || ltb (length list) (length (listing file))
+isShort file out list = ltb (length out) (length (mended file)) || ltb (length list) (length (numberBytes file))
 
 abbrev pub salvagedNot : Refusal → Salvaged
 salvagedNot r = record { bytes = 0; numbers = 0; added = false; answer = Refused r }
@@ -90,4 +90,4 @@ unfoldable pub outputMended : List ℕ → List ℕ → List ℕ → List ℕ
 outputMended file out list = cond (isShort file out list) out (sets out 0 (mended file))
 
 unfoldable pub listFilled : List ℕ → List ℕ → List ℕ → List ℕ
-listFilled file out list = cond (isShort file out list) list (sets list 0 (listing file))
+listFilled file out list = cond (isShort file out list) list (sets list 0 (numberBytes file))

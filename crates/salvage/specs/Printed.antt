@@ -35,8 +35,8 @@ droppedText s = tellIfDropped (s .fate) (s .number)
 abbrev pub addedIf : Bool → List ℕ
 addedIf added = cond added (ascii "added " ++ endLine) []
 
-unfoldable pub reportOf : List ℕ → List ℕ
-reportOf file = gathered droppedText (sifted file) ++ addedIf (isAdded file)
+unfoldable pub reportText : List ℕ → List ℕ
+reportText file = gathered droppedText (sifted file) ++ addedIf (isAdded file)
 
 -- ---- the program
 
@@ -57,7 +57,7 @@ outputPrinted file out = cond (leb (length file) longest) (outputMended file out
 
 -- standard error has the report, or the number of the refusal
 abbrev pub errorText : Answer → List ℕ → List ℕ
-errorText Done file = reportOf file
+errorText Done file = reportText file
 errorText (Refused r) file = alone (numberOf r)
 
 unfoldable pub printedOf : List ℕ → List ℕ → Printed

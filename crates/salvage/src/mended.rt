@@ -4,7 +4,7 @@ ghost use mathlib.Core.Bool.{not};
 ghost use Prim.Native.Nat.{_≤_};
 ghost use lib.ListN.{length};
 ghost use lib.Seq.{sets};
-ghost use Rattle.salvage.specs.Mended.{endIf, keptOf, listing, tallyOf, salvagedNot, salvagedOf, outputMended, listFilled};
+ghost use Rattle.salvage.specs.Mended.{endIf, keptOf, numberBytes, tallyOf, salvagedNot, salvagedOf, outputMended, listFilled};
 use super::Fate;
 use super::first;
 use super::next;
@@ -51,8 +51,8 @@ fn count(file: &[u8]) -> Tally
 
 // Writes the lines that are kept, and the numbers of the others.
 fn put_lines(file: &[u8], out: &mut [u8], list: &mut [u8])
-    requires { ⌜ length (listing (now file)) ≤ length (now list) ⌝ }
-    ensures { λ _. ⌜ (now (out .exit) ≡ sets (now (out .entry)) 0 (keptOf (now (file .entry)))) × (now (list .exit) ≡ sets (now (list .entry)) 0 (listing (now (file .entry)))) ⌝ }
+    requires { ⌜ length (numberBytes (now file)) ≤ length (now list) ⌝ }
+    ensures { λ _. ⌜ (now (out .exit) ≡ sets (now (out .entry)) 0 (keptOf (now (file .entry)))) × (now (list .exit) ≡ sets (now (list .entry)) 0 (numberBytes (now (file .entry)))) ⌝ }
 {
     let mut at = first();
     let mut bytes = 0;

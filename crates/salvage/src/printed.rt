@@ -6,7 +6,7 @@ ghost use lib.ListN.{length};
 ghost use lib.Seq.{sets};
 ghost use Rattle.text.specs.Lines.{alone};
 ghost use Rattle.answers.specs.Numbers.{numberOf};
-ghost use Rattle.salvage.specs.Printed.{longest, droppedLine, addedIf, reportOf, noNumbers, printedOf, outputPrinted, errorText, mendAnswer};
+ghost use Rattle.salvage.specs.Printed.{longest, droppedLine, addedIf, reportText, noNumbers, printedOf, outputPrinted, errorText, mendAnswer};
 use super::Fate;
 use super::first;
 use super::mended::salvage;
@@ -59,7 +59,7 @@ fn put_added(out: &mut [u8], at: usize, ended: bool) -> usize
 // Writes the report of a file that is not too long, and returns its length.
 fn put_report(file: &[u8], out: &mut [u8]) -> usize
     requires { ⌜ length (now file) ≤ longest ⌝ }
-    ensures { λ r. ⌜ (r ≡ length (reportOf (now (file .entry)))) × (now (out .exit) ≡ sets (now (out .entry)) 0 (reportOf (now (file .entry)))) ⌝ }
+    ensures { λ r. ⌜ (r ≡ length (reportText (now (file .entry)))) × (now (out .exit) ≡ sets (now (out .entry)) 0 (reportText (now (file .entry)))) ⌝ }
 {
     let mut at = first();
     let mut used = 0;

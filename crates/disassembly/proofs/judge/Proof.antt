@@ -2,12 +2,12 @@
 -- Assumes nothing.
 use borrow.Author.Needs.{needs}
 use borrow.Author.Tests.{le-leb, lt-leb}
-use Rattle.disassembly.specs.Disassembly.{judged}
+use Rattle.disassembly.specs.Disassembly.{takenAsStep}
 use Rattle.disassembly.proofs.judge.Statement.{statement}
 use Rattle.disassembly.proofs.judge.Tie as tie
 
 pub judge-spec : {M : Type 1} → statement M
-unfolding judged
+unfolding takenAsStep
 judge-spec =
     tie.close
     (tie.spec (λ c. rw (lt-leb (c .before .before .before .args .i .next) 0xFFFF (c .if1 .taken)))

@@ -9,14 +9,14 @@ use Rattle.text.specs.Hex.{hex4}
 use Rattle.text.specs.Lines.{said}
 use Rattle.text.proofs.Texts.{text-is-whole}
 use Rattle.disassembly.specs.Operands.{operandText}
-use Rattle.disassembly.specs.Line.{space, lineLength, bytePairs, mnemonicText, lineOf}
+use Rattle.disassembly.specs.Line.{space, lineLength, bytePairs, mnemonicText, instructionLine}
 use Rattle.disassembly.proofs.Widths.{operand-short, mnemonic-short}
 use Rattle.disassembly.proofs.Columns.{pairs-length, lent-rest, whole, whole-length}
 use Rattle.disassembly.proofs.write_line.Statement.{statement}
 use Rattle.disassembly.proofs.write_line.Tie as tie
 
 returns : tie.Need-returns
-unfolding lineOf
+unfolding instructionLine
 returns c =
     let s = c .before .before .before .before .before .before .before .before .before .before .before .before .before .before .before .before .before .before .before .before .before .before .before .before .before .before .before .before .before in
     let a = s .args in
