@@ -21,8 +21,6 @@ use journal::Twin;
 // Raised with each change of a struct, or of what a call takes.
 const ABI: u64 = 3;
 
-const ABI: u64 = 2;
-
 // `count` bytes of the journal from `at` on; 0 bytes where there is no record.
 #[repr(C)]
 pub struct HostPart {
