@@ -19,8 +19,9 @@
  * What the prover does not see, and the host owes:
  *   - Pointers and lengths. A pointer with its length names bytes that are there, to be read, and written unless it is const. With length
  *     0 the pointer may be null.
- *   - Overlap. Two buffers that are lent to one call have no byte in common: memory and journal, memory and text, memory and output, memory and line, text, output and list. Where
- *     they have, nothing is reported: the calls are answered 0, and undo silently fails to restore. DOORHAWSER_DEBUG, below, looks.
+ *   - Overlap. Two buffers that are lent to one call have no byte in common: memory and journal, memory and text, memory and output, memory and line, text, output
+ *     and list, memory and dump, memories and list; two memories that are compared may be one. Where they have, nothing is
+ *     reported: the calls are answered 0, and undo silently fails to restore. DOORHAWSER_DEBUG, below, looks.
  *   - Other writers. Nobody else writes a lent buffer during a call. The journal's bytes are the calls' own: between calls the host may
  *     copy and move them, and changes none. A host that changes memory between calls gets back by undo what the calls changed, and no more.
  *   - These declarations. No proof ties them to crates/host: the assertions below hold sizes and offsets, tools/host tries every field,
@@ -46,12 +47,13 @@ extern "C" {
 /* Raised by each change of a struct below, or of what a call takes. */
 enum { DOORHAWSER_ABI = 3 };
 enum { DOORHAWSER_MEMORY = 65536, DOORHAWSER_RECORD = 70, DOORHAWSER_DEVICES = 12, DOORHAWSER_LINE = 48 }; /* a record has at most 70 bytes */
+enum { DOORHAWSER_DUMP = 65568, DOORHAWSER_ENTRY = 17, DOORHAWSER_ENTRIES = 32781 }; /* bytes of a dump and of an entry; the most entries */
 
 enum { DOORHAWSER_BOUGHT = 0, DOORHAWSER_MANUAL = 1 };                     /* flags: as the bought emulator sets them, or by the manual */
 enum { DOORHAWSER_RUNNING = 0, DOORHAWSER_CWAI = 1, DOORHAWSER_SYNC = 2 }; /* wait */
 enum { DOORHAWSER_IRQ = 0, DOORHAWSER_FIRQ = 1, DOORHAWSER_NMI = 2 };      /* which */
 
-/* The answers, as README's table has them, named as the cases of Refusal in crates/answers; 13 to 16 are of calls that are not here. */
+/* The answers, as README's table has them, named as the cases of Refusal in crates/answers; 13 to 15 are of calls that are not here. */
 enum {
     DOORHAWSER_DONE = 0,
     DOORHAWSER_MEMORY_LENGTH = 1,    /* memory is not 65,536 bytes */
@@ -65,7 +67,8 @@ enum {
     DOORHAWSER_JOURNAL_FULL = 10,    /* the call's own record does not fit after the bytes in use */
     DOORHAWSER_NO_RECORD = 11,       /* undo with no record */
     DOORHAWSER_JOURNAL_LENGTH = 12,  /* bytes in use beyond the journal, a count of records that cannot rise, or a record that is none */
-    DOORHAWSER_OUTPUT_SHORT = 17,    /* save: the output is too short */
+    DOORHAWSER_MALFORMED = 16,       /* undump: no dump */
+    DOORHAWSER_OUTPUT_SHORT = 17,    /* save, dump: the output is too short */
     DOORHAWSER_LINE_SHAPE = 20,      /* load: a line of another shape, or a line after S9 */
     DOORHAWSER_CHECKSUM = 21,        /* load: bad checksum */
     DOORHAWSER_PAST_TOP = 22,        /* load: data past FFFF */
@@ -73,6 +76,7 @@ enum {
     DOORHAWSER_POST_BYTE_8F = 24,    /* a post-byte of low form 8F other than 9F */
     DOORHAWSER_LINE_SHORT = 25,      /* disassemble: the line is shorter than 48 bytes */
     DOORHAWSER_TOO_FEW_RECORDS = 26, /* drop of more records than are held */
+    DOORHAWSER_LIST_SHORT = 27,      /* compare: the list is too short for all entries */
     DOORHAWSER_SALVAGE_SHORT = 29,   /* salvage: the output or the list is too short */
     DOORHAWSER_UNNAMED = 64          /* wait, armed, flags or which outside its range, or a spare field not 0; judged before all others */
 };
@@ -130,6 +134,11 @@ typedef struct doorhawser_salvaged { /* 32 bytes */
     uint64_t answer;
 } doorhawser_salvaged;
 
+typedef struct doorhawser_undumped { /* 56 bytes */
+    doorhawser_twin twin;            /* a fresh one where it is refused */
+    uint64_t answer;
+} doorhawser_undumped;
+
 #ifdef __cplusplus
 #define DOORHAWSER_HOLDS(test) static_assert(test, #test)
 #else
@@ -186,6 +195,9 @@ DOORHAWSER_AT(doorhawser_salvaged, bytes, 0);
 DOORHAWSER_AT(doorhawser_salvaged, numbers, 8);
 DOORHAWSER_AT(doorhawser_salvaged, added, 16);
 DOORHAWSER_AT(doorhawser_salvaged, answer, 24);
+DOORHAWSER_SIZE(doorhawser_undumped, 56);
+DOORHAWSER_AT(doorhawser_undumped, twin, 0);
+DOORHAWSER_AT(doorhawser_undumped, answer, 48);
 
 /* The library's DOORHAWSER_ABI. */
 uint64_t doorhawser_abi(void);
@@ -236,6 +248,16 @@ doorhawser_salvaged doorhawser_salvage(const uint8_t *text, size_t text_length, 
  * the instruction has, 1 to 5; 0 where it is refused, by 1, 3, 4, 5, 24, 7 or 25, and then every byte of the line stays. The instruction is
  * decoded as a step decodes it; no register is read and no pointer is followed. */
 doorhawser_written doorhawser_disassemble(const uint8_t *memory, size_t memory_length, uint16_t at, uint8_t *line, size_t line_length);
+
+/* Dumps (docs/COMPARE.md): a twin's machine with its memory, DOORHAWSER_DUMP bytes at the front of `out`; and back, with no record and no byte
+ * of a journal in use. */
+doorhawser_written doorhawser_dump(const uint8_t *memory, size_t memory_length, doorhawser_twin twin, uint8_t *out, size_t out_length);
+doorhawser_undumped doorhawser_undump(uint8_t *memory, size_t memory_length, const uint8_t *dump, size_t dump_length);
+
+/* What differs between two twins with their memories: `count` entries of DOORHAWSER_ENTRY bytes at the front of `list`; the others stay. The
+ * counts of records and bytes are not compared. DOORHAWSER_ENTRIES entries are always enough. The two memories may be one. */
+doorhawser_written doorhawser_compare(const uint8_t *left_memory, size_t left_length, doorhawser_twin left, const uint8_t *right_memory,
+                                      size_t right_length, doorhawser_twin right, uint8_t *list, size_t list_length);
 
 /* Where in memory the byte lies that the processor reads at an address: FFE0-FFFF is read 4000 lower. */
 static inline uint16_t doorhawser_place(uint16_t at) {
@@ -310,6 +332,26 @@ static inline doorhawser_written doorhawser_debug_disassemble(const char *file, 
     return doorhawser_disassemble(memory, memory_length, at, line, line_length);
 }
 
+static inline doorhawser_written doorhawser_debug_dump(const char *file, int line, const uint8_t *memory, size_t memory_length,
+                                                       doorhawser_twin twin, uint8_t *out, size_t out_length) {
+    doorhawser_apart(file, line, "doorhawser_dump", memory, memory_length, out, out_length);
+    return doorhawser_dump(memory, memory_length, twin, out, out_length);
+}
+
+static inline doorhawser_undumped doorhawser_debug_undump(const char *file, int line, uint8_t *memory, size_t memory_length,
+                                                          const uint8_t *dump, size_t dump_length) {
+    doorhawser_apart(file, line, "doorhawser_undump", memory, memory_length, dump, dump_length);
+    return doorhawser_undump(memory, memory_length, dump, dump_length);
+}
+
+static inline doorhawser_written doorhawser_debug_compare(const char *file, int line, const uint8_t *left_memory, size_t left_length,
+                                                          doorhawser_twin left, const uint8_t *right_memory, size_t right_length,
+                                                          doorhawser_twin right, uint8_t *list, size_t list_length) {
+    doorhawser_apart(file, line, "doorhawser_compare", left_memory, left_length, list, list_length);
+    doorhawser_apart(file, line, "doorhawser_compare", right_memory, right_length, list, list_length);
+    return doorhawser_compare(left_memory, left_length, left, right_memory, right_length, right, list, list_length);
+}
+
 /* Variadic, so that a struct may be written out in a call: its commas are not the macro's. */
 #define doorhawser_step(...) doorhawser_debug_step(__FILE__, __LINE__, __VA_ARGS__)
 #define doorhawser_interrupt(...) doorhawser_debug_interrupt(__FILE__, __LINE__, __VA_ARGS__)
@@ -319,6 +361,9 @@ static inline doorhawser_written doorhawser_debug_disassemble(const char *file, 
 #define doorhawser_save(...) doorhawser_debug_save(__FILE__, __LINE__, __VA_ARGS__)
 #define doorhawser_salvage(...) doorhawser_debug_salvage(__FILE__, __LINE__, __VA_ARGS__)
 #define doorhawser_disassemble(...) doorhawser_debug_disassemble(__FILE__, __LINE__, __VA_ARGS__)
+#define doorhawser_dump(...) doorhawser_debug_dump(__FILE__, __LINE__, __VA_ARGS__)
+#define doorhawser_undump(...) doorhawser_debug_undump(__FILE__, __LINE__, __VA_ARGS__)
+#define doorhawser_compare(...) doorhawser_debug_compare(__FILE__, __LINE__, __VA_ARGS__)
 #endif
 
 #ifdef __cplusplus

@@ -388,6 +388,66 @@ impl Twin {
             Err(Refused(w.answer))
         }
     }
+
+    /// The machine with its memory as a dump (docs/COMPARE.md).
+    pub fn dump(&self) -> Vec<u8> {
+        let mut out = vec![0; raw::DUMP];
+        // Safety: the output is a buffer of its own, with its length.
+        let w = unsafe { raw::doorhawser_dump(self.memory.as_ptr(), MEMORY, self.state, out.as_mut_ptr(), out.len()) };
+        assert_eq!(w.answer, 0, "memory and output have their lengths");
+        out
+    }
+
+    /// Takes machine and memory from a dump; no record is held then. A refused dump changes nothing.
+    pub fn undump(&mut self, dump: &[u8]) -> Result<(), Refused> {
+        // Safety: as in `load`.
+        let u = unsafe { raw::doorhawser_undump(self.memory.as_mut_ptr(), MEMORY, dump.as_ptr(), dump.len()) };
+        if u.answer == 0 {
+            self.state = u.twin;
+            Ok(())
+        } else {
+            Err(Refused(u.answer))
+        }
+    }
+
+    /// What differs from another twin, in the order of the list: fields, then runs of memory.
+    pub fn differences(&self, other: &Twin) -> Vec<Difference> {
+        let mut list = vec![0; raw::ENTRY * raw::ENTRIES];
+        // Safety: both memories are only read, and the list is a buffer of its own, with its length.
+        let w = unsafe {
+            raw::doorhawser_compare(
+                self.memory.as_ptr(),
+                MEMORY,
+                self.state,
+                other.memory.as_ptr(),
+                MEMORY,
+                other.state,
+                list.as_mut_ptr(),
+                list.len(),
+            )
+        };
+        assert_eq!(w.answer, 0, "the list has room for every entry");
+        list[..raw::ENTRY * w.count as usize].chunks(raw::ENTRY).map(Difference::of).collect()
+    }
+}
+
+/// An entry of the list: 0 to 12 is a field in the record's order (A B X Y U S PC DP CC, wait, mark, cycles, instructions), with its value
+/// on the left and on the right; 13 a run of memory, with its first and its last address.
+#[derive(Clone, Copy, Debug, PartialEq, Eq, Hash)]
+pub struct Difference {
+    /// what differs
+    pub what: u8,
+    /// the left value, or the first address
+    pub left: u64,
+    /// the right value, or the last address
+    pub right: u64,
+}
+
+impl Difference {
+    fn of(entry: &[u8]) -> Self {
+        let number = |at: usize| entry[at..at + 8].iter().fold(0, |n, b| n << 8 | u64::from(*b));
+        Difference { what: entry[0], left: number(1), right: number(9) }
+    }
 }
 
 impl fmt::Debug for Twin {

@@ -6,6 +6,9 @@ pub const MEMORY: usize = 65536;
 pub const RECORD: usize = 70;
 pub const DEVICES: usize = 12;
 pub const LINE: usize = 48;
+pub const DUMP: usize = 65568;
+pub const ENTRY: usize = 17;
+pub const ENTRIES: usize = 32781;
 
 #[repr(C)]
 #[derive(Clone, Copy, Debug, PartialEq, Eq)]
@@ -91,9 +94,17 @@ pub struct Salvaged {
     pub answer: u64,
 }
 
+#[repr(C)]
+#[derive(Clone, Copy, Debug, PartialEq, Eq)]
+pub struct Undumped {
+    pub twin: Twin,
+    pub answer: u64,
+}
+
 const _: () = assert!(size_of::<usize>() == 8 && size_of::<Settings>() == 4 && size_of::<Twin>() == 48 && size_of::<Write>() == 4);
 const _: () = assert!(size_of::<Outcome>() == 128 && size_of::<Ran>() == 136);
 const _: () = assert!(size_of::<Part>() == 16 && size_of::<Loaded>() == 16 && size_of::<Written>() == 16 && size_of::<Salvaged>() == 32);
+const _: () = assert!(size_of::<Undumped>() == 56);
 
 /// A recorded call that takes nothing but the twin and its settings.
 pub type Recorded = unsafe extern "C" fn(*mut u8, usize, *mut u8, usize, Twin, Settings) -> Outcome;
@@ -147,4 +158,16 @@ extern "C" {
         list_length: usize,
     ) -> Salvaged;
     pub fn doorhawser_disassemble(memory: *const u8, memory_length: usize, at: u16, line: *mut u8, line_length: usize) -> Written;
+    pub fn doorhawser_dump(memory: *const u8, memory_length: usize, twin: Twin, out: *mut u8, out_length: usize) -> Written;
+    pub fn doorhawser_undump(memory: *mut u8, memory_length: usize, dump: *const u8, dump_length: usize) -> Undumped;
+    pub fn doorhawser_compare(
+        left_memory: *const u8,
+        left_length: usize,
+        left: Twin,
+        right_memory: *const u8,
+        right_length: usize,
+        right: Twin,
+        list: *mut u8,
+        list_length: usize,
+    ) -> Written;
 }

@@ -1,5 +1,5 @@
 //! Expected values: document 01's worked input and checked examples, examples/README.md, and the S-records by hand.
-use doorhawser::{raw, DeviceWrite, Flags, Interrupt, Refused, Registers, Salvaged, Settings, Twin, Wait};
+use doorhawser::{raw, DeviceWrite, Difference, Flags, Interrupt, Refused, Registers, Salvaged, Settings, Twin, Wait};
 
 fn twin(flags: Flags, records: usize) -> Twin {
     Twin::new(Settings { ram_top: 0x7FFF, flags }, records)
@@ -181,6 +181,25 @@ fn an_instruction_is_disassembled() {
     assert_eq!(t.disassemble(0x1000), Ok(("1000  6E 9F 21 00     JMP   [$2100]".to_string(), 4)));
     assert_eq!(t.disassemble(0x1004), Err(Refused(3)));
     assert_eq!(t.disassemble(0xFFFF), Err(Refused(4)));
+}
+
+#[test]
+fn dumps_go_there_and_back() {
+    let mut t = twin(Flags::Manual, 4);
+    put(&mut t, 0, &[0x86, 0x5A, 0x12]); // LDA #5A, NOP
+    t.step().unwrap();
+    let dump = t.dump();
+    assert_eq!((dump.len(), dump[0], dump[11], dump[32], dump[34]), (65568, 0x5A, 2, 0x86, 0x12));
+    let mut again = twin(Flags::Manual, 0);
+    let before = again.dump();
+    assert_eq!(again.undump(&dump[1..]), Err(Refused(16)));
+    assert!(again.dump() == before);
+    let d = |what, left, right| Difference { what, left, right };
+    // A, PC, two cycles, an instruction, three bytes; CC stays 50
+    assert_eq!(t.differences(&again), [d(0, 0x5A, 0), d(6, 2, 0), d(11, 2, 0), d(12, 1, 0), d(13, 0, 2)]);
+    again.undump(&dump).unwrap();
+    assert!(again.dump() == dump && t.differences(&again).is_empty());
+    assert_eq!((again.records(), again.undo()), (0, Err(Refused(11))));
 }
 
 #[test]

@@ -175,6 +175,12 @@ static void nulls(void) {
     HOLD(doorhawser_save(memory, sizeof memory, 0, NULL, 0).answer == DOORHAWSER_OUTPUT_SHORT);
     HOLD(doorhawser_salvage(NULL, 0, NULL, 0, NULL, 0).answer == DOORHAWSER_SALVAGE_SHORT);
     HOLD(doorhawser_disassemble(NULL, 0, 0, NULL, 0).answer == DOORHAWSER_MEMORY_LENGTH);
+    HOLD(doorhawser_dump(NULL, 0, doorhawser_start(), NULL, 0).answer == DOORHAWSER_MEMORY_LENGTH);
+    HOLD(doorhawser_dump(memory, sizeof memory, doorhawser_start(), NULL, 0).answer == DOORHAWSER_OUTPUT_SHORT);
+    HOLD(doorhawser_undump(NULL, 0, NULL, 0).answer == DOORHAWSER_MEMORY_LENGTH);
+    HOLD(doorhawser_undump(memory, sizeof memory, NULL, 0).answer == DOORHAWSER_MALFORMED);
+    HOLD(doorhawser_compare(memory, sizeof memory, doorhawser_start(), NULL, 0, doorhawser_start(), NULL, 0).answer == DOORHAWSER_MEMORY_LENGTH);
+    HOLD(doorhawser_compare(memory, sizeof memory, doorhawser_start(), memory, sizeof memory, doorhawser_start(), NULL, 0).answer == DOORHAWSER_DONE);
     HOLD(kept());
     done("null with length 0");
 }
@@ -551,6 +557,66 @@ static void salvages(void) {
     done("torn S-records");
 }
 
+/* ---- dumps, and what differs */
+
+static void dumps(void) {
+    static uint8_t dump[DOORHAWSER_DUMP + 1], was[sizeof dump], other[DOORHAWSER_MEMORY], list[DOORHAWSER_ENTRY * DOORHAWSER_ENTRIES];
+    fill(memory, sizeof memory);
+    fill(dump, sizeof dump);
+    memcpy(was, dump, sizeof dump);
+    doorhawser_twin t = {.cycles = 0x0102030405060708, .instructions = 0x1112131415161718, .records = 7, .bytes = 300, .x = 0x2122, .y = 0x3132,
+                         .u = 0x4142, .s = 0x5152, .pc = 0x6162, .a = 0x71, .b = 0x72, .dp = 0x73, .cc = 0x74, .wait = 2, .armed = 1};
+    doorhawser_written w = doorhawser_dump(memory, sizeof memory, t, dump, DOORHAWSER_DUMP - 1);
+    HOLD(w.answer == DOORHAWSER_OUTPUT_SHORT && w.count == 0 && !memcmp(dump, was, sizeof dump));
+    w = doorhawser_dump(memory, sizeof memory, t, dump, sizeof dump);
+    HOLD(w.answer == 0 && w.count == DOORHAWSER_DUMP && dump[DOORHAWSER_DUMP] == was[DOORHAWSER_DUMP]);
+    static const uint8_t head[32] = {0x71, 0x72, 0x21, 0x22, 0x31, 0x32, 0x41, 0x42, 0x51, 0x52, 0x61, 0x62, 0x73, 0x74, 2, 1,
+                                     1,    2,    3,    4,    5,    6,    7,    8,    0x11, 0x12, 0x13, 0x14, 0x15, 0x16, 0x17, 0x18};
+    HOLD(!memcmp(dump, head, 32) && !memcmp(dump + 32, memory, sizeof memory));
+    doorhawser_undumped u = doorhawser_undump(other, sizeof other, dump, DOORHAWSER_DUMP);
+    doorhawser_twin back = t;
+    back.records = back.bytes = 0;
+    HOLD(u.answer == 0 && !memcmp(&u.twin, &back, sizeof back) && !memcmp(other, memory, sizeof other));
+    /* equal, records and bytes aside; then every field and two runs, and left and right exchanged */
+    w = doorhawser_compare(memory, sizeof memory, t, other, sizeof other, u.twin, list, 0);
+    HOLD(w.answer == 0 && w.count == 0);
+    other[0] ^= 1;
+    other[0xFF00] ^= 1;
+    other[0xFF01] ^= 1;
+    doorhawser_twin start = doorhawser_start();
+    for (int side = 0; side < 2; side++) {
+        w = side ? doorhawser_compare(other, sizeof other, start, memory, sizeof memory, t, list, 15 * DOORHAWSER_ENTRY)
+                 : doorhawser_compare(memory, sizeof memory, t, other, sizeof other, start, list, 15 * DOORHAWSER_ENTRY);
+        HOLD(w.answer == 0 && w.count == 15);
+        const uint64_t values[] = {0x71, 0x72, 0x2122, 0x3132, 0x4142, 0x5152, 0x6162, 0x73, 0x74, 2, 1, t.cycles, t.instructions};
+        for (int k = 0; k < 13; k++) {
+            const uint8_t *e = list + DOORHAWSER_ENTRY * k;
+            HOLD(e[0] == k && number_at(e + 1 + 8 * side) == values[k] && number_at(e + 9 - 8 * side) == (k == 8 ? 0x50 : 0));
+        }
+        HOLD(list[221] == 13 && number_at(list + 222) == 0 && number_at(list + 230) == 0);
+        HOLD(list[238] == 13 && number_at(list + 239) == 0xFF00 && number_at(list + 247) == 0xFF01);
+    }
+    memset(list, 0xEE, sizeof list);
+    w = doorhawser_compare(memory, sizeof memory, t, other, sizeof other, start, list, 15 * DOORHAWSER_ENTRY - 1);
+    HOLD(w.answer == DOORHAWSER_LIST_SHORT && w.count == 0 && list[0] == 0xEE && list[253] == 0xEE);
+    /* no dump, and numbers that name nothing */
+    keep();
+    for (int i = 0; i < 3; i++) {
+        memcpy(was, dump, sizeof dump);
+        if (i < 2) was[14 + i] = (uint8_t)(3 - i);
+        u = doorhawser_undump(memory, sizeof memory, was, DOORHAWSER_DUMP - (i == 2));
+        HOLD(u.answer == DOORHAWSER_MALFORMED && !memcmp(&u.twin, &start, sizeof start) && kept());
+    }
+    t.wait = 3;
+    w = doorhawser_dump(memory, sizeof memory, t, dump, sizeof dump);
+    HOLD(w.answer == DOORHAWSER_UNNAMED && w.count == 0);
+    w = doorhawser_compare(memory, sizeof memory, t, memory, sizeof memory, start, list, sizeof list);
+    HOLD(w.answer == DOORHAWSER_UNNAMED && w.count == 0 && list[0] == 0xEE);
+    w = doorhawser_compare(memory, sizeof memory, start, memory, sizeof memory, t, list, sizeof list);
+    HOLD(w.answer == DOORHAWSER_UNNAMED && w.count == 0 && list[0] == 0xEE);
+    done("dumps and what differs");
+}
+
 int main(void) {
     nulls();
     out_of_range();
@@ -564,5 +630,6 @@ int main(void) {
     lines();
     records();
     salvages();
+    dumps();
     return 0;
 }

@@ -20,6 +20,10 @@ static void make(const char *call, uint8_t *m, size_t ml, uint8_t *o, size_t ol)
     if (!strcmp(call, "salvage, text and list")) doorhawser_salvage(m, ml, NULL, 0, o, ol);
     if (!strcmp(call, "salvage, output and list")) doorhawser_salvage(NULL, 0, m, ml, o, ol);
     if (!strcmp(call, "disassemble")) doorhawser_disassemble(m, ml, 0, o, ol);
+    if (!strcmp(call, "dump")) doorhawser_dump(m, ml, doorhawser_start(), o, ol);
+    if (!strcmp(call, "undump")) doorhawser_undump(m, ml, o, ol);
+    if (!strcmp(call, "compare")) doorhawser_compare(m, ml, doorhawser_start(), NULL, 0, doorhawser_start(), o, ol);
+    if (!strcmp(call, "compare, right")) doorhawser_compare(NULL, 0, doorhawser_start(), m, ml, doorhawser_start(), o, ol);
 }
 
 int main(int argc, char **argv) {

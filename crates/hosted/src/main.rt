@@ -7,6 +7,8 @@ use host::HostTwin;
 
 type Memory = [u8; 0x10000];
 
+type Dump = [u8; 65568];
+
 // Room for four records of 34 bytes, and one of 70 with twelve entries.
 type Journal = [u8; 206];
 
@@ -176,6 +178,28 @@ fn lines(mem: &Memory) {
     played::number(refused.count);
 }
 
+// A dump of the twin as it ended, read back into another memory, and compared with the fresh twin; and a twin in no wait state.
+fn dumps(mem: &Memory, ended: HostTwin, none: HostTwin, out: &mut Dump, other: &mut Memory) {
+    let written = host_compare::doorhawser_dump(mem, ended, out);
+    played::number(written.answer);
+    played::number(written.count as u64);
+    let read = host_compare::doorhawser_undump(other, out);
+    let twin = read.twin;
+    played::number(read.answer);
+    played::number(twin.pc as u64);
+    played::number(twin.records as u64);
+    played::number(twin.bytes as u64);
+    let mut list = [0u8; 85];
+    let compared = host_compare::doorhawser_compare(other, twin, mem, none, &mut list);
+    played::number(compared.answer);
+    played::number(compared.count as u64);
+    let mut waits = none;
+    waits.wait = 3;
+    let refused = host_compare::doorhawser_compare(other, twin, mem, waits, &mut list);
+    played::number(refused.answer);
+    played::number(refused.count as u64);
+}
+
 fn main() {
     let mut mem = [0u8; 0x10000];
     let mut journal = [0u8; 206];
@@ -190,6 +214,9 @@ fn main() {
     save(&mem);
     salvage();
     lines(&mem);
+    let mut dump = [0u8; 65568];
+    let mut other = [0u8; 0x10000];
+    dumps(&mem, ended, none, &mut dump, &mut other);
     unrecorded(&mut mem, none);
     unnamed(&mut mem, &mut journal, none);
 }
