@@ -68,6 +68,9 @@ and-true false b e = let z : _≡_ {A = ℕ} 0 1 = cc in absurd (omega arith)
 below-facts : (top at : ℕ) → isBelow top at ≡ true → (at < 0xFF00) × (at ≤ top)
 below-facts top at e = let f = and-true (ltb at 0xFF00) (leb at top) e in (ltb-true at 0xFF00 (f .0), leb-true at top (f .1))
 
+pub twelve-at-most : (mask : ℕ) → bytesPushed mask ≤ 12
+twelve-at-most mask = omega arith
+
 module _ (top : ℕ) (d : Decision) where
   plain-as : {k : Kind} → d .kind ≡ k → isPlain top d ≡ true → isPlainAs k top d ≡ true
   plain-as e p = subst (λ (k : Kind). isPlainAs k top d ≡ true) e p
@@ -86,10 +89,11 @@ module _ (top : ℕ) (d : Decision) where
       → (wordOf (d .regs) (stackWord (d .own)) ≤ 0xFF00) × (wordOf (d .regs) (stackWord (d .own)) ≤ top) × (bytesPushed (d .mask) ≤ wordOf (d .regs) (stackWord (d .own)))
   plain-push e p =
       let pointer = wordOf (d .regs) (stackWord (d .own)) in
-      let f = and-true (leb (bytesPushed (d .mask)) pointer) (isBelow top pointer) (plain-as e p) in
+      let f = and-true (ltb 11 pointer) (isBelow top pointer) (plain-as e p) in
       let g = below-facts top pointer (f .1) in
       let h = g .0 in
-      (omega arith, g .1, leb-true (bytesPushed (d .mask)) pointer (f .0))
+      let k = ltb-true 11 pointer (f .0) in
+      (omega arith, g .1, omega (arith, twelve-at-most (d .mask)))
 
   pub not-rest : d .kind ≡ Rest → isPlain top d ≡ true → ⊥
   not-rest e p = let q = plain-as e p in let z : _≡_ {A = ℕ} 0 1 = cc in omega arith

@@ -20,7 +20,7 @@ use Rattle.machine.specs.declared.Machine.{Machine}
 use Rattle.machine.specs.declared.Settings.{Settings}
 use Rattle.opcodes.specs.declared.MemoryOp.{MemoryOp}
 use Rattle.opcodes.specs.declared.MemoryOp.the-variants.{Sync}
-use Rattle.stack.specs.Pushing.{bytesPushed, pushed}
+use Rattle.stack.specs.Pushing.{pushed}
 use Rattle.evaluate.specs.Evaluate.{memoryOf}
 use Rattle.calls.specs.Steps.{finished}
 use Rattle.calls.specs.declared.Plan.{Plan}
@@ -76,13 +76,13 @@ isBelow top at = ltb at 0xFF00 && leb at top
 abbrev pub isWordBelow : ℕ → ℕ → Bool
 isWordBelow top at = ltb at 0xFEFF && ltb at top
 
--- all that is told as stored lies there, and a push has room: nothing but the stores is to be done
+-- all that is told as stored lies there, and a push has room for every register: nothing but the stores is to be done
 abbrev pub isPlainAs : Kind → ℕ → Decision → Bool
 isPlainAs Refused top d = true
 isPlainAs Change top d = true
 isPlainAs Byte top d = isBelow top (d .at)
 isPlainAs Word top d = isWordBelow top (d .at)
-isPlainAs Push top d = leb (bytesPushed (d .mask)) (wordOf (d .regs) (stackWord (d .own))) && isBelow top (wordOf (d .regs) (stackWord (d .own)))
+isPlainAs Push top d = ltb 11 (wordOf (d .regs) (stackWord (d .own))) && isBelow top (wordOf (d .regs) (stackWord (d .own)))
 isPlainAs Rest top d = false
 
 abbrev pub isPlain : ℕ → Decision → Bool

@@ -143,7 +143,7 @@ fn is_word_below(at: u16, ram_top: u16) -> bool
 }
 
 // Whether nothing but the stores is to be done: all that is told as stored lies below the devices and at or below ram_top, and a push has
-// room.
+// room for every register.
 pub fn is_plain(decision: Decision, ram_top: u16) -> bool
     ensures { λ r. ⌜ r ≡ isPlain «ram_top» decision ⌝ }
 {
@@ -157,7 +157,7 @@ pub fn is_plain(decision: Decision, ram_top: u16) -> bool
             let own = decision.own;
             let regs = decision.regs;
             let top = regs.word(own.word());
-            (wide(stack::bytes_of(decision.mask)) <= top) & is_below(top, ram_top)
+            (11 < top) & is_below(top, ram_top)
         }
         Kind::Rest => false,
     }

@@ -20,9 +20,9 @@ returns-4 c = c .is-word-below .ensures ∙ is-plain-by _ _ (c .before .enum-tol
 
 returns-5 : tie.Need-returns-5
 returns-5 c =
-    let a = c .before .before .before .before .before .before .before .before .args in
-    rw (c .is-below2 .ensures, c .before .wide .ensures .0, c .before .before .bytes-of .ensures, c .before .before .before .word2 .ensures, c .before .before .before .before .word .ensures)
-    (is-plain-by (a .ram-top) (a .decision) (c .before .before .before .before .before .before .enum-told5 .given .1))
+    let a = c .before .before .before .before .before .before .args in
+    rw (c .is-below2 .ensures, c .before .word2 .ensures, c .before .before .word .ensures)
+    (is-plain-by (a .ram-top) (a .decision) (c .before .before .before .before .enum-told5 .given .1))
 
 returns-6 : tie.Need-returns-6
 returns-6 c = is-plain-by _ _ (c .enum-told6 .given .1)
@@ -30,4 +30,4 @@ returns-6 c = is-plain-by _ _ (c .enum-told6 .given .1)
 pub is-plain-spec : {M : Type 1} → statement M
 is-plain-spec =
     tie.close
-    (tie.spec (search needs) (search needs) (search needs) (search needs) (search needs) (search needs) (search needs) (search needs) (search needs) (search needs) (search needs) (search needs) (search needs) returns returns-2 returns-3 returns-4 returns-5 returns-6)
+    (tie.spec (search needs) (search needs) (search needs) (search needs) (search needs) (search needs) (search needs) (search needs) (search needs) (search needs) (search needs) returns returns-2 returns-3 returns-4 returns-5 returns-6)
