@@ -1,2 +1,5 @@
 pub mod Running
 pub mod Loop
+pub mod Laws
+pub mod Back
+pub mod Unique

@@ -23,7 +23,7 @@ use Rattle.runs.specs.declared.Reason.the-variants.{Allowance}
 use Rattle.runs.specs.declared.RunOutcome.{RunOutcome}
 use Rattle.runs.specs.declared.Stop.{Stop}
 use Rattle.runs.specs.declared.Verdict.the-variants.{Ends, GoesOn}
-use Rattle.runs.proofs.Running.{Alike, alike-then, resumed, Neat, goes-on, ends-here}
+use Rattle.runs.proofs.Running.{Alike, alike-then, resumed, Neat, goes-on, ends-here, resumed-none}
 
 -- ---- the recorded step
 
@@ -40,14 +40,8 @@ neat t s h =
 
 -- ---- the loop of the code
 
-none-before : (n : ℕ) → 0 + n ≡ n
-none-before n = omega arith
-
 none-after : (n : ℕ) → n < 2 ^ 64 → (n + 0) % 2 ^ 64 ≡ n
 none-after n h = omega arith
-
-resumed-none : (r : RunEnded) → r ≡ resumed 0 0 r
-resumed-none r = λ i. record { reason = r .reason; last = r .last; reads = sym (none-before (r .reads)) i; writes = sym (none-before (r .writes)) i }
 
 below-wrap : (a : ℕ) → a % 2 ^ 64 < 2 ^ 64
 below-wrap a = omega arith

@@ -138,3 +138,64 @@ module _ (step : State → Ended) (stop : Stop) where
   larger (suc n) (suc m) e h r =
       larger-by (tested stop (returned (step (e .state)))) (step (e .state)) (running step stop m (step (e .state))) (running step stop n (step (e .state)))
       (larger n m (step (e .state)) (omega arith)) r
+
+-- ---- two runs, one after the other
+
+none-before : (n : ℕ) → n ≡ 0 + n
+none-before n = omega arith
+
+three : (a b c : ℕ) → a + (b + c) ≡ a + b + c
+three a b c = omega arith
+
+pub resumed-none : (r : RunEnded) → r ≡ resumed 0 0 r
+resumed-none r = λ i. record { reason = r .reason; last = r .last; reads = none-before (r .reads) i; writes = none-before (r .writes) i }
+
+joins-by : (v : Verdict) (f : Ended) (a c : RunEnded) (rest : Ended → RunEnded) → v ≢ Ends Allowance → unlessEnds v f a .reason ≡ Allowance
+    → (a .reason ≡ Allowance → c ≡ resumed (a .reads) (a .writes) (rest (a .last)))
+    → counting f (unlessEnds v f c)
+    ≡ resumed (counting f (unlessEnds v f a) .reads) (counting f (unlessEnds v f a) .writes) (rest (unlessEnds v f a .last))
+joins-by (Ends x) f a c rest u r h = absurd (u (ap Ends r))
+joins-by GoesOn f a c rest u r h =
+    ap (counting f) (h r)
+    ∙ (λ i. record {
+      reason = rest (a .last) .reason;
+      last = rest (a .last) .last;
+      reads = three (readsIn (returned f)) (a .reads) (rest (a .last) .reads) i;
+      writes = three (writesIn (returned f)) (a .writes) (rest (a .last) .writes) i;
+    })
+
+module _ (step : State → Ended) (stop : Stop) where
+  pub joins : (n m : ℕ) (e : Ended) → running step stop n e .reason ≡ Allowance
+      → running step stop (n + m) e ≡ resumed (running step stop n e .reads) (running step stop n e .writes) (running step stop m (running step stop n e .last))
+  unfolding running
+  joins zero m e r = let z : 0 + m ≡ m = omega arith in rw z (resumed-none (running step stop m e))
+  joins (suc n) m e r =
+      let z : suc n + m ≡ suc (n + m) = omega arith in
+      rw z
+      (joins-by (tested stop (returned (step (e .state)))) (step (e .state)) (running step stop n (step (e .state))) (running step stop (n + m) (step (e .state)))
+      (running step stop m) (not-by-allowance stop (returned (step (e .state)))) r (joins n m (step (e .state))))
+
+-- ---- how a run ends
+
+-- no step was made; all were made that were allowed, and the last did not end the run; or a step ended it
+pub data Close (step : State → Ended) (stop : Stop) (n : ℕ) (e : Ended) (r : RunEnded) : Type 0 where
+  unmoved : n ≡ 0 → r .reason ≡ Allowance → r .last ≡ e → Close step stop n e r
+  all-made : (s : State) → 0 < n → tested stop (returned (step s)) ≡ GoesOn → r .reason ≡ Allowance → r .last ≡ step s → Close step stop n e r
+  stopped : (s : State) → tested stop (returned (step s)) ≡ Ends (r .reason) → r .last ≡ step s → Close step stop n e r
+
+module _ (step : State → Ended) (stop : Stop) where
+  later : (n : ℕ) (e : Ended) (r : RunEnded) → tested stop (returned (step (e .state))) ≡ GoesOn → Close step stop n (step (e .state)) r
+      → Close step stop (suc n) e (counting (step (e .state)) r)
+  later n e r g (unmoved z q l) = all-made (e .state) (omega arith) g q l
+  later n e r g (all-made s p h q l) = all-made s (omega arith) h q l
+  later n e r g (stopped s h l) = stopped s h l
+
+  by-verdict : (n : ℕ) (e : Ended) (r : RunEnded) (v : Verdict) → tested stop (returned (step (e .state))) ≡ v → Close step stop n (step (e .state)) r
+      → Close step stop (suc n) e (counting (step (e .state)) (unlessEnds v (step (e .state)) r))
+  by-verdict n e r (Ends x) g h = stopped (e .state) g refl
+  by-verdict n e r GoesOn g h = later n e r g h
+
+  pub close : (n : ℕ) (e : Ended) → Close step stop n e (running step stop n e)
+  unfolding running
+  close zero e = unmoved refl refl refl
+  close (suc n) e = by-verdict n e (running step stop n (step (e .state))) (tested stop (returned (step (e .state)))) refl (close n (step (e .state)))

@@ -12,10 +12,11 @@ use Rattle.machine.specs.Machine.{MachineFits}
 use Rattle.machine.specs.declared.Machine.{Machine}
 use Rattle.machine.specs.declared.Settings.{Settings}
 use Rattle.journal.specs.Record.{All}
-use Rattle.journal.specs.Recorded.{State, Ended, stepped}
+use Rattle.journal.specs.Recorded.{State, stepped}
 use Rattle.journal.specs.Undos.{undone}
 use Rattle.history.specs.Sequence.{Event, Legal, Same, run, withoutRecords}
-use Rattle.runs.specs.Runs.{waits, isAt, RunEnded, ran, ranReturned}
+use Rattle.runs.specs.Runs.{waits, isAt, RunEnded, ran, reasonNumber, ranReturned}
+use Rattle.runs.specs.declared.Reason.{Reason}
 use Rattle.runs.specs.declared.Reason.the-variants.{StepRefused, Allowance}
 use Rattle.runs.specs.declared.RunOutcome.{RunOutcome}
 use Rattle.runs.specs.declared.Stop.{Stop}
@@ -64,6 +65,10 @@ pub record Tells (stop : Stop) (n : ℕ) (r : RunEnded) : Type 0 where
 
 abbrev pub ReasonsTell : Type 0
 ReasonsTell = (t : Settings) (stop : Stop) (n : ℕ) (s : State) → Tells stop n (ran t stop n s)
+
+-- no two reasons have one number
+abbrev pub ReasonsApart : Type 0
+ReasonsApart = (x y : Reason) → reasonNumber x ≡ reasonNumber y → x ≡ y
 
 -- ---- a run is so many steps
 

@@ -91,6 +91,14 @@ ran t stop n s = running (stepped t) stop n (unmade s)
 
 -- ---- what it returns
 
+-- the reasons in numbers, in the order in which they are tested; 0 is no reason
+abbrev pub reasonNumber : Reason → ℕ
+reasonNumber StepRefused = 1
+reasonNumber Waits = 2
+reasonNumber StopAddress = 3
+reasonNumber DeviceWrite = 4
+reasonNumber Allowance = 5
+
 -- the refused step's number, 0 for every other reason; both counts wrap; its own answer is 0, always
 abbrev pub ranReturned : RunEnded → RunOutcome
 ranReturned r =

@@ -2,7 +2,7 @@
 ghost use mathlib.Core.Path.{_≡_};
 ghost use Rattle.journal.specs.Recorded.{inHand, Typed};
 ghost use Rattle.answers.specs.Numbers.{numberOfAnswer};
-ghost use Rattle.runs.specs.Runs.{isRefused, waits, isAt, tested, readsIn, writesIn, ran, RunLeaves};
+ghost use Rattle.runs.specs.Runs.{isRefused, waits, isAt, tested, readsIn, writesIn, ran, reasonNumber, RunLeaves};
 use answers::Answer;
 use journal::Outcome;
 use journal::Twin;
@@ -35,6 +35,21 @@ pub struct RunOutcome {
     pub reads: u64,
     pub writes: u64,
     pub answer: Answer,
+}
+
+impl Reason {
+    // 1 to 5, in the order in which they are tested.
+    pub fn number(self) -> u8
+        ensures { λ r. ⌜ r ≡ reasonNumber self ⌝ }
+    {
+        match self {
+            Reason::StepRefused => 1,
+            Reason::Waits => 2,
+            Reason::StopAddress => 3,
+            Reason::DeviceWrite => 4,
+            Reason::Allowance => 5,
+        }
+    }
 }
 
 // What a step says of the run.
