@@ -16,7 +16,11 @@ pub fn pointer_count(operand: Operand) -> u8
     ensures { λ r. ⌜ r ≡ pointerCount operand ⌝ }
 {
     match operand {
-        Operand::Indexed(indexed) => if decode::is_indirect(indexed.post) { 2 } else { 0 },
+        Operand::Indexed(indexed) => if decode::is_indirect(indexed.post) {
+            2
+        } else {
+            0
+        },
         _ => 0,
     }
 }
