@@ -68,8 +68,11 @@ module _ (f : ℤ → ℤ) (small : (z : ℤ) → mag (f z) ≤ mag z + 1) (h c 
   pub three-fit : SFits w32 (toZ w32 (ofZ w32 (toZ w32 (ofZ w32 x) +ℤ f (toZ w32 (ofZ w32 y)))) +ℤ f (toZ w32 c))
   three-fit = rw (two-back, up c (omega arith)) (record { sfits = three-lt })
 
-  pub three-back : toZ w32 (ofZ w32 (toZ w32 (ofZ w32 (toZ w32 (ofZ w32 x) +ℤ f (toZ w32 (ofZ w32 y)))) +ℤ f (toZ w32 c))) ≡ x +ℤ f y +ℤ f (pos c)
-  three-back = rw (two-back, up c (omega arith)) (back (x +ℤ f y +ℤ f (pos c)) three-lt)
+  abbrev stored : ℤ
+  stored = toZ w32 (ofZ w32 (toZ w32 (ofZ w32 (toZ w32 (ofZ w32 x) +ℤ f (toZ w32 (ofZ w32 y)))) +ℤ f (toZ w32 c)))
+
+  pub three-back : (stored ≡ x +ℤ f y +ℤ f (pos c)) × (mag stored < limit)
+  three-back = rw (two-back, up c (omega arith), back (x +ℤ f y +ℤ f (pos c)) three-lt) (refl, three-lt)
 
 -- a number below h + h, read as signed
 mag-below : (a n : ℕ) → a < n → mag (pos a -ℤ pos n) ≡ n - suc a

@@ -6,7 +6,7 @@ ghost use Rattle.registers.specs.Settings.{by};
 ghost use Rattle.registers.specs.declared.Flags.the-variants.{Manual};
 ghost use Rattle.opcodes.specs.declared.Unary.the-variants.{Clr};
 ghost use Rattle.operations.specs.EightBit.{unaryOf};
-ghost use Rattle.operations.specs.Inherent.{corrected};
+ghost use Rattle.operations.specs.Inherent.{correction, corrected};
 ghost use Rattle.whole.specs.Inherent.{decimalOf};
 ghost use Rattle.whole.specs.Parts.{joined, sumBy, differenceBy, pageOf, countV, countPage};
 use super::flags::carry_in;
@@ -189,14 +189,21 @@ pub fn clear(cc: CCBits) -> Out8
     load(put(cc, CCBit::C, false), 0)
 }
 
+fn correction(on: bool, n: u32) -> u32
+    ensures { λ r. ⌜ r ≡ correction on n ⌝ }
+    ensures { λ r. ⌜ r ≤ n ⌝ }
+{
+    if on { n } else { 0 }
+}
+
 // DAA. The low digit is too great where it is above 9 or H is set; the byte as a whole where it is above 99 or C is set.
 fn decimal_sum(cc: CCBits, a: u8) -> u32
     ensures { λ r. ⌜ r ≡ corrected cc a ⌝ }
     ensures { λ r. ⌜ r < 512 ⌝ }
 {
-    let low = (is_set(cc, CCBit::H) | (9 < a % 16)) as u32;
-    let high = (is_set(cc, CCBit::C) | (0x99 < a)) as u32;
-    a as u32 + 0x06 * low + 0x60 * high
+    let low = is_set(cc, CCBit::H) | (9 < a % 16);
+    let high = is_set(cc, CCBit::C) | (0x99 < a);
+    a as u32 + correction(low, 0x06) + correction(high, 0x60)
 }
 
 // C is set and never cleared; V is not affected.

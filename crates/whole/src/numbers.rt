@@ -1,7 +1,7 @@
 // Sums and differences of numbers below 2·half, half being 80 for bytes and 8000 for words.
 ghost use mathlib.Core.Path.{_≡_};
 ghost use Prim.Native.Nat.{_+_, _<_, _≤_};
-ghost use lib.IntN.{pos};
+ghost use lib.IntN.{pos, _+ℤ_, _-ℤ_};
 ghost use lib.Signed.{mag};
 ghost use Rattle.u8oru16.specs.Signed.{signed, outside};
 ghost use Rattle.registers.specs.Arithmetic.{codes, negativeAndZero};
@@ -37,32 +37,46 @@ fn is_outside(z: i32, half: u32) -> bool
     (z < -(half as i32)) | (half as i32 <= z)
 }
 
-// a + b + c. The unsigned sum that does not fit leaves a carry.
+fn signed_sum(a: u32, b: u32, c: u32, half: u32) -> i32
+    requires { ⌜ Operands half a b c ⌝ }
+    ensures { λ r. ⌜ r ≡ signed half a +ℤ signed half b +ℤ pos c ⌝ }
+    ensures { λ r. ⌜ mag r < 0x80000000 ⌝ }
+{
+    signed(a, half) + signed(b, half) + c as i32
+}
+
+fn signed_difference(a: u32, b: u32, c: u32, half: u32) -> i32
+    requires { ⌜ Operands half a b c ⌝ }
+    ensures { λ r. ⌜ r ≡ signed half a -ℤ signed half b -ℤ pos c ⌝ }
+    ensures { λ r. ⌜ mag r < 0x80000000 ⌝ }
+{
+    signed(a, half) - signed(b, half) - c as i32
+}
+
+// a + b + c. An unsigned sum that does not fit leaves a carry.
 pub(super) fn sum(a: u32, b: u32, c: u32, half: u32) -> Parts
     requires { ⌜ Operands half a b c ⌝ }
     ensures { λ r. ⌜ r ≡ sumOf half a b c ⌝ }
     ensures { λ r. ⌜ r .value < half + half ⌝ }
 {
     let total = a + b + c;
-    let whole = signed(a, half) + signed(b, half) + c as i32;
     Parts {
         value: total % (half + half),
         carry: half + half <= total,
-        overflow: is_outside(whole, half),
+        overflow: is_outside(signed_sum(a, b, c, half), half),
     }
 }
 
-// a - b - c. The unsigned difference that would be below 0 borrows.
+// a - b - c. An unsigned difference that would be below 0 borrows.
 pub(super) fn difference(a: u32, b: u32, c: u32, half: u32) -> Parts
     requires { ⌜ Operands half a b c ⌝ }
     ensures { λ r. ⌜ r ≡ differenceOf half a b c ⌝ }
     ensures { λ r. ⌜ r .value < half + half ⌝ }
 {
-    let whole = signed(a, half) - signed(b, half) - c as i32;
     Parts {
         value: (a + (half + half) - (b + c)) % (half + half),
         carry: a < b + c,
-        overflow: is_outside(whole, half),
+        overflow: is_outside(signed_difference(a, b, c, half), half),
     }
 }
 

@@ -1,6 +1,9 @@
 // Operations on words.
 ghost use mathlib.Core.Path.{_≡_};
 ghost use Prim.Native.Nat.{_<_};
+ghost use Rattle.u8oru16.specs.Negated.{signExtended};
+ghost use Rattle.u8oru16.specs.Value.{valueOf};
+ghost use Rattle.u8oru16.specs.declared.u8u16.the-variants.{u8 as oneByte};
 ghost use Rattle.registers.specs.Arithmetic.{ADDD, SUBD, MUL, out16, codes, logical, manual};
 ghost use Rattle.whole.specs.Inherent.{extendedOf};
 ghost use Rattle.whole.specs.Parts.{pageOf};
@@ -61,15 +64,22 @@ pub fn multiply(cc: CCBits, a: u8, b: u8) -> Out16
     }
 }
 
-// SEX: the byte read as signed, as a word.
-pub fn sign_extend(cc: CCBits, b: u8) -> Out16
-    ensures { λ r. ⌜ r ≡ extendedOf cc b ⌝ }
+// A byte read as signed, as a word.
+fn extended(b: u8) -> u16
+    ensures { λ r. ⌜ r ≡ valueOf (signExtended (oneByte b)) ⌝ }
 {
-    let word = if b < 0x80 {
+    if b < 0x80 {
         b as u16
     } else {
         0xFF00 + b as u16
-    };
+    }
+}
+
+// SEX.
+pub fn sign_extend(cc: CCBits, b: u8) -> Out16
+    ensures { λ r. ⌜ r ≡ extendedOf cc b ⌝ }
+{
+    let word = extended(b);
     Out16 {
         cc: sign_and_zero(cc, word as u32, 0x8000),
         value: word,

@@ -1,10 +1,9 @@
--- The signed whole is that of the definition: each step of it fits (`Signed`).
+-- The overflow is that of the definition, and the result is below the modulus.
 -- Assumes nothing.
 use native.Mathlib.Nat.{mod-lt}
 use native.Mathlib.Omega.{arith}
-use lib.IntN.{negℤ}
 use Rattle.u8oru16.specs.Signed.{diffOut}
-use Rattle.whole.proofs.Signed.{mag-neg, two-fit, three-fit, three-back}
+use Rattle.whole.proofs.Signed.{back}
 use borrow.Author.Needs.{needs}
 use Rattle.whole.proofs.numbers.difference.Statement.{statement}
 use Rattle.whole.proofs.numbers.difference.Tie as tie
@@ -13,12 +12,5 @@ pub difference-spec : {M : Type 1} → statement M
 unfolding diffOut
 difference-spec =
     tie.close
-    (tie.spec (search needs) (search needs)
-    (λ c. two-fit negℤ mag-neg (c .before .before .args .half) (c .before .before .args .c) (c .before .signed .result) (c .signed2 .result) (c .before .before .pre .width .most) (c .before .signed .ensures .1) (c .signed2 .ensures .1) (c .before .before .pre .carry))
-    (search needs)
-    (λ c. three-fit negℤ mag-neg (c .before .before .args .half) (c .before .before .args .c) (c .before .signed .result) (c .signed2 .result) (c .before .before .pre .width .most) (c .before .signed .ensures .1) (c .signed2 .ensures .1) (c .before .before .pre .carry))
-    (search needs) (search needs) (search needs) (search needs) (search needs) (search needs) (search needs) (search needs)
-    (λ c. (
-      rw (c .is-outside .ensures, three-back negℤ mag-neg (c .before .before .before .args .half) (c .before .before .before .args .c) (c .before .before .signed .result) (c .before .signed2 .result) (c .before .before .before .pre .width .most) (c .before .before .signed .ensures .1) (c .before .signed2 .ensures .1) (c .before .before .before .pre .carry), c .before .before .signed .ensures .0, c .before .signed2 .ensures .0),
-      mod-lt _ (omega (arith, c .before .before .before .pre .width .some)),
-    )))
+    (tie.spec (search needs) (search needs) (search needs) (search needs) (search needs) (search needs) (search needs) (search needs) (search needs)
+    (λ c. (rw (c .is-outside .ensures, back (c .before .signed-difference .result) (c .before .signed-difference .ensures .1), c .before .signed-difference .ensures .0), mod-lt _ (omega (arith, c .before .before .pre .width .some)))))
