@@ -1,34 +1,18 @@
 // Operations on bytes: an accumulator with a byte, one byte alone, TST, and the stores of bytes.
 ghost use mathlib.Core.Path.{_≡_};
-ghost use Rattle.operations.specs.EightBit.{withAccumulator, aluOf, unaryOf, onOperand, onAccumulator, tested, oneWrite, onMemory, store8};
+ghost use Rattle.operations.specs.EightBit.{aluOf, unaryOf, onOperand, onAccumulator, tested, onMemory, store8};
 use machine::Effect;
-use memory::Write;
-use memory::Writes;
 use opcodes::Acc;
 use opcodes::Alu;
 use opcodes::Unary;
 use operations::accumulator;
+use operations::one_write;
+use operations::with_accumulator;
 use operations::with_codes;
 use registers::CCBits;
 use registers::Flags;
 use registers::Out8;
 use registers::Set;
-
-pub fn with_accumulator(regs: Set, acc: Acc, out: Out8) -> Set
-    ensures { λ r. ⌜ r ≡ withAccumulator acc out regs ⌝ }
-{
-    let mut after = with_codes(regs, out.cc);
-    match acc {
-        Acc::A => {
-            after.a = out.value;
-            after
-        }
-        Acc::B => {
-            after.b = out.value;
-            after
-        }
-    }
-}
 
 // CMP and BIT are SUB and AND whose result is not kept.
 fn operate(flags: Flags, op: Alu, cc: CCBits, a: u8, m: u8) -> Out8
@@ -89,16 +73,6 @@ pub fn test(regs: Set, m: u8) -> Set
     ensures { λ r. ⌜ r ≡ tested regs m ⌝ }
 {
     with_codes(regs, whole::test(regs.cc, m))
-}
-
-fn one_write(at: u16, byte: u8) -> Writes
-    ensures { λ r. ⌜ r ≡ oneWrite at byte ⌝ }
-{
-    Writes::none().add(Write {
-        at,
-        byte,
-        system: false,
-    })
 }
 
 pub fn on_memory(flags: Flags, op: Unary, mem: &[u8], regs: Set, ea: u16) -> Effect

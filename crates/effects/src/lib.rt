@@ -52,8 +52,8 @@ fn change(op: RegisterOp, flags: Flags, mem: &[u8], regs: Set, ea: u16) -> Chang
             Changed::After(operations::and_codes(regs, memory::read_u8(mem, ea)))
         }
         RegisterOp::Orcc => { Changed::After(operations::or_codes(regs, memory::read_u8(mem, ea))) }
-        RegisterOp::Exg => named::exchange(regs, memory::read_u8(mem, ea)),
-        RegisterOp::Tfr => named::transfer(regs, memory::read_u8(mem, ea)),
+        RegisterOp::Exg => operations::exchange(regs, memory::read_u8(mem, ea)),
+        RegisterOp::Tfr => operations::transfer(regs, memory::read_u8(mem, ea)),
     }
 }
 
