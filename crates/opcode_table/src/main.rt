@@ -1,51 +1,7 @@
-// Prints a line for each instruction of the opcode table: page, opcode, mnemonic, mode, size and base cycles.
-mod line;
-
-use line::Line;
-use opcodes::Entry;
-use opcodes::Mode;
+// Prints a line for each instruction of the opcode table.
 use opcodes::Place;
+use table_lines::print_place;
 
-fn put_mode(line: Line, mode: Mode) -> Line {
-    match mode {
-        Mode::Inherent => line::put_text(line, b"inherent", 8),
-        Mode::Immediate8 => line::put_text(line, b"immediate", 9),
-        Mode::Immediate16 => line::put_text(line, b"immediate", 9),
-        Mode::Direct => line::put_text(line, b"direct", 6),
-        Mode::Indexed => line::put_text(line, b"indexed", 7),
-        Mode::Extended => line::put_text(line, b"extended", 8),
-        Mode::Relative8 => line::put_text(line, b"relative", 8),
-        Mode::Relative16 => line::put_text(line, b"relative", 8),
-    }
-}
-
-// Of the branches those of more than two bytes are the long ones.
-fn put_mnemonic(line: Line, entry: Entry) -> Line {
-    let op = entry.op;
-    let name = mnemonics::mnemonic(op, entry.size > 2);
-    let letters = name.bytes;
-    line::put_text(line, &letters, name.len)
-}
-
-fn print_entry(prefix: u8, code: u8, entry: Entry) {
-    let mode = entry.mode;
-    let mut out = line::put_hex(line::empty(), prefix);
-    out = line::put_hex(line::put(out, b' '), code);
-    out = put_mnemonic(line::put(out, b' '), entry);
-    out = put_mode(line::put(out, b' '), mode);
-    out = line::put_decimal(line::put(out, b' '), entry.size);
-    out = line::put_decimal(line::put(out, b' '), entry.cycles);
-    line::write(line::put(out, b'\n'));
-}
-
-fn print_place(prefix: u8, code: u8, place: Place) {
-    match place {
-        Place::Instruction(entry) => print_entry(prefix, code, entry),
-        Place::None => {}
-    }
-}
-
-// The prefix is the byte before the opcodes of the page, 00 where there is none.
 fn print_page(prefix: u8, places: [Place; 256]) {
     let mut code = 0;
     while code < 256 {
