@@ -3,8 +3,8 @@
 use borrow.Author.Needs.{needs}
 use Prim.Native.Nat.{_-_}
 use lib.ListN.{length}
-use Rattle.table_lines.proofs.line.put_text.Statement.{statement}
-use Rattle.table_lines.proofs.line.put_text.Tie as tie
+use Rattle.opcode_table.proofs.line.put_text.Statement.{statement}
+use Rattle.opcode_table.proofs.line.put_text.Tie as tie
 
 abbrev Inv-loop : tie.InvT-loop
 Inv-loop text n out₀ i₀ out i = Unit {0}

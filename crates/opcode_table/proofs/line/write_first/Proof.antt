@@ -3,8 +3,8 @@
 use native.Mathlib.Omega.{arith}
 use lib.ListN.{length-take}
 use borrow.Author.Needs.{needs}
-use Rattle.table_lines.proofs.line.write_first.Statement.{statement}
-use Rattle.table_lines.proofs.line.write_first.Tie as tie
+use Rattle.opcode_table.proofs.line.write_first.Statement.{statement}
+use Rattle.opcode_table.proofs.line.write_first.Tie as tie
 
 slice-aggregate-write-all : tie.Need-slice-aggregate-write-all
 slice-aggregate-write-all c = simp length-take (omega arith)

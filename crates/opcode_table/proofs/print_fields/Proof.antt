@@ -1,9 +1,9 @@
--- `print_page` is safe and ends. The measure is the number of opcodes that are left.
+-- `print_fields` is safe and ends. The measure is the number of opcodes that are left.
 -- Assumes nothing.
 use borrow.Author.Needs.{needs}
 use Prim.Native.Nat.{_-_}
-use Rattle.field_table.proofs.print_page.Statement.{statement}
-use Rattle.field_table.proofs.print_page.Tie as tie
+use Rattle.opcode_table.proofs.print_fields.Statement.{statement}
+use Rattle.opcode_table.proofs.print_fields.Tie as tie
 
 abbrev Inv-loop : tie.InvT-loop
 Inv-loop prefix page code₀ code = Unit {0}
@@ -11,7 +11,7 @@ Inv-loop prefix page code₀ code = Unit {0}
 abbrev μ-loop : tie.MeasureT-loop
 μ-loop prefix page code₀ code = 256 - code
 
-pub print-page-spec : {M : Type 1} → statement M
-print-page-spec =
+pub print-fields-spec : {M : Type 1} → statement M
+print-fields-spec =
     tie.close
     (tie.spec Inv-loop μ-loop (search needs) (search needs) (search needs) (search needs) (search needs) (search needs) (search needs) (search needs))
