@@ -52,6 +52,8 @@ enum { DOORHAWSER_DUMP = 65568, DOORHAWSER_ENTRY = 17, DOORHAWSER_ENTRIES = 3278
 enum { DOORHAWSER_BOUGHT = 0, DOORHAWSER_MANUAL = 1 };                     /* flags: as the bought emulator sets them, or by the manual */
 enum { DOORHAWSER_RUNNING = 0, DOORHAWSER_CWAI = 1, DOORHAWSER_SYNC = 2 }; /* wait */
 enum { DOORHAWSER_IRQ = 0, DOORHAWSER_FIRQ = 1, DOORHAWSER_NMI = 2 };      /* which */
+enum { DOORHAWSER_STEP_REFUSED = 1, DOORHAWSER_WAITS = 2, DOORHAWSER_STOP_ADDRESS = 3, DOORHAWSER_DEVICE_WRITE = 4, DOORHAWSER_ALLOWANCE = 5 }; /* reason */
+enum { DOORHAWSER_NO_STOP = 65536 }; /* stop: no address */
 
 /* The answers, as README's table has them, named as the cases of Refusal in crates/answers; 13 to 15 are of calls that are not here. */
 enum {
@@ -78,7 +80,7 @@ enum {
     DOORHAWSER_TOO_FEW_RECORDS = 26, /* drop of more records than are held */
     DOORHAWSER_LIST_SHORT = 27,      /* compare: the list is too short for all entries */
     DOORHAWSER_SALVAGE_SHORT = 29,   /* salvage: the output or the list is too short */
-    DOORHAWSER_UNNAMED = 64          /* wait, armed, flags or which outside its range, or a spare field not 0; judged before all others */
+    DOORHAWSER_UNNAMED = 64          /* wait, armed, flags, which or stop outside its range, or a spare field not 0; judged before all others */
 };
 
 typedef struct doorhawser_settings { /* 4 bytes */
@@ -115,6 +117,12 @@ typedef struct doorhawser_ran { /* 136 bytes */
     doorhawser_outcome last;    /* of the last step; where that is refused, the twin is as the steps before it left it */
     uint64_t left;              /* the steps that were asked for and not accepted */
 } doorhawser_ran;
+
+typedef struct doorhawser_stopped { /* 144 bytes */
+    doorhawser_outcome outcome;     /* the twin after the run, the device writes of its last step, all bytes read and written; the answer is 0 */
+    uint64_t reason;                /* why the run ended; 0 with answer 64 */
+    uint64_t number;                /* the answer of the step that was refused; 0 with every other reason */
+} doorhawser_stopped;
 
 typedef struct doorhawser_part { /* 16 bytes */
     uint64_t at, count;
@@ -181,6 +189,10 @@ DOORHAWSER_AT(doorhawser_outcome, answer, 120);
 DOORHAWSER_SIZE(doorhawser_ran, 136);
 DOORHAWSER_AT(doorhawser_ran, last, 0);
 DOORHAWSER_AT(doorhawser_ran, left, 128);
+DOORHAWSER_SIZE(doorhawser_stopped, 144);
+DOORHAWSER_AT(doorhawser_stopped, outcome, 0);
+DOORHAWSER_AT(doorhawser_stopped, reason, 128);
+DOORHAWSER_AT(doorhawser_stopped, number, 136);
 DOORHAWSER_SIZE(doorhawser_part, 16);
 DOORHAWSER_AT(doorhawser_part, at, 0);
 DOORHAWSER_AT(doorhawser_part, count, 8);
@@ -214,6 +226,14 @@ doorhawser_outcome doorhawser_reset(uint8_t *memory, size_t memory_length, uint8
                                     doorhawser_twin twin, doorhawser_settings settings);
 doorhawser_outcome doorhawser_undo(uint8_t *memory, size_t memory_length, const uint8_t *journal, size_t journal_length,
                                    doorhawser_twin twin);
+
+/* At most `allowance` recorded steps. After each these are tested, in this order, and the first that holds ends the run: the step was refused
+ * (`number` says by what, and the twin is as the steps before it left it), the twin waits, PC is at the stop address, the step wrote to a
+ * device, the allowance is used up. Before the first step the allowance alone is tested, so a run that starts at its stop address goes on.
+ * `stop` is an address, or DOORHAWSER_NO_STOP. The answer is 0, also where the first step is refused, or DOORHAWSER_UNNAMED. A run that
+ * ended on its allowance, and one after it, are one run of both allowances; undo takes back its steps, one a call. */
+doorhawser_stopped doorhawser_run(uint8_t *memory, size_t memory_length, uint8_t *journal, size_t journal_length, doorhawser_twin twin,
+                                  doorhawser_settings settings, uint64_t allowance, uint32_t stop);
 
 /* Forgets the oldest k records, and moves the bytes of the others to the journal's front; the bytes past them stay. The registers and the
  * memory, which is not lent, stay too. undo then reaches back to the oldest record that is kept. */
@@ -306,6 +326,13 @@ static inline doorhawser_outcome doorhawser_debug_undo(const char *file, int lin
     return doorhawser_undo(memory, memory_length, journal, journal_length, twin);
 }
 
+static inline doorhawser_stopped doorhawser_debug_run(const char *file, int line, uint8_t *memory, size_t memory_length, uint8_t *journal,
+                                                      size_t journal_length, doorhawser_twin twin, doorhawser_settings settings,
+                                                      uint64_t allowance, uint32_t stop) {
+    doorhawser_apart(file, line, "doorhawser_run", memory, memory_length, journal, journal_length);
+    return doorhawser_run(memory, memory_length, journal, journal_length, twin, settings, allowance, stop);
+}
+
 static inline doorhawser_loaded doorhawser_debug_load(const char *file, int line, uint8_t *memory, size_t memory_length,
                                                       const uint8_t *text, size_t text_length) {
     doorhawser_apart(file, line, "doorhawser_load", memory, memory_length, text, text_length);
@@ -357,6 +384,7 @@ static inline doorhawser_written doorhawser_debug_compare(const char *file, int 
 #define doorhawser_interrupt(...) doorhawser_debug_interrupt(__FILE__, __LINE__, __VA_ARGS__)
 #define doorhawser_reset(...) doorhawser_debug_reset(__FILE__, __LINE__, __VA_ARGS__)
 #define doorhawser_undo(...) doorhawser_debug_undo(__FILE__, __LINE__, __VA_ARGS__)
+#define doorhawser_run(...) doorhawser_debug_run(__FILE__, __LINE__, __VA_ARGS__)
 #define doorhawser_load(...) doorhawser_debug_load(__FILE__, __LINE__, __VA_ARGS__)
 #define doorhawser_save(...) doorhawser_debug_save(__FILE__, __LINE__, __VA_ARGS__)
 #define doorhawser_salvage(...) doorhawser_debug_salvage(__FILE__, __LINE__, __VA_ARGS__)

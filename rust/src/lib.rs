@@ -142,6 +142,30 @@ pub struct Ran {
     pub refused: Option<Refused>,
 }
 
+/// Why a run with an allowance ended, in the order in which it is tested.
+#[derive(Clone, Copy, Debug, PartialEq, Eq, Hash)]
+pub enum Reason {
+    /// a step was refused
+    StepRefused(Refused),
+    /// the twin waits
+    Waits,
+    /// PC is at the stop address
+    StopAddress,
+    /// the last step wrote to a device
+    DeviceWrite,
+    /// as many steps were made as were allowed
+    Allowance,
+}
+
+/// How a run with an allowance ended.
+#[derive(Clone, Copy, Debug, PartialEq, Eq)]
+pub struct Stopped {
+    /// why
+    pub reason: Reason,
+    /// the device writes of the last step, where it was accepted
+    pub devices: DeviceWrites,
+}
+
 /// What is sound of a torn S-record file.
 #[derive(Clone, Debug, PartialEq, Eq)]
 pub struct Salvaged {
@@ -300,6 +324,24 @@ impl Twin {
         // Safety: as in `recorded`.
         let o = unsafe { raw::doorhawser_interrupt(m, MEMORY, j, n, self.state, self.settings.raw(), which as u8) };
         self.ended(o)
+    }
+
+    /// At most so many instructions, recorded, until one is refused, the twin waits, PC is at the stop address or a device is written to. That
+    /// is tested in this order after each; a run that starts at its stop address goes on.
+    pub fn run_recorded(&mut self, allowance: u64, stop: Option<u16>) -> Stopped {
+        let (m, j, n) = (self.memory.as_mut_ptr(), self.journal.as_mut_ptr(), self.journal.len());
+        let stop = stop.map_or(raw::NO_STOP, u32::from);
+        // Safety: as in `recorded`.
+        let r = unsafe { raw::doorhawser_run(m, MEMORY, j, n, self.state, self.settings.raw(), allowance, stop) };
+        self.state = r.outcome.twin;
+        let reason = match r.reason {
+            1 => Reason::StepRefused(Refused(r.number)),
+            2 => Reason::Waits,
+            3 => Reason::StopAddress,
+            4 => Reason::DeviceWrite,
+            _ => Reason::Allowance,
+        };
+        Stopped { reason, devices: DeviceWrites::of(&r.outcome) }
     }
 
     /// Takes the newest recorded call back: registers, wait, mark, counters and memory outside FF00-FFDF are as they stood before it, where no

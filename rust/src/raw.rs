@@ -9,6 +9,7 @@ pub const LINE: usize = 48;
 pub const DUMP: usize = 65568;
 pub const ENTRY: usize = 17;
 pub const ENTRIES: usize = 32781;
+pub const NO_STOP: u32 = 65536;
 
 #[repr(C)]
 #[derive(Clone, Copy, Debug, PartialEq, Eq)]
@@ -66,6 +67,14 @@ pub struct Ran {
 
 #[repr(C)]
 #[derive(Clone, Copy, Debug, PartialEq, Eq)]
+pub struct Stopped {
+    pub outcome: Outcome,
+    pub reason: u64,
+    pub number: u64,
+}
+
+#[repr(C)]
+#[derive(Clone, Copy, Debug, PartialEq, Eq)]
 pub struct Part {
     pub at: u64,
     pub count: u64,
@@ -102,7 +111,7 @@ pub struct Undumped {
 }
 
 const _: () = assert!(size_of::<usize>() == 8 && size_of::<Settings>() == 4 && size_of::<Twin>() == 48 && size_of::<Write>() == 4);
-const _: () = assert!(size_of::<Outcome>() == 128 && size_of::<Ran>() == 136);
+const _: () = assert!(size_of::<Outcome>() == 128 && size_of::<Ran>() == 136 && size_of::<Stopped>() == 144);
 const _: () = assert!(size_of::<Part>() == 16 && size_of::<Loaded>() == 16 && size_of::<Written>() == 16 && size_of::<Salvaged>() == 32);
 const _: () = assert!(size_of::<Undumped>() == 56);
 
@@ -141,6 +150,16 @@ extern "C" {
         settings: Settings,
     ) -> Outcome;
     pub fn doorhawser_undo(memory: *mut u8, memory_length: usize, journal: *const u8, journal_length: usize, twin: Twin) -> Outcome;
+    pub fn doorhawser_run(
+        memory: *mut u8,
+        memory_length: usize,
+        journal: *mut u8,
+        journal_length: usize,
+        twin: Twin,
+        settings: Settings,
+        allowance: u64,
+        stop: u32,
+    ) -> Stopped;
     pub fn doorhawser_drop(journal: *mut u8, journal_length: usize, twin: Twin, k: u64) -> Outcome;
     pub fn doorhawser_step_unrecorded(memory: *mut u8, memory_length: usize, twin: Twin, settings: Settings) -> Outcome;
     pub fn doorhawser_interrupt_unrecorded(memory: *mut u8, memory_length: usize, twin: Twin, settings: Settings, which: u8) -> Outcome;

@@ -1,5 +1,5 @@
 //! Expected values: document 01's worked input and checked examples, examples/README.md, and the S-records by hand.
-use doorhawser::{raw, DeviceWrite, Difference, Flags, Interrupt, Refused, Registers, Salvaged, Settings, Twin, Wait};
+use doorhawser::{raw, DeviceWrite, Difference, Flags, Interrupt, Reason, Refused, Registers, Salvaged, Settings, Twin, Wait};
 
 fn twin(flags: Flags, records: usize) -> Twin {
     Twin::new(Settings { ram_top: 0x7FFF, flags }, records)
@@ -128,6 +128,31 @@ fn device_writes_are_handed_over() {
     assert_eq!(t.run(0).steps, 0);
 }
 
+// LDA #5A, STA FF02, NOP, NOP, SYNC: five records of 34 bytes, and a sixth step that is refused by 2
+#[test]
+fn a_run_ends_for_the_first_reason() {
+    let mut t = twin(Flags::Manual, 8);
+    put(&mut t, 0, &[0x86, 0x5A, 0xB7, 0xFF, 0x02, 0x12, 0x12, 0x13]);
+    let mut ran = |allowance, stop| {
+        let r = t.run_recorded(allowance, stop);
+        (r.reason, r.devices.len(), t.registers().pc, t.records())
+    };
+    assert_eq!(ran(0, None), (Reason::Allowance, 0, 0, 0));
+    assert_eq!(ran(1, None), (Reason::Allowance, 0, 2, 1));
+    assert_eq!(ran(1, None), (Reason::DeviceWrite, 1, 5, 2));
+    assert_eq!(ran(9, Some(6)), (Reason::StopAddress, 0, 6, 3));
+    assert_eq!(ran(1, Some(6)), (Reason::Allowance, 0, 7, 4));
+    assert_eq!(ran(9, Some(8)), (Reason::Waits, 0, 8, 5));
+    assert_eq!(ran(9, None), (Reason::StepRefused(Refused(2)), 0, 8, 5));
+    for pc in [7, 6, 5, 2, 0] {
+        t.undo().unwrap();
+        assert_eq!(t.registers().pc, pc);
+    }
+    assert_eq!((t.undo(), t.wait()), (Err(Refused(11)), Wait::Running));
+    assert_eq!(t.run_recorded(u64::MAX, Some(5)).reason, Reason::StopAddress); // before the device write, which is handed over too
+    assert_eq!((t.registers().pc, t.records()), (5, 2));
+}
+
 // DEC 00: V as bought, not by the manual
 #[test]
 fn the_settings_part_at_dec_00() {
@@ -236,6 +261,7 @@ fn the_layout_is_the_headers() {
     assert_eq!(at!(w, at, byte, system), [0, 2, 3]);
     assert_eq!(at!(o, twin, devices, count, reads, writes, answer), [0, 48, 96, 104, 112, 120]);
     assert_eq!(at!(raw::Ran { last: o, left: 0 }, last, left), [0, 128]);
+    assert_eq!(at!(raw::Stopped { outcome: o, reason: 0, number: 0 }, outcome, reason, number), [0, 128, 136]);
     assert_eq!(at!(raw::Part { at: 0, count: 0 }, at, count), [0, 8]);
     assert_eq!(at!(raw::Loaded { start: 0, answer: 0 }, start, answer), [0, 8]);
     assert_eq!(at!(raw::Written { count: 0, answer: 0 }, count, answer), [0, 8]);

@@ -67,7 +67,7 @@ static int refuses(const doorhawser_outcome *o, uint64_t answer, const doorhawse
 
 /* ---- every call by a number, with the buffers' lengths chosen */
 
-enum { STEP, INTERRUPT, RESET, UNDO, STEP_UNRECORDED, INTERRUPT_UNRECORDED, RESET_UNRECORDED, RUN_UNRECORDED, CALLS };
+enum { STEP, INTERRUPT, RESET, UNDO, STEP_UNRECORDED, INTERRUPT_UNRECORDED, RESET_UNRECORDED, RUN_UNRECORDED, RUN, CALLS };
 
 static doorhawser_outcome call(int which, uint8_t *m, size_t ml, uint8_t *j, size_t jl, doorhawser_twin t, doorhawser_settings s, uint8_t i) {
     switch (which) {
@@ -78,10 +78,16 @@ static doorhawser_outcome call(int which, uint8_t *m, size_t ml, uint8_t *j, siz
     case STEP_UNRECORDED: return doorhawser_step_unrecorded(m, ml, t, s);
     case INTERRUPT_UNRECORDED: return doorhawser_interrupt_unrecorded(m, ml, t, s, i);
     case RESET_UNRECORDED: return doorhawser_reset_unrecorded(m, ml, t, s);
-    default: {
+    case RUN_UNRECORDED: {
         doorhawser_ran r = doorhawser_run_unrecorded(m, ml, t, s, 7);
         if (r.last.answer) HOLD(r.left == 7);
         return r.last;
+    }
+    default: { /* where its first step is refused the run itself answers 0, and the number stands beside the reason */
+        doorhawser_stopped r = doorhawser_run(m, ml, j, jl, t, s, 7, DOORHAWSER_NO_STOP);
+        HOLD(r.outcome.answer ? !r.reason && !r.number : r.reason && (r.number != 0) == (r.reason == DOORHAWSER_STEP_REFUSED));
+        if (!r.outcome.answer) r.outcome.answer = r.number;
+        return r.outcome;
     }
     }
 }
@@ -124,6 +130,11 @@ static void out_of_range(void) {
             if (settings) unnamed(which, t, off, i);
             if (interrupts && n > 2) unnamed(which, t, s, byte);
         }
+    }
+    for (uint64_t stop = DOORHAWSER_NO_STOP + 1; stop <= UINT32_MAX; stop = 2 * stop + 1) {
+        doorhawser_twin t = any_twin();
+        doorhawser_stopped r = doorhawser_run(memory, sizeof memory, journal, sizeof journal, t, manual, 7, (uint32_t)stop);
+        HOLD(refuses(&r.outcome, DOORHAWSER_UNNAMED, &t) && !r.reason && !r.number && kept());
     }
     done("numbers out of range");
 }
@@ -356,6 +367,63 @@ static void runs(void) {
     }
     HOLD(refused > 500 && reported > 200 && whole > 500);
     done("runs of steps");
+}
+
+/* ---- a run with an allowance is its recorded steps, up to the first of the reasons, tested in their order */
+
+static doorhawser_stopped by_recorded_steps(uint8_t *m, uint8_t *j, size_t jl, doorhawser_twin t, doorhawser_settings s, uint64_t allowance,
+                                            uint32_t stop) {
+    doorhawser_stopped r;
+    uint64_t reads = 0, writes = 0;
+    memset(&r, 0, sizeof r);
+    r.outcome.twin = t;
+    while (!r.reason) {
+        if (!allowance--) {
+            r.reason = DOORHAWSER_ALLOWANCE;
+            break;
+        }
+        r.outcome = doorhawser_step(m, DOORHAWSER_MEMORY, j, jl, r.outcome.twin, s);
+        reads += r.outcome.reads;
+        writes += r.outcome.writes;
+        r.number = r.outcome.answer;
+        r.outcome.answer = 0;
+        r.reason = r.number              ? DOORHAWSER_STEP_REFUSED
+                   : r.outcome.twin.wait ? DOORHAWSER_WAITS
+                   : r.outcome.twin.pc == stop ? DOORHAWSER_STOP_ADDRESS
+                   : r.outcome.count           ? DOORHAWSER_DEVICE_WRITE
+                                               : 0;
+    }
+    r.outcome.reads = reads;
+    r.outcome.writes = writes;
+    return r;
+}
+
+static void allowances(void) {
+    static uint8_t other[DOORHAWSER_MEMORY], other_journal[JOURNAL];
+    static const char *const codes[] = {"\xB7\xFF\x02", "\x13\x12\x12", "\x3C\xFF\x12", "\x01\x12\x12"}; /* STA FF02, SYNC, CWAI, none */
+    unsigned long ended[6] = {0};
+    for (int n = 0; n < 4000; n++) {
+        fill(memory, sizeof memory);
+        if (n % 4) memset(memory, 0x12, 0xC000);
+        for (int i = 0; n % 4 && i < 700; i++) memcpy(memory + any() % 0xBF00, codes[any() % 4], 3);
+        memcpy(other, memory, sizeof other);
+        memcpy(other_journal, journal, sizeof journal);
+        doorhawser_twin t = any_twin();
+        doorhawser_settings s = {(uint16_t)any(), (uint8_t)(any() & 1), 0};
+        if (n % 16) t.wait = DOORHAWSER_RUNNING;
+        if (n % 4) t.pc = (uint16_t)(t.pc % 0xBF00);
+        if (n % 2) t.records = t.bytes = 0;
+        size_t length = n % 8 ? sizeof journal : t.bytes + any() % DOORHAWSER_RECORD; /* room for one record or none */
+        uint64_t allowance = any() % 60;
+        uint32_t stop = n % 3 ? (uint32_t)(uint16_t)(t.pc + any() % 60) : DOORHAWSER_NO_STOP;
+        doorhawser_stopped r = doorhawser_run(memory, sizeof memory, journal, length, t, s, allowance, stop);
+        doorhawser_stopped e = by_recorded_steps(other, other_journal, length, t, s, allowance, stop);
+        HOLD(!memcmp(&r, &e, sizeof r) && !memcmp(memory, other, sizeof other) && !memcmp(journal, other_journal, sizeof journal));
+        HOLD(!r.outcome.answer && r.reason && r.reason <= DOORHAWSER_ALLOWANCE);
+        ended[r.reason]++;
+    }
+    for (int i = DOORHAWSER_STEP_REFUSED; i <= DOORHAWSER_ALLOWANCE; i++) HOLD(ended[i] > 100);
+    done("runs with an allowance");
 }
 
 /* ---- recorded calls taken back, and the oldest dropped */
@@ -626,6 +694,7 @@ int main(void) {
     devices();
     names();
     runs();
+    allowances();
     journals();
     lines();
     records();

@@ -301,6 +301,7 @@ class Machine:
         self.instrs = 0
         self.journal = []
         self.used = 0          # document 02 [9]: bytes of the journal in use
+        self.room = JOURNAL_BYTES
         self.dev = []          # device writes reported by the last call
         self.taken = []        # document 02 [11]: the addresses read by the last call, a byte each
         self.laid = []         # and the bytes that it wrote, with their addresses, stored or not
@@ -355,7 +356,7 @@ class Machine:
     def record(self, regs, wait, cycles, instrs, stored):
         """the last thing that can refuse: this call's own record does not fit"""
         assert len(stored) <= 12
-        if self.used + self.record_length(stored) > JOURNAL_BYTES:
+        if self.used + self.record_length(stored) > self.room:
             self.revert(stored)
             raise Refuse(10)
         self.used += self.record_length(stored)
@@ -435,6 +436,24 @@ class Machine:
         if self.stats is not None:
             self.stats.note_op(n, ans)
         return ans
+
+    def run(self, allowance, stop=None):
+        """document 02 [12] -> (reason, number, device writes, bytes read, bytes written), the reason by its name"""
+        reads = writes = 0
+        while allowance:
+            allowance -= 1
+            number = self.op(0)
+            reads = (reads + len(self.taken)) & M64
+            writes = (writes + len(self.laid)) & M64
+            if number:
+                return 'refused', number, [], reads, writes
+            if self.wait:
+                return 'waits', 0, self.dev, reads, writes
+            if self.r[PC] == stop:
+                return 'stop', 0, self.dev, reads, writes
+            if self.dev:
+                return 'device', 0, self.dev, reads, writes
+        return 'allowance', 0, [], reads, writes
 
     def undo(self):
         if not self.journal:

@@ -57,7 +57,7 @@ isImmediate Relative8 = false
 isImmediate Relative16 = false
 
 -- an indexed operand: two offset bytes and a pointer
-pub indexedMost : Mode → ℕ
+unfoldable pub indexedMost : Mode → ℕ
 indexedMost Inherent = 0
 indexedMost Immediate8 = 0
 indexedMost Immediate16 = 0
@@ -172,7 +172,7 @@ abbrev pub ReadSo : Mode → ℕ → OperandRead → Type 0
 ReadSo mode at (Read o next) = OperandSo mode at o next
 ReadSo mode at (NotRead x) = Unit {0}
 
-form-most : (f : Form) → offsetBytes f ≤ 2
+pub form-most : (f : Form) → offsetBytes f ≤ 2
 form-most Offset5 = lit≤ tt
 form-most Increment1 = lit≤ tt
 form-most Increment2 = lit≤ tt

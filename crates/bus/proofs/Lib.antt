@@ -1,2 +1,5 @@
 pub mod Entries
 pub mod Sums
+pub mod Small
+pub mod Arms
+pub mod Unique

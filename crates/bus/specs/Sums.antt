@@ -1,6 +1,6 @@
 -- How many bytes an instruction reads, as a sum: program bytes, two for a pointer, the operand's unless it is immediate, the pulled or the vector's.
 -- Assumes nothing.
-use Prim.Native.Nat.{ℕ, _+_, _-_}
+use Prim.Native.Nat.{ℕ, _+_, _-_, _≤_}
 use mathlib.Core.Bool.{cond}
 use mathlib.Core.List.{List}
 use mathlib.Core.Path.{_≡_}
@@ -16,7 +16,9 @@ use Rattle.opcodes.specs.declared.Mode.{Mode}
 use Rattle.opcodes.specs.declared.Mode.the-variants.{Inherent, Immediate8, Immediate16, Direct, Indexed, Extended, Relative8, Relative16}
 use Rattle.opcodes.specs.declared.Op.{Op}
 use Rattle.opcodes.specs.declared.Op.the-variants.{Registers, Memory}
+use Rattle.decode.specs.Decode.{decodedAt}
 use Rattle.decode.specs.PostByte.{isIndirect}
+use Rattle.decode.specs.declared.instruction.Decoded.the-variants.{Instruction as Taken}
 use Rattle.decode.specs.declared.instruction.Instruction.{Instruction}
 use Rattle.decode.specs.declared.operand.Operand.{Operand}
 use Rattle.decode.specs.declared.operand.Operand.the-variants.{Inherent as Nothing, Immediate as ByValue, Direct as InPage, Indexed as ByIndex, Extended as AtAddress, Relative as ByOffset}
@@ -42,10 +44,14 @@ operandCount Inherent n = n
 operandCount Relative8 n = n
 operandCount Relative16 n = n
 
+-- RTI: CC and by its E all others, or PC
+abbrev pub returnCount : List ℕ → Set → ℕ
+returnCount mem r = cond (flag E (coded (byteAt mem (r .s)))) 12 3
+
 abbrev pub memoryCount : MemoryOp → List ℕ → Set → ℕ → ℕ
 memoryCount Rts mem r ea = 2
 memoryCount (Pull own) mem r ea = bytesPushed (byteAt mem ea)
-memoryCount Rti mem r ea = cond (flag E (coded (byteAt mem (r .s)))) 12 3
+memoryCount Rti mem r ea = returnCount mem r
 memoryCount (Swi which) mem r ea = 3
 memoryCount (OnMemory op) mem r ea = 0
 memoryCount (Store8 acc) mem r ea = 0
@@ -67,3 +73,19 @@ ReadsSummed =
     → length (instructionReads i mem s was r ea)
     ≡ (i .next - was .pc)
     + (pointerCount (i .operand) + (operandCount (i .entry .mode) (operandTaken (i .entry .op)) + fetchedCount (i .entry .op) mem r ea))
+
+-- an instruction is at most five bytes long
+abbrev pub FiveBytes : Type 0
+FiveBytes = (mem : List ℕ) (pc : ℕ) (i : Instruction) → decodedAt mem pc ≡ Taken i → (pc ≤ i .next) × (i .next ≤ pc + 5)
+
+-- two bytes of a pointer at most
+abbrev pub PointerSmall : Type 0
+PointerSmall = (o : Operand) → pointerCount o ≤ 2
+
+-- no operation takes more than two bytes of its operand, and none pulls more than twelve
+pub record OperationSmall (op : Op) : Type 0 where
+  pub operand : (mode : Mode) → operandCount mode (operandTaken op) ≤ 2
+  pub fetched : (mem : List ℕ) (r : Set) (ea : ℕ) → fetchedCount op mem r ea ≤ 12
+
+abbrev pub OperationsSmall : Type 0
+OperationsSmall = (op : Op) → OperationSmall op

@@ -1,14 +1,16 @@
 -- What a decision stands for, kind by kind; and what it does where its writes are plain.
 -- Assumes nothing.
 use Prim.Native.Nat.{ℕ, _+_, _-_, _/_, _%_, _≤_, _<_}
-use mathlib.Core.Bool.{Bool, false, cond}
+use mathlib.Core.Bool.{Bool, true, false, cond, _&&_}
 use mathlib.Core.List.{List, [], _∷_}
 use mathlib.Core.Path.{_≡_, refl, sym, ap, subst, _∙_}
 use native.Mathlib.Omega.{arith}
-use borrow.Author.Tests.{le-ltb}
+use borrow.Author.Tests.{le-ltb, lt-ltb, ltb-true, leb-true}
+use lib.Dec.{leb, ltb}
 use lib.ListN.{set}
 use Rattle.u8oru16.specs.declared.u8u16.the-variants.{u8, u16}
 use Rattle.answers.specs.declared.Answer.the-variants.{Done}
+use Rattle.answers.specs.declared.Refusal.the-variants.{StackTooSmall}
 use Rattle.registers.specs.Names.{stackWord}
 use Rattle.registers.specs.RegisterSet.{wordOf, withWord}
 use Rattle.registers.specs.declared.Set.{Set}
@@ -18,7 +20,7 @@ use Rattle.registers.specs.declared.Word.the-variants.{S}
 use Rattle.memory.specs.Writes.{writesOf, listed, stored, reported, valueWrites}
 use Rattle.memory.specs.declared.writes.Write.{Write}
 use Rattle.memory.proofs.Folds.{listed-back}
-use Rattle.machine.specs.Effect.{changes, stores}
+use Rattle.machine.specs.Effect.{changes, stores, refuses}
 use Rattle.machine.specs.declared.Effect.{Effect}
 use Rattle.machine.specs.declared.Machine.{Machine}
 use Rattle.machine.specs.declared.Settings.{Settings}
@@ -27,7 +29,7 @@ use Rattle.operations.specs.Branches.{jumped}
 use Rattle.stack.specs.Pushing.{chosen, registersNamed, bytesPushed, pushes, pushed, jumpedToSubroutine}
 use Rattle.calls.specs.Plans.{carriedOut, memoryWith}
 use Rattle.calls.specs.Steps.{afterInstruction, finished}
-use Rattle.calls.specs.Decisions.{billed, effectAs, effectTold, planTold, PlainAs, Plain, Decides}
+use Rattle.calls.specs.Decisions.{billed, effectAs, effectTold, planTold, isBelow, isPlainAs, isPlain, Decides}
 use Rattle.calls.specs.declared.Plan.{Plan}
 use Rattle.calls.specs.declared.Report.{Report}
 use Rattle.calls.specs.declared.decisions.Decision.{Decision}
@@ -35,7 +37,7 @@ use Rattle.calls.specs.declared.decisions.Kind.{Kind}
 use Rattle.calls.specs.declared.decisions.Kind.the-variants.{Refused, Change, Byte, Word, Push, Rest}
 use Rattle.calls.proofs.PlainWrites.{outcome, byte-first, word-first, nothing}
 
--- ---- a bill changes neither the effect nor where it is stored
+-- ---- a bill does not change the effect
 
 module _ (s : Settings) (mem : List ℕ) (d : Decision) (cycles : ℕ) (arms : Bool) where
   effect-as : (k : Kind) → effectAs k s mem (billed d cycles arms) ≡ effectAs k s mem d
@@ -49,24 +51,52 @@ module _ (s : Settings) (mem : List ℕ) (d : Decision) (cycles : ℕ) (arms : B
   pub billed-effect : effectTold s mem (billed d cycles arms) ≡ effectTold s mem d
   billed-effect = effect-as (d .kind)
 
-  plain-as : (k : Kind) → PlainAs k (s .«ram_top») d → PlainAs k (s .«ram_top») (billed d cycles arms)
-  plain-as Refused p = p
-  plain-as Change p = p
-  plain-as Byte p = p
-  plain-as Word p = p
-  plain-as Push p = p
-  plain-as Rest p = p
-
-  pub billed-plain : Plain (s .«ram_top») d → Plain (s .«ram_top») (billed d cycles arms)
-  billed-plain p = plain-as (d .kind) p
-
 -- ---- by the kind
 
 pub plan-as : (m : Machine) (s : Settings) (mem : List ℕ) (d : Decision) {k : Kind} → d .kind ≡ k → planTold m s mem d ≡ finished m (d .cycles) (d .arms) (effectAs k s mem d)
 plan-as m s mem d e = ap (λ (k : Kind). finished m (d .cycles) (d .arms) (effectAs k s mem d)) e
 
-pub plain-by : (top : ℕ) (d : Decision) {k : Kind} → d .kind ≡ k → Plain top d → PlainAs k top d
-plain-by top d e p = subst (λ (k : Kind). PlainAs k top d) e p
+-- ---- where it is plain
+
+pub is-plain-by : (top : ℕ) (d : Decision) {k : Kind} → d .kind ≡ k → isPlainAs k top d ≡ isPlain top d
+is-plain-by top d e = sym (ap (λ (k : Kind). isPlainAs k top d) e)
+
+and-true : (a b : Bool) → (a && b) ≡ true → (a ≡ true) × (b ≡ true)
+and-true true b e = (refl, e)
+and-true false b e = let z : _≡_ {A = ℕ} 0 1 = cc in absurd (omega arith)
+
+below-facts : (top at : ℕ) → isBelow top at ≡ true → (at < 0xFF00) × (at ≤ top)
+below-facts top at e = let f = and-true (ltb at 0xFF00) (leb at top) e in (ltb-true at 0xFF00 (f .0), leb-true at top (f .1))
+
+pub twelve-at-most : (mask : ℕ) → bytesPushed mask ≤ 12
+twelve-at-most mask = omega arith
+
+module _ (top : ℕ) (d : Decision) where
+  plain-as : {k : Kind} → d .kind ≡ k → isPlain top d ≡ true → isPlainAs k top d ≡ true
+  plain-as e p = subst (λ (k : Kind). isPlainAs k top d ≡ true) e p
+
+  pub plain-byte : d .kind ≡ Byte → isPlain top d ≡ true → (d .at < 0xFF00) × (d .at ≤ top)
+  plain-byte e p = below-facts top (d .at) (plain-as e p)
+
+  pub plain-word : d .kind ≡ Word → isPlain top d ≡ true → (d .at + 1 < 0xFF00) × (d .at + 1 ≤ top)
+  plain-word e p =
+      let f = and-true (ltb (d .at) 0xFEFF) (ltb (d .at) top) (plain-as e p) in
+      let g = ltb-true (d .at) 0xFEFF (f .0) in
+      let h = ltb-true (d .at) top (f .1) in
+      (omega arith, omega arith)
+
+  pub plain-push : d .kind ≡ Push → isPlain top d ≡ true
+      → (wordOf (d .regs) (stackWord (d .own)) ≤ 0xFF00) × (wordOf (d .regs) (stackWord (d .own)) ≤ top) × (bytesPushed (d .mask) ≤ wordOf (d .regs) (stackWord (d .own)))
+  plain-push e p =
+      let pointer = wordOf (d .regs) (stackWord (d .own)) in
+      let f = and-true (ltb 11 pointer) (isBelow top pointer) (plain-as e p) in
+      let g = below-facts top pointer (f .1) in
+      let h = g .0 in
+      let k = ltb-true 11 pointer (f .0) in
+      (omega arith, g .1, omega (arith, twelve-at-most (d .mask)))
+
+  pub not-rest : d .kind ≡ Rest → isPlain top d ≡ true → ⊥
+  not-rest e p = let q = plain-as e p in let z : _≡_ {A = ℕ} 0 1 = cc in omega arith
 
 pub as-told : (m : Machine) (s : Settings) (mem : List ℕ) (d : Decision) {k : Kind} → d .kind ≡ k
     → (carriedOut s (finished m (d .cycles) (d .arms) (effectAs k s mem d)) ≡ carriedOut s (planTold m s mem d))
@@ -125,8 +155,12 @@ pub pushed-as : (r : Set) (own : Stack) (mask : ℕ) → bytesPushed mask ≤ wo
 unfolding pushed
 pushed-as r own mask h = rw (le-ltb _ _ h)
 
--- ---- JSR and BSR, where there is room
+-- ---- JSR and BSR, with room and without
 
 pub called : (r : Set) (ea : ℕ) → 1 < r .s → jumpedToSubroutine r ea ≡ stores (jumped (withWord r S (r .s - 2)) ea) (writesOf (valueWrites (r .s - 2) (u16 (r .pc)) false))
 unfolding jumpedToSubroutine pushed chosen pushes bitAt
 called r ea h = let g : 2 ≤ r .s = omega arith in rw (le-ltb (r .s) 2 g)
+
+pub no-room : (r : Set) (ea : ℕ) → r .s < 2 → jumpedToSubroutine r ea ≡ refuses r StackTooSmall
+unfolding jumpedToSubroutine pushed
+no-room r ea h = rw (lt-ltb (r .s) 2 h)

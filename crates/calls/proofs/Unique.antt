@@ -4,6 +4,7 @@ use mathlib.Core.Path.{refl, sym, ap, _∙_}
 use mathlib.Core.List.{List}
 use Prim.Native.Nat.{ℕ}
 use Rattle.answers.proofs.Determined.{Determines}
+use Rattle.calls.proofs.decisions
 use Rattle.calls.proofs.interrupts
 use Rattle.calls.proofs.resets
 use Rattle.calls.proofs.steps
@@ -26,3 +27,12 @@ interrupt κs a x y ws vs p q = (p .0 ∙ sym (q .0), ap (λ (l : List ℕ). (l,
 
 pub reset : Determines 1 resets.reset.Kinds.ps resets.reset.Kinds.r resets.reset.Reads.Post
 reset κs a x y ws vs p q = (p .0 ∙ sym (q .0), ap (λ (l : List ℕ). (l, (tt, (tt, tt)))) (p .1 ∙ sym (q .1)))
+
+pub is-plain : Determines 0 decisions.is_plain.Kinds.ps decisions.is_plain.Kinds.r decisions.is_plain.Reads.Post
+is-plain κs a x y ws vs p q = (p ∙ sym q, refl)
+
+pub plan-of : Determines 1 steps.plan_of.Kinds.ps steps.plan_of.Kinds.r steps.plan_of.Reads.Post
+plan-of κs a x y ws vs p q = (p ∙ sym q, refl)
+
+pub carry : Determines 1 steps.carry.Kinds.ps steps.carry.Kinds.r steps.carry.Reads.Post
+carry κs a x y ws vs p q = (p .0 ∙ sym (q .0), ap (λ (l : List ℕ). (l, (tt, (tt, (tt, tt))))) (p .1 ∙ sym (q .1)))

@@ -1,9 +1,10 @@
--- What a step decides, told by a small value: the effect that it stands for. It is a form of a plan between functions, not a rule of the machine.
+-- What an instruction does, told by a small value: the effect that it stands for. It is a form of a plan between functions, not a rule of the machine.
 -- Assumes nothing.
-use Prim.Native.Nat.{ℕ, _+_, _<_, _≤_}
-use mathlib.Core.Bool.{Bool, false}
+use Prim.Native.Nat.{ℕ, _%_}
+use mathlib.Core.Bool.{Bool, true, false, _&&_}
 use mathlib.Core.List.{List}
 use mathlib.Core.Path.{_≡_}
+use lib.Dec.{leb, ltb}
 use Rattle.answers.specs.declared.Refusal.{Refusal}
 use Rattle.answers.specs.declared.Refusal.the-variants.{Opcode}
 use Rattle.u8oru16.specs.declared.u8u16.the-variants.{u8, u16}
@@ -19,7 +20,7 @@ use Rattle.machine.specs.declared.Machine.{Machine}
 use Rattle.machine.specs.declared.Settings.{Settings}
 use Rattle.opcodes.specs.declared.MemoryOp.{MemoryOp}
 use Rattle.opcodes.specs.declared.MemoryOp.the-variants.{Sync}
-use Rattle.stack.specs.Pushing.{bytesPushed, pushed}
+use Rattle.stack.specs.Pushing.{pushed}
 use Rattle.evaluate.specs.Evaluate.{memoryOf}
 use Rattle.calls.specs.Steps.{finished}
 use Rattle.calls.specs.declared.Plan.{Plan}
@@ -55,7 +56,7 @@ billed d cycles arms =
 abbrev pub effectAs : Kind → Settings → List ℕ → Decision → Effect
 effectAs Refused s mem d = refuses (d .regs) (d .refusal)
 effectAs Change s mem d = changes (d .regs)
-effectAs Byte s mem d = stores (d .regs) (writesOf (valueWrites (d .at) (u8 (d .value)) false))
+effectAs Byte s mem d = stores (d .regs) (writesOf (valueWrites (d .at) (u8 (d .value % 256)) false))
 effectAs Word s mem d = stores (d .regs) (writesOf (valueWrites (d .at) (u16 (d .value)) false))
 effectAs Push s mem d = pushed (d .regs) (d .own) (d .mask) false
 effectAs Rest s mem d = memoryOf (d .op) s mem (d .regs) (d .at)
@@ -66,31 +67,30 @@ effectTold s mem d = effectAs (d .kind) s mem d
 abbrev pub planTold : Machine → Settings → List ℕ → Decision → Plan
 planTold m s mem d = finished m (d .cycles) (d .arms) (effectTold s mem d)
 
--- what is told as a byte, a word or a push lies below the devices and at or below ram_top, and a push has room
-abbrev pub PlainAs : Kind → ℕ → Decision → Type 0
-PlainAs Refused top d = Unit {0}
-PlainAs Change top d = Unit {0}
-PlainAs Byte top d = (d .at < 0xFF00) × (d .at ≤ top) × (d .value < 256)
-PlainAs Word top d = (d .at + 1 < 0xFF00) × (d .at + 1 ≤ top)
-PlainAs Push top d =
-    (wordOf (d .regs) (stackWord (d .own)) ≤ 0xFF00) × (wordOf (d .regs) (stackWord (d .own)) ≤ top) × (bytesPushed (d .mask) ≤ wordOf (d .regs) (stackWord (d .own)))
-PlainAs Rest top d = Unit {0}
+-- ---- where it lies
 
-abbrev pub Plain : ℕ → Decision → Type 0
-Plain top d = PlainAs (d .kind) top d
+-- a byte below the devices and at or below ram_top; both bytes of a word
+abbrev pub isBelow : ℕ → ℕ → Bool
+isBelow top at = ltb at 0xFF00 && leb at top
 
--- ---- the statements
+abbrev pub isWordBelow : ℕ → ℕ → Bool
+isWordBelow top at = ltb at 0xFEFF && ltb at top
 
-pub record Tells (s : Settings) (mem : List ℕ) (op : MemoryOp) (r : Set) (ea : ℕ) (d : Decision) : Type 0 where
-  pub effect : effectTold s mem d ≡ memoryOf op s mem r ea
-  pub plain : Plain (s .«ram_top») d
+-- all that is told as stored lies there, and a push has room for every register: nothing but the stores is to be done
+abbrev pub isPlainAs : Kind → ℕ → Decision → Bool
+isPlainAs Refused top d = true
+isPlainAs Change top d = true
+isPlainAs Byte top d = isBelow top (d .at)
+isPlainAs Word top d = isWordBelow top (d .at)
+isPlainAs Push top d = ltb 11 (wordOf (d .regs) (stackWord (d .own))) && isBelow top (wordOf (d .regs) (stackWord (d .own)))
+isPlainAs Rest top d = false
+
+abbrev pub isPlain : ℕ → Decision → Bool
+isPlain top d = isPlainAs (d .kind) top d
+
+-- ---- the statement of the operation
 
 pub record Decides (s : Settings) (mem : List ℕ) (n : ℕ) (b : Bool) (e : Effect) (d : Decision) : Type 0 where
   pub effect : effectTold s mem d ≡ e
   pub cycles : d .cycles ≡ n
   pub arms : d .arms ≡ b
-  pub plain : Plain (s .«ram_top») d
-
-pub record DecidesPlan (m : Machine) (s : Settings) (mem : List ℕ) (p : Plan) (d : Decision) : Type 0 where
-  pub plan : planTold m s mem d ≡ p
-  pub plain : Plain (s .«ram_top») d

@@ -1,16 +1,14 @@
-// What an instruction does, told by a small value: a list of twelve writes is made for the few that need one (docs/PERFORMANCE.md). A byte or
-// word that is told, or a frame that is pushed, lies below the devices and at or below ram_top, where nothing but the store is to be done.
+// What an instruction does, told by a small value: a list of twelve writes is made for the few that need one (docs/PERFORMANCE.md).
 ghost use mathlib.Core.Path.{_≡_};
-ghost use mathlib.Core.Bool.{true};
-ghost use Prim.Native.Nat.{_+_, _<_, _≤_};
+ghost use Prim.Native.Nat.{_+_, _<_};
 ghost use Rattle.decode.specs.declared.instruction.Decoded.the-variants.{Instruction as Decodes};
 ghost use Rattle.evaluate.specs.Arming.{arms};
-ghost use Rattle.evaluate.specs.Evaluate.{evaluateOf};
+ghost use Rattle.evaluate.specs.Evaluate.{evaluateOf, memoryOf};
 ghost use Rattle.memory.specs.Map.{byteAt};
 ghost use Rattle.cycles.specs.Cycles.{operationExtra};
 ghost use Rattle.calls.specs.Steps.{ofDecoded, decodedTo, planned};
-ghost use Rattle.opcodes.specs.declared.MemoryOp.the-variants.{OnMemory, Store8, Store16, Bsr, Push};
-ghost use Rattle.calls.specs.Decisions.{told, refusalTold, pushTold, leftOver, billed, Tells, Decides, DecidesPlan};
+ghost use Rattle.opcodes.specs.declared.MemoryOp.the-variants.{OnMemory, Store8, Store16, Bsr};
+ghost use Rattle.calls.specs.Decisions.{told, refusalTold, pushTold, leftOver, billed, effectTold, planTold, isBelow, isWordBelow, isPlain, Decides};
 use addressing::Resolved;
 use answers::Refusal;
 use cycles::cost;
@@ -31,8 +29,8 @@ use registers::Set;
 use registers::Stack;
 use registers::Word;
 
-// Refused by `refusal`; `regs` alone change; a byte or a word `value` is stored at `at`; the registers of `mask` are pushed on `own`; or
-// none of these, and `op` at `at` is left to be evaluated.
+// Refused by `refusal`; `regs` alone change; a byte or a word `value` is stored at `at`; the registers of `mask` are pushed on `own`, where
+// there is room; or none of these, and `op` at `at` is left to be evaluated.
 pub enum Kind {
     Refused,
     Change,
@@ -130,98 +128,89 @@ fn wide(byte: u8) -> u16
     byte as u16
 }
 
-// The last byte that is written lies below the devices and at or below ram_top.
-fn is_below(last: u16, ram_top: u16) -> bool
-    ensures { λ r. ⌜ (r ≡ true → (last < 0xFF00) × (last ≤ «ram_top»)) ⌝ }
+// A byte is written below the devices and at or below ram_top.
+fn is_below(at: u16, ram_top: u16) -> bool
+    ensures { λ r. ⌜ r ≡ isBelow «ram_top» at ⌝ }
 {
-    if last < 0xFF00 {
-        return last <= ram_top;
-    }
-    false
+    (at < 0xFF00) & (at <= ram_top)
 }
 
-// Both bytes of a word.
+// Both bytes of a word are.
 fn is_word_below(at: u16, ram_top: u16) -> bool
-    ensures { λ r. ⌜ (r ≡ true → (at + 1 < 0xFF00) × (at + 1 ≤ «ram_top»)) ⌝ }
+    ensures { λ r. ⌜ r ≡ isWordBelow «ram_top» at ⌝ }
 {
-    if at < 0xFEFF {
-        return at < ram_top;
+    (at < 0xFEFF) & (at < ram_top)
+}
+
+// Whether nothing but the stores is to be done: all that is told as stored lies below the devices and at or below ram_top, and a push has
+// room for every register.
+pub fn is_plain(decision: Decision, ram_top: u16) -> bool
+    ensures { λ r. ⌜ r ≡ isPlain «ram_top» decision ⌝ }
+{
+    let kind = decision.kind;
+    match kind {
+        Kind::Refused => true,
+        Kind::Change => true,
+        Kind::Byte => is_below(decision.at, ram_top),
+        Kind::Word => is_word_below(decision.at, ram_top),
+        Kind::Push => {
+            let own = decision.own;
+            let regs = decision.regs;
+            let top = regs.word(own.word());
+            (11 < top) & is_below(top, ram_top)
+        }
+        Kind::Rest => false,
     }
-    false
 }
 
 fn store8(settings: Settings, mem: &[u8], regs: Set, acc: Acc, ea: u16) -> Decision
-    ensures { λ r. ⌜ Tells settings (now (mem .entry)) (Store8 acc) regs ea r ⌝ }
+    ensures { λ r. ⌜ effectTold settings (now (mem .entry)) r ≡ memoryOf (Store8 acc) settings (now (mem .entry)) regs ea ⌝ }
 {
-    if is_below(ea, settings.ram_top) {
-        let value = operations::accumulator(regs, acc);
-        return tell(Kind::Byte, operations::test(regs, value), ea, wide(value));
-    }
-    leave(MemoryOp::Store8(acc), regs, ea)
+    let value = operations::accumulator(regs, acc);
+    tell(Kind::Byte, operations::test(regs, value), ea, wide(value))
 }
 
 fn store16(settings: Settings, mem: &[u8], regs: Set, word: Word, ea: u16) -> Decision
-    ensures { λ r. ⌜ Tells settings (now (mem .entry)) (Store16 word) regs ea r ⌝ }
+    ensures { λ r. ⌜ effectTold settings (now (mem .entry)) r ≡ memoryOf (Store16 word) settings (now (mem .entry)) regs ea ⌝ }
 {
-    if is_word_below(ea, settings.ram_top) {
-        let value = regs.word(word);
-        return tell(Kind::Word, operations::test16(regs, value), ea, value);
-    }
-    leave(MemoryOp::Store16(word), regs, ea)
+    let value = regs.word(word);
+    tell(Kind::Word, operations::test16(regs, value), ea, value)
 }
 
 fn on_memory(settings: Settings, mem: &[u8], regs: Set, op: Unary, ea: u16) -> Decision
-    ensures { λ r. ⌜ Tells settings (now (mem .entry)) (OnMemory op) regs ea r ⌝ }
+    ensures { λ r. ⌜ effectTold settings (now (mem .entry)) r ≡ memoryOf (OnMemory op) settings (now (mem .entry)) regs ea ⌝ }
 {
     let flags = settings.flags;
-    if is_below(ea, settings.ram_top) {
-        let out = operations::unary(flags, op, regs.cc, memory::read_u8(mem, ea));
-        return tell(
-            Kind::Byte,
-            operations::with_codes(regs, out.cc),
-            ea,
-            wide(out.value),
-        );
-    }
-    leave(MemoryOp::OnMemory(op), regs, ea)
+    let out = operations::unary(flags, op, regs.cc, memory::read_u8(mem, ea));
+    tell(
+        Kind::Byte,
+        operations::with_codes(regs, out.cc),
+        ea,
+        wide(out.value),
+    )
 }
 
 // BSR and JSR: PC is pushed as a word.
 fn call(settings: Settings, mem: &[u8], regs: Set, ea: u16) -> Decision
-    ensures { λ r. ⌜ Tells settings (now (mem .entry)) Bsr regs ea r ⌝ }
+    ensures { λ r. ⌜ effectTold settings (now (mem .entry)) r ≡ memoryOf Bsr settings (now (mem .entry)) regs ea ⌝ }
 {
     let top = regs.s;
     if 1 < top {
         let at = top - 2;
-        if is_word_below(at, settings.ram_top) {
-            let pc = regs.pc;
-            return tell(
-                Kind::Word,
-                operations::jump(regs.with_word(Word::S, at), ea),
-                at,
-                pc,
-            );
-        }
+        let pc = regs.pc;
+        return tell(
+            Kind::Word,
+            operations::jump(regs.with_word(Word::S, at), ea),
+            at,
+            pc,
+        );
     }
-    leave(MemoryOp::Bsr, regs, ea)
-}
-
-fn push(settings: Settings, mem: &[u8], regs: Set, own: Stack, ea: u16) -> Decision
-    ensures { λ r. ⌜ Tells settings (now (mem .entry)) (Push own) regs ea r ⌝ }
-{
-    let mask = memory::read_u8(mem, ea);
-    let top = regs.word(own.word());
-    if wide(stack::bytes_of(mask)) <= top {
-        if is_below(top, settings.ram_top) {
-            return tell_push(regs, own, mask);
-        }
-    }
-    leave(MemoryOp::Push(own), regs, ea)
+    refuse(Refusal::StackTooSmall, regs)
 }
 
 // The operations that may write memory, use a stack or wait.
 fn decide_memory(op: MemoryOp, settings: Settings, mem: &[u8], regs: Set, ea: u16) -> Decision
-    ensures { λ r. ⌜ Tells settings (now (mem .entry)) op regs ea r ⌝ }
+    ensures { λ r. ⌜ effectTold settings (now (mem .entry)) r ≡ memoryOf op settings (now (mem .entry)) regs ea ⌝ }
 {
     match op {
         MemoryOp::Store8(acc) => store8(settings, mem, regs, acc, ea),
@@ -230,7 +219,7 @@ fn decide_memory(op: MemoryOp, settings: Settings, mem: &[u8], regs: Set, ea: u1
         MemoryOp::Bsr => call(settings, mem, regs, ea),
         MemoryOp::Jsr => call(settings, mem, regs, ea),
         MemoryOp::Rts => tell(Kind::Change, stack::return_from_subroutine(mem, regs), 0, 0),
-        MemoryOp::Push(own) => push(settings, mem, regs, own, ea),
+        MemoryOp::Push(own) => tell_push(regs, own, memory::read_u8(mem, ea)),
         MemoryOp::Pull(own) => {
             let mask = memory::read_u8(mem, ea);
             tell(
@@ -292,7 +281,7 @@ fn operate(mem: &[u8], settings: Settings, entry: Entry, extra: u8, regs: Set, e
 }
 
 fn execute(mem: &[u8], machine: Machine, settings: Settings, instruction: Instruction) -> Decision
-    ensures { λ r. ⌜ DecidesPlan machine settings (now (mem .entry)) (planned (now (mem .entry)) machine settings (ofDecoded (now (mem .entry)) (machine .regs) (Decodes instruction))) r ⌝ }
+    ensures { λ r. ⌜ planTold machine settings (now (mem .entry)) r ≡ planned (now (mem .entry)) machine settings (ofDecoded (now (mem .entry)) (machine .regs) (Decodes instruction)) ⌝ }
 {
     let entry = instruction.entry;
     let operand = instruction.operand;
@@ -307,9 +296,9 @@ fn execute(mem: &[u8], machine: Machine, settings: Settings, instruction: Instru
     }
 }
 
-// A machine that is running.
+// What the instruction at PC will do.
 pub fn decide(mem: &[u8], machine: Machine, settings: Settings) -> Decision
-    ensures { λ r. ⌜ DecidesPlan machine settings (now (mem .entry)) (planned (now (mem .entry)) machine settings (decodedTo (now (mem .entry)) (machine .regs))) r ⌝ }
+    ensures { λ r. ⌜ planTold machine settings (now (mem .entry)) r ≡ planned (now (mem .entry)) machine settings (decodedTo (now (mem .entry)) (machine .regs)) ⌝ }
 {
     let regs = machine.regs;
     match decode::decode(mem, regs.pc) {

@@ -9,12 +9,18 @@ mod resets;
 mod steps;
 
 use answers::Answer;
+pub use decisions::Decision;
+pub use decisions::Kind;
+pub use decisions::decide;
+pub use decisions::is_plain;
 pub use interrupts::interrupt;
 pub use interrupts::plan_interrupt;
 use machine::Machine;
 use memory::Writes;
 pub use resets::plan_reset;
 pub use resets::reset;
+pub use steps::carry;
+pub use steps::plan_of;
 pub use steps::plan_step;
 pub use steps::step;
 

@@ -1,21 +1,21 @@
 // One step: what it does is decided first, and then done.
 ghost use mathlib.Core.Path.{_≡_};
-ghost use mathlib.Core.Bool.{false};
+ghost use mathlib.Core.Bool.{true, false};
 ghost use Prim.Native.Nat.{_≤_};
 ghost use lib.ListN.{length};
 ghost use Rattle.registers.specs.Names.{stackWord};
 ghost use Rattle.registers.specs.RegisterSet.{wordOf};
 ghost use Rattle.machine.specs.Effect.{changes};
 ghost use Rattle.stack.specs.Pushing.{bytesPushed, pushed};
-ghost use Rattle.evaluate.specs.Evaluate.{memoryOf};
 ghost use Rattle.calls.specs.Plans.{refusedWith, carriedOut, memoryWith};
 ghost use Rattle.calls.specs.Steps.{afterInstruction, finished, decodedTo, planned, stepPlan, stepOf, memoryAfterStep};
-ghost use Rattle.calls.specs.Decisions.{planTold, Plain};
+ghost use Rattle.calls.specs.Decisions.{planTold, isPlain};
 use super::Plan;
 use super::Report;
 use super::decisions::Decision;
 use super::decisions::Kind;
 use super::decisions::decide;
+use super::decisions::is_plain;
 use super::plain;
 use super::plans::carry_out;
 use super::plans::refused;
@@ -27,7 +27,6 @@ use machine::Settings;
 use machine::Wait;
 use memory::Write;
 use memory::Writes;
-use opcodes::MemoryOp;
 use registers::Set;
 use registers::Stack;
 
@@ -73,8 +72,7 @@ fn finish(machine: Machine, cycles: u16, arms: bool, effect: Effect) -> Plan
 }
 
 // The list of writes of what was decided.
-fn plan_of(mem: &[u8], machine: Machine, settings: Settings, decision: Decision) -> Plan
-    requires { ⌜ Plain (settings .«ram_top») decision ⌝ }
+pub fn plan_of(mem: &[u8], machine: Machine, settings: Settings, decision: Decision) -> Plan
     ensures { λ r. ⌜ r ≡ planTold machine settings (now (mem .entry)) decision ⌝ }
 {
     let kind = decision.kind;
@@ -158,24 +156,6 @@ fn refuse(machine: Machine, refusal: Refusal) -> Report
     }
 }
 
-// By way of the list of writes.
-fn carry_rest(
-    mem: &mut [u8],
-    machine: Machine,
-    settings: Settings,
-    cycles: u16,
-    arms: bool,
-    op: MemoryOp,
-    regs: Set,
-    ea: u16,
-) -> Report
-    ensures { λ r. ⌜ (r ≡ carriedOut settings (finished machine cycles arms (memoryOf op settings (now (mem .entry)) regs ea))) × (now (mem .exit) ≡ memoryWith settings (finished machine cycles arms (memoryOf op settings (now (mem .entry)) regs ea)) (now (mem .entry))) ⌝ }
-{
-    let effect = evaluate::evaluate_memory(op, settings, mem, regs, ea);
-    let plan = finish(machine, cycles, arms, effect);
-    carry_out(mem, settings, plan)
-}
-
 // The registers of a post-byte are stored, and the pointer in use is lowered.
 fn carry_push(
     mem: &mut [u8],
@@ -194,9 +174,9 @@ fn carry_push(
     did(machine, cycles, arms, regs.with_word(word, pointer))
 }
 
-// What was decided is done: the machine after it, and memory.
-fn carry(mem: &mut [u8], machine: Machine, settings: Settings, decision: Decision) -> Report
-    requires { ⌜ (length (now mem) ≡ 65536) × Plain (settings .«ram_top») decision ⌝ }
+// Where all is plain, nothing but the stores is to be done.
+fn carry_plain(mem: &mut [u8], machine: Machine, settings: Settings, decision: Decision) -> Report
+    requires { ⌜ (length (now mem) ≡ 65536) × (isPlain (settings .«ram_top») decision ≡ true) ⌝ }
     ensures { λ r. ⌜ (r ≡ carriedOut settings (planTold machine settings (now (mem .entry)) decision)) × (now (mem .exit) ≡ memoryWith settings (planTold machine settings (now (mem .entry)) decision) (now (mem .entry))) ⌝ }
 {
     let kind = decision.kind;
@@ -222,16 +202,34 @@ fn carry(mem: &mut [u8], machine: Machine, settings: Settings, decision: Decisio
             let own = decision.own;
             carry_push(mem, machine, cycles, arms, regs, own, decision.mask)
         }
-        Kind::Rest => {
-            let op = decision.op;
-            carry_rest(mem, machine, settings, cycles, arms, op, regs, at)
+        Kind::Rest => did(machine, cycles, arms, regs),
+    }
+}
+
+// By way of the list of writes.
+fn carry_list(mem: &mut [u8], machine: Machine, settings: Settings, decision: Decision) -> Report
+    ensures { λ r. ⌜ (r ≡ carriedOut settings (planTold machine settings (now (mem .entry)) decision)) × (now (mem .exit) ≡ memoryWith settings (planTold machine settings (now (mem .entry)) decision) (now (mem .entry))) ⌝ }
+{
+    let plan = plan_of(mem, machine, settings, decision);
+    carry_out(mem, settings, plan)
+}
+
+// What was decided is done: the machine after it, and memory.
+pub fn carry(mem: &mut [u8], machine: Machine, settings: Settings, decision: Decision) -> Report
+    ensures { λ r. ⌜ (r ≡ carriedOut settings (planTold machine settings (now (mem .entry)) decision)) × (now (mem .exit) ≡ memoryWith settings (planTold machine settings (now (mem .entry)) decision) (now (mem .entry))) ⌝ }
+{
+    if mem.len() == 65536 {
+        if is_plain(decision, settings.ram_top) {
+            return carry_plain(mem, machine, settings, decision);
         }
     }
+    // Its own value, so that the other arm's stays in registers.
+    let report = carry_list(mem, machine, settings, decision);
+    report
 }
 
 // A machine that is running.
 fn step_running(mem: &mut [u8], machine: Machine, settings: Settings) -> Report
-    requires { ⌜ length (now mem) ≡ 65536 ⌝ }
     ensures { λ r. ⌜ (r ≡ carriedOut settings (planned (now (mem .entry)) machine settings (decodedTo (now (mem .entry)) (machine .regs)))) × (now (mem .exit) ≡ memoryWith settings (planned (now (mem .entry)) machine settings (decodedTo (now (mem .entry)) (machine .regs))) (now (mem .entry))) ⌝ }
 {
     let decision = decide(mem, machine, settings);

@@ -1,5 +1,7 @@
 // What the programs `cost` and `cost_unrecorded` share: the loop that is run, and where it starts. `tools/bench` counts what they execute.
-// Their standard input is a letter, the count of steps in four bytes, high byte first, and memory from 1000 on.
+// Their standard input is a letter, the count of steps in four bytes, the count of records after which the journal is emptied in two, high
+// byte first, and memory from 1000 on.
+ghost use Prim.Native.Nat.{_<_};
 use machine::Machine;
 use machine::Settings;
 use registers::CCBits;
@@ -10,8 +12,8 @@ pub const BYTES: usize = 0x10000;
 
 pub type Memory = [u8; BYTES];
 
-// The letter and the count.
-pub const HEAD: usize = 5;
+// The letter and the two counts.
+pub const HEAD: usize = 7;
 
 pub type Head = [u8; HEAD];
 
@@ -59,6 +61,14 @@ pub fn count_of(head: Head) -> u32 {
     let high = word(head[1], head[2]);
     let low = word(head[3], head[4]);
     high as u32 * 0x1_0000 + low as u32
+}
+
+// At least one record is held.
+pub fn batch_of(head: Head) -> u32
+    ensures { λ r. ⌜ 0 < r ⌝ }
+{
+    let batch = word(head[5], head[6]);
+    if batch == 0 { 1 } else { batch as u32 }
 }
 
 // The low bytes of cycles and of the count of records.

@@ -408,7 +408,7 @@ module _ (c : Call) (s : State) (w : Typed s) where
   forward-kept past v =
       call-kept (settingsIn c) s plan (few-writes c (s .memory) (s .twin .machine)) fit w (callAnswer (settingsIn c) plan s) past (call-taken (settingsIn c) plan s) v
 
-  forward-typed : Typed (call c s .state)
+  pub forward-typed : Typed (call c s .state)
   unfolding called
   forward-typed =
       ending-typed (callAnswer (settingsIn c) plan s) s (recorded (settingsIn c) plan s) (reported (settingsIn c .«ram_top») (listed (plan .writes)))

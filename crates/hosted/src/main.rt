@@ -70,6 +70,34 @@ fn forget(mem: &mut Memory, journal: &mut Journal, twin: HostTwin) {
     played::shown(host_calls::doorhawser_undo(mem, journal, none));
 }
 
+// A run with an allowance and a stop address, and its line.
+fn run(
+    mem: &mut Memory,
+    journal: &mut Journal,
+    twin: HostTwin,
+    allowance: u64,
+    stop: u32,
+) -> HostTwin {
+    played::stopped(host_run_recorded::doorhawser_run(
+        mem,
+        journal,
+        twin,
+        settings(),
+        allowance,
+        stop,
+    ))
+}
+
+// Reset, a run up to 1006, one of a step from there, one of none, one until the journal is full, and one whose stop address names nothing.
+fn runs(mem: &mut Memory, journal: &mut Journal, start: HostTwin) {
+    let reset = played::shown(host_calls::doorhawser_reset(mem, journal, start, settings()));
+    let there = run(mem, journal, reset, 9, 0x1006);
+    let past = run(mem, journal, there, 1, 0x1006);
+    let same = run(mem, journal, past, 0, 0x10000);
+    let full = run(mem, journal, same, 9, 0x10000);
+    run(mem, journal, full, 9, 0x10001);
+}
+
 // The same not recorded: NMI, before S is loaded and, by the host's own mark, after it, where there is no room on the stack; the second
 // and third step in a run of two; FIRQ, which is masked; a run of seven in CWAI, whose first step is refused and does not count; and IRQ.
 fn unrecorded(mem: &mut Memory, twin: HostTwin) {
@@ -217,6 +245,7 @@ fn main() {
     let mut dump = [0u8; 65568];
     let mut other = [0u8; 0x10000];
     dumps(&mem, ended, none, &mut dump, &mut other);
+    runs(&mut mem, &mut journal, none);
     unrecorded(&mut mem, none);
     unnamed(&mut mem, &mut journal, none);
 }

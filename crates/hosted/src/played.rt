@@ -1,6 +1,7 @@
 // What is printed of a call.
 use host::HostOutcome;
 use host::HostTwin;
+use host_run_recorded::HostStopped;
 use libc::STDOUT_FILENO;
 
 // The last hexadecimal digit of n.
@@ -58,5 +59,13 @@ pub fn shown(outcome: HostOutcome) -> HostTwin {
         twin.cc,
         (twin.cycles % 16) as u8,
     );
+    twin
+}
+
+// The line of a run, why it ended, and the number of the step that was refused.
+pub fn stopped(ran: HostStopped) -> HostTwin {
+    let twin = shown(ran.outcome);
+    number(ran.reason);
+    number(ran.number);
     twin
 }

@@ -4,6 +4,7 @@ use Prim.Native.Nat.{ℕ, _+_, _-_, _≤_, _<_}
 use mathlib.Core.Path.{_≡_, refl, sym, ap, _∙_}
 use mathlib.Core.Bool.{Bool, true, false, cond, _&&_}
 use mathlib.Core.List.{List, []}
+use mathlib.Core.Logic.{_⊎_, inl, inr}
 use native.Mathlib.Nat.{zero-add}
 use native.Mathlib.Omega.{arith}
 use lib.Dec.{leb, ltb, eqb}
@@ -14,19 +15,22 @@ use Rattle.memory.specs.Writes.{writesOf, listed, stored, reported}
 use Rattle.answers.specs.declared.Answer.{Answer}
 use Rattle.answers.specs.declared.Answer.the-variants.{Done, Refused}
 use Rattle.answers.specs.declared.Refusal.{Refusal}
-use Rattle.answers.specs.declared.Refusal.the-variants.{MemoryLength, JournalFull, NoRecord, JournalLength}
+use Rattle.answers.specs.declared.Refusal.the-variants.{MemoryLength, Waiting, JournalFull, NoRecord, JournalLength}
 use Rattle.memory.specs.declared.writes.Write.{Write}
 use Rattle.memory.specs.declared.writes.Writes.{Writes}
 use Rattle.machine.specs.declared.Machine.{Machine}
 use Rattle.machine.specs.declared.Settings.{Settings}
+use Rattle.machine.specs.declared.Wait.{Wait}
+use Rattle.machine.specs.declared.Wait.the-variants.{Running, Cwai, Sync}
 use Rattle.machine.specs.Record.{machineOf}
-use Rattle.calls.specs.Calls.{step, interrupt, reset, planOf}
+use Rattle.calls.specs.Calls.{planOf}
+use Rattle.calls.specs.Steps.{unlessWaiting, decodedTo, planned, reached, stepPlan}
 use Rattle.calls.specs.declared.Plan.{Plan}
 use Rattle.journal.specs.Record.{waitAt, markAt, countOf, entriesOf, readEntries, isRecord, mostStored, entriesAt, recordLength}
-use Rattle.journal.specs.Recorded.{State, inHand, ending, Leaves, need, unless, mostRecords, admitted, savedFor, recordFor, planAnswer, callAnswer, recorded, concluded, called, call, callOf}
+use Rattle.journal.specs.Recorded.{State, inHand, ending, Leaves, need, unless, mostRecords, admitted, savedFor, recordFor, planAnswer, callAnswer, recorded, concluded, called, call, outsideOf}
 use Rattle.journal.specs.Undos.{lastByte, newestAt, soundAt, newestOf, newestFrom, undoAnswer, putBack, restored, undone}
-use Rattle.journal.specs.declared.CallType.{CallType}
-use Rattle.journal.specs.declared.CallType.the-variants.{Step, Interrupt, Reset}
+use Rattle.journal.specs.declared.recorded.Outside.{Outside}
+use Rattle.journal.specs.declared.recorded.Outside.the-variants.{Interrupt as InterruptFrom, Reset as ResetFrom}
 use Rattle.journal.specs.declared.Outcome.{Outcome}
 use Rattle.journal.specs.declared.Twin.{Twin}
 use Rattle.journal.proofs.Reading.{length-encode}
@@ -128,13 +132,10 @@ module _ (t : Settings) (f : Plan) (s : State) where
   called-done r mem j e h = rw e h
 
 -- the call that the code's type names
-pub concluded-so : (which : CallType) (t : Settings) (s : State) (r : Outcome) (mem j : List ℕ)
-    → admitted (length (s .memory)) (length (s .journal)) (s .twin .records) (s .twin .bytes) ≡ Done
-    → Leaves r mem j (concluded (planAnswer t (planOf (callOf which t) (s .memory) (s .twin .machine)) s) t (planOf (callOf which t) (s .memory) (s .twin .machine)) s)
-    → Leaves r mem j (call (callOf which t) s)
-concluded-so Step t s r mem j e h = called-done t (planOf (step t) (s .memory) (s .twin .machine)) s r mem j e h
-concluded-so (Interrupt i) t s r mem j e h = called-done t (planOf (interrupt t i) (s .memory) (s .twin .machine)) s r mem j e h
-concluded-so Reset t s r mem j e h = called-done t (planOf (reset t) (s .memory) (s .twin .machine)) s r mem j e h
+pub outside-so : (which : Outside) (t : Settings) (s : State) (r : Outcome) (mem j : List ℕ)
+    → Leaves r mem j (called t (planOf (outsideOf which t) (s .memory) (s .twin .machine)) s) → Leaves r mem j (call (outsideOf which t) s)
+outside-so (InterruptFrom i) t s r mem j h = h
+outside-so ResetFrom t s r mem j h = h
 
 -- what an accepted call has shown
 pub record Taken (t : Settings) (f : Plan) (s : State) : Type 0 where
@@ -309,3 +310,14 @@ module _ (s : State) where
         undo-done r after m d n p q w =
             rw (undo-0 (n .sound), ← (n .is), p, q, w)
             (record { result = refl; memory-is = refl; journal-is = refl })
+
+-- ---- the plan of a step, once memory has its length
+
+pub running-plan : (mem : List ℕ) (m : Machine) (t : Settings) → length mem ≡ 65536 → m .wait ≡ Running → stepPlan mem m t ≡ planned mem m t (decodedTo mem (m .regs))
+unfolding stepPlan reached
+running-plan mem m t h e = rw (eq-eqb (length mem) 65536 h) (ap (λ (w : Wait). planned mem m t (unlessWaiting w mem (m .regs))) e)
+
+pub waiting-plan : (mem : List ℕ) (m : Machine) (t : Settings) → length mem ≡ 65536 → (m .wait ≡ Cwai) ⊎ (m .wait ≡ Sync) → stepPlan mem m t .answer ≡ Refused Waiting
+unfolding stepPlan reached
+waiting-plan mem m t h (inl e) = rw (eq-eqb (length mem) 65536 h) (ap (λ (w : Wait). planned mem m t (unlessWaiting w mem (m .regs)) .answer) e)
+waiting-plan mem m t h (inr e) = rw (eq-eqb (length mem) 65536 h) (ap (λ (w : Wait). planned mem m t (unlessWaiting w mem (m .regs)) .answer) e)

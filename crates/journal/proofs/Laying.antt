@@ -22,7 +22,7 @@ use Rattle.journal.proofs.Reading.{length-entries, length-encode}
 -- ---- parts
 
 -- one part more
-sets-more : (d p q : List ℕ) (k n : ℕ) → k + length p ≡ n → sets (sets d k p) n q ≡ sets d k (p ++ q)
+pub sets-more : (d p q : List ℕ) (k n : ℕ) → k + length p ≡ n → sets (sets d k p) n q ≡ sets d k (p ++ q)
 sets-more d [] q k n e = let f : n ≡ k = omega arith in rw f
 sets-more d (v ∷ p) q k n e = sets-more (set d k v) p q (suc k) n (omega arith)
 
@@ -40,7 +40,7 @@ header-laid m d =
 
 -- ---- the entries
 
-entries-append : (es fs : List Saved) → entries (es ++ fs) ≡ entries es ++ entries fs
+pub entries-append : (es fs : List Saved) → entries (es ++ fs) ≡ entries es ++ entries fs
 unfolding entries bytes
 entries-append [] fs = refl
 entries-append (e ∷ es) fs = rw (entries-append es fs)

@@ -1,5 +1,6 @@
 pub mod Reading
 pub mod Laying
+pub mod ToldEntries
 pub mod Parts
 pub mod Answers
 pub mod Walking

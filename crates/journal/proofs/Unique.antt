@@ -9,14 +9,19 @@ use denote.Triple.Clauses.{Lasts, atExit}
 use borrow.Fn.Kinds.{Dens, resT, endedOf}
 use Rattle.answers.proofs.Determined.{Determines}
 use Rattle.journal.proofs.recorded
+use Rattle.journal.proofs.told
 use Rattle.journal.proofs.undos
 use Rattle.journal.proofs.drops
 use Rattle.journal.proofs.Twin
 
 -- the result, and memory and journal at exit
-pub step : Determines 2 recorded.step.Kinds.ps recorded.step.Kinds.r recorded.step.Reads.Post
+pub step : Determines 2 told.step.Kinds.ps told.step.Kinds.r told.step.Reads.Post
 step κs a x y ws vs p q =
     (p .0 .result ∙ sym (q .0 .result), λ i. ((p .0 .memory-is ∙ sym (q .0 .memory-is)) i, ((p .0 .journal-is ∙ sym (q .0 .journal-is)) i, (tt, (tt, tt)))))
+
+pub record-plan : Determines 2 recorded.record_plan.Kinds.ps recorded.record_plan.Kinds.r recorded.record_plan.Reads.Post
+record-plan κs a x y ws vs p q =
+    (p .0 .result ∙ sym (q .0 .result), λ i. ((p .0 .memory-is ∙ sym (q .0 .memory-is)) i, ((p .0 .journal-is ∙ sym (q .0 .journal-is)) i, (tt, (tt, (tt, tt))))))
 
 pub call : Determines 2 recorded.call.Kinds.ps recorded.call.Kinds.r recorded.call.Reads.Post
 call κs a x y ws vs p q =

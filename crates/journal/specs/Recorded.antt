@@ -24,6 +24,8 @@ use Rattle.calls.specs.Calls.{Call, step, interrupt, reset, settingsIn, planOf}
 use Rattle.calls.specs.declared.InterruptType.{InterruptType}
 use Rattle.calls.specs.declared.Plan.{Plan}
 use Rattle.journal.specs.Record.{Saved, encode}
+use Rattle.journal.specs.declared.recorded.Outside.{Outside}
+use Rattle.journal.specs.declared.recorded.Outside.the-variants.{Interrupt as InterruptFrom, Reset as ResetFrom}
 use Rattle.journal.specs.declared.CallType.{CallType}
 use Rattle.journal.specs.declared.CallType.the-variants.{Step, Interrupt, Reset}
 use Rattle.journal.specs.declared.Outcome.{Outcome}
@@ -150,3 +152,7 @@ abbrev pub callOf : CallType → Settings → Call
 callOf Step t = step t
 callOf (Interrupt i) t = interrupt t i
 callOf Reset t = reset t
+
+abbrev pub outsideOf : Outside → Settings → Call
+outsideOf (InterruptFrom i) t = interrupt t i
+outsideOf ResetFrom t = reset t

@@ -1,6 +1,7 @@
 // The journal: recorded calls, undo, the newest record, and drop. A record holds the machine and the bytes of memory from before a call.
 mod drops;
 mod recorded;
+mod told;
 mod undos;
 
 ghost use Prim.Native.Nat.{_≤_};
@@ -15,8 +16,9 @@ use machine::Machine;
 use memory::Writes;
 pub use recorded::call;
 pub use recorded::interrupt;
+pub use recorded::record_plan;
 pub use recorded::reset;
-pub use recorded::step;
+pub use told::step;
 pub use undos::newest;
 pub use undos::undo;
 

@@ -10,8 +10,9 @@ ghost use Rattle.memory.specs.Writes.{listed, writesOf};
 ghost use Rattle.machine.specs.Record.{header, headerLength};
 ghost use Rattle.calls.specs.Calls.{planOf};
 ghost use Rattle.journal.specs.Record.{mostStored, entryLength, entriesAt, recordLength, entries, encode};
-ghost use Rattle.journal.specs.Recorded.{inHand, Typed, Leaves, mostRecords, savedAt, savedFor, admitted, planAnswer, concluded, callOf};
-ghost use Rattle.journal.specs.Recorded.{call as callEnds, stepped, interrupted, wasReset};
+ghost use Rattle.memory.specs.declared.Landing.the-variants.{Stored};
+ghost use Rattle.journal.specs.Recorded.{inHand, Typed, Leaves, mostRecords, savedAt, savedFor, admitted, planAnswer, concluded, called, callOf};
+ghost use Rattle.journal.specs.Recorded.{call as callEnds, interrupted, wasReset, outsideOf};
 use super::COUNT;
 use super::CallType;
 use super::ENTRIES;
@@ -20,6 +21,7 @@ use super::MOST;
 use super::Outcome;
 use super::Twin;
 use super::record_length;
+use super::told::step;
 use answers::Answer;
 use answers::Refusal;
 use calls::InterruptType;
@@ -54,7 +56,7 @@ fn lay(rest: &mut [u8], at: usize, part: &[u8])
     }
 }
 
-fn write_header(rest: &mut [u8], machine: Machine)
+pub fn write_header(rest: &mut [u8], machine: Machine)
     requires { ⌜ headerLength ≤ length (now rest) ⌝ }
     ensures { λ _. ⌜ now (rest .exit) ≡ sets (now (rest .entry)) 0 (header machine) ⌝ }
 {
@@ -64,6 +66,16 @@ fn write_header(rest: &mut [u8], machine: Machine)
     lay(rest, 0, &front);
     lay(rest, CYCLES, &cycles);
     lay(rest, INSTRUCTIONS, &instructions);
+}
+
+// One entry: a place of memory, and the byte that it has.
+pub fn entry(rest: &mut [u8], at: usize, mem: &[u8], place: u16)
+    requires { ⌜ (at + entryLength ≤ length (now rest)) × (length (now mem) ≡ 65536) ⌝ }
+    ensures { λ _. ⌜ now (rest .exit) ≡ sets (now (rest .entry)) at (entries (savedAt (now (mem .entry)) (Stored place))) ⌝ }
+{
+    let p = place as usize;
+    let part = [(place / 256) as u8, (place % 256) as u8, mem[p]];
+    lay(rest, at, &part);
 }
 
 // How many entries a write has: 1 if it is stored.
@@ -101,9 +113,7 @@ fn save(rest: &mut [u8], n: usize, mem: &[u8], ram_top: u16, one: Write) -> usiz
     let at = one.at;
     match memory::lands(at, ram_top, one.system) {
         Landing::Stored(p) => {
-            let q = p as usize;
-            let part = [(p / 256) as u8, (p % 256) as u8, mem[q]];
-            lay(rest, ENTRIES + n * ENTRY, &part);
+            entry(rest, ENTRIES + n * ENTRY, mem, p);
             n + 1
         }
         Landing::Device => n,
@@ -147,7 +157,7 @@ fn write_record(
 }
 
 // What is judged before a call's plan: memory, the journal's length, and that one more record can be counted.
-fn admits(memory: usize, journal: usize, records: usize, bytes: usize) -> Answer
+pub fn admits(memory: usize, journal: usize, records: usize, bytes: usize) -> Answer
     ensures { λ r. ⌜ r ≡ admitted memory journal records bytes ⌝ }
 {
     if memory != 65536 {
@@ -162,20 +172,9 @@ fn admits(memory: usize, journal: usize, records: usize, bytes: usize) -> Answer
     Answer::Done
 }
 
-// What each call will do.
-fn plan(mem: &[u8], machine: Machine, settings: Settings, which: CallType) -> Plan
-    ensures { λ r. ⌜ r ≡ planOf (callOf which settings) (now (mem .entry)) machine ⌝ }
-{
-    match which {
-        CallType::Step => calls::plan_step(mem, machine, settings),
-        CallType::Interrupt(line) => calls::plan_interrupt(mem, machine, settings, line),
-        CallType::Reset => calls::plan_reset(mem, machine),
-    }
-}
-
-// What every recorded call does with its plan. Whether the record fits is known before a byte of it is written, and it is written before the
+// What a recorded call does with its plan. Whether the record fits is known before a byte of it is written, and it is written before the
 // writes are stored.
-fn conclude(
+pub fn conclude(
     mem: &mut [u8],
     journal: &mut [u8],
     twin: Twin,
@@ -222,32 +221,50 @@ fn conclude(
     }
 }
 
-// Any recorded call. A loop that makes calls of several kinds makes them here, so that the call is compiled into it once.
-pub fn call(
+// A call with its plan, from the first refusal on. A plan changes nothing, so that it may be made before.
+pub fn record_plan(
     mem: &mut [u8],
     journal: &mut [u8],
     twin: Twin,
     settings: Settings,
-    which: CallType,
+    plan: Plan,
 ) -> Outcome
-    ensures { λ r. ⌜ Leaves r (now (mem .exit)) (now (journal .exit)) (callEnds (callOf which settings) (inHand (now (mem .entry)) (now (journal .entry)) twin)) ⌝ }
+    ensures { λ r. ⌜ Leaves r (now (mem .exit)) (now (journal .exit)) (called settings plan (inHand (now (mem .entry)) (now (journal .entry)) twin)) ⌝ }
     ensures { λ _. ⌜ Typed (inHand (now (mem .entry)) (now (journal .entry)) twin) ⌝ }
 {
-    let machine = twin.machine;
     match admits(mem.len(), journal.len(), twin.records, twin.bytes) {
         Answer::Refused(refusal) => refused(twin, refusal),
-        Answer::Done => {
-            let plan = plan(mem, machine, settings, which);
-            conclude(mem, journal, twin, settings, plan)
-        }
+        Answer::Done => conclude(mem, journal, twin, settings, plan),
     }
 }
 
-pub fn step(mem: &mut [u8], journal: &mut [u8], twin: Twin, settings: Settings) -> Outcome
-    ensures { λ r. ⌜ Leaves r (now (mem .exit)) (now (journal .exit)) (stepped settings (inHand (now (mem .entry)) (now (journal .entry)) twin)) ⌝ }
+// The calls that come from outside the program. Both are made at one place, which is then not compiled into each loop that makes steps.
+enum Outside {
+    Interrupt(InterruptType),
+    Reset,
+}
+
+fn plan_outside(mem: &[u8], machine: Machine, settings: Settings, which: Outside) -> Plan
+    ensures { λ r. ⌜ r ≡ planOf (outsideOf which settings) (now (mem .entry)) machine ⌝ }
+{
+    match which {
+        Outside::Interrupt(line) => calls::plan_interrupt(mem, machine, settings, line),
+        Outside::Reset => calls::plan_reset(mem, machine),
+    }
+}
+
+fn record_outside(
+    mem: &mut [u8],
+    journal: &mut [u8],
+    twin: Twin,
+    settings: Settings,
+    which: Outside,
+) -> Outcome
+    ensures { λ r. ⌜ Leaves r (now (mem .exit)) (now (journal .exit)) (callEnds (outsideOf which settings) (inHand (now (mem .entry)) (now (journal .entry)) twin)) ⌝ }
     ensures { λ _. ⌜ Typed (inHand (now (mem .entry)) (now (journal .entry)) twin) ⌝ }
 {
-    call(mem, journal, twin, settings, CallType::Step)
+    let plan = plan_outside(mem, twin.machine, settings, which);
+    record_plan(mem, journal, twin, settings, plan)
 }
 
 pub fn interrupt(
@@ -260,12 +277,30 @@ pub fn interrupt(
     ensures { λ r. ⌜ Leaves r (now (mem .exit)) (now (journal .exit)) (interrupted settings which (inHand (now (mem .entry)) (now (journal .entry)) twin)) ⌝ }
     ensures { λ _. ⌜ Typed (inHand (now (mem .entry)) (now (journal .entry)) twin) ⌝ }
 {
-    call(mem, journal, twin, settings, CallType::Interrupt(which))
+    record_outside(mem, journal, twin, settings, Outside::Interrupt(which))
 }
 
 pub fn reset(mem: &mut [u8], journal: &mut [u8], twin: Twin, settings: Settings) -> Outcome
     ensures { λ r. ⌜ Leaves r (now (mem .exit)) (now (journal .exit)) (wasReset settings (inHand (now (mem .entry)) (now (journal .entry)) twin)) ⌝ }
     ensures { λ _. ⌜ Typed (inHand (now (mem .entry)) (now (journal .entry)) twin) ⌝ }
 {
-    call(mem, journal, twin, settings, CallType::Reset)
+    record_outside(mem, journal, twin, settings, Outside::Reset)
+}
+
+// Any recorded call. A loop that makes calls of several kinds makes them here, so that the step is compiled into it once.
+pub fn call(
+    mem: &mut [u8],
+    journal: &mut [u8],
+    twin: Twin,
+    settings: Settings,
+    which: CallType,
+) -> Outcome
+    ensures { λ r. ⌜ Leaves r (now (mem .exit)) (now (journal .exit)) (callEnds (callOf which settings) (inHand (now (mem .entry)) (now (journal .entry)) twin)) ⌝ }
+    ensures { λ _. ⌜ Typed (inHand (now (mem .entry)) (now (journal .entry)) twin) ⌝ }
+{
+    match which {
+        CallType::Step => step(mem, journal, twin, settings),
+        CallType::Interrupt(line) => interrupt(mem, journal, twin, settings, line),
+        CallType::Reset => reset(mem, journal, twin, settings),
+    }
 }

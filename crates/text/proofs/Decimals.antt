@@ -44,6 +44,17 @@ pub long : (n : ℕ) → 10 ≤ n → n < 2 ^ 64 → decimal n ≡ decimal (n / 
 unfolding decimal
 long n h k = over 19 n h ∙ ap (λ (l : List ℕ). l ++ ((48 + n % 10) ∷ [])) (enough 18 (n / 10) (tenth (10 ^ 19) n (omega arith)))
 
+-- there is one at least, and ten times the number has one more
+pub one-or-more : (n : ℕ) → n < 2 ^ 64 → 1 ≤ length (decimal n)
+one-or-more n h = go (decLt n 10)
+  where
+    go : Dec (n < 10) → 1 ≤ length (decimal n)
+    go (yes l) = rw (short n l) (omega arith)
+    go (no l) = rw (long n (omega arith) h) (simp length-append (omega arith))
+
+pub one-more : (n : ℕ) → 10 ≤ n → n < 2 ^ 64 → length (decimal n) ≡ length (decimal (n / 10)) + 1
+one-more n h k = rw (long n h k) (simp length-append (omega arith))
+
 at-most : (k n : ℕ) → length (decimalIn k n) ≤ k
 unfolding decimalIn
 at-most zero n = omega arith

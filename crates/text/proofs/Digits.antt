@@ -1,12 +1,15 @@
 -- What each character stands for, and the digit of each number below 16.
 -- Assumes nothing.
-use Prim.Native.Nat.{ℕ, _+_, _-_, _/_, _%_, _≤_, _<_}
+use Prim.Native.Nat.{ℕ, zero, suc, _+_, _-_, _/_, _%_, _≤_, _<_}
 use mathlib.Core.Path.{_≡_, refl, sym, _∙_}
 use mathlib.Core.Bool.{Bool, true, false, _&&_}
+use mathlib.Core.List.{List, [], _∷_}
 use native.Mathlib.Omega.{arith}
+use native.Mathlib.Nat.{add-zero, zero-add, add-suc, suc-add}
 use native.Mathlib.Decide.{decLt}
 use borrow.Author.Tests.{le-leb, lt-leb, lt-ltb, le-ltb, leb-true}
 use lib.Dec.{leb}
+use lib.ListN.{getD}
 use Rattle.text.specs.Hex.{glyph, isFigure, isCapital, isDigit, digitValue, byteOf, GlyphIsDigit, ValueOfGlyph, GlyphOfValue, ByteOfHex2, Hex2OfByte}
 
 pub value-figure : (c : ℕ) → 48 ≤ c → c < 58 → c - 48 ≡ digitValue c
@@ -55,6 +58,20 @@ glyph-is-digit d h = go (decLt d 10)
     go : Dec (d < 10) → isDigit (glyph d) ≡ true
     go (yes l) = simp (lt-ltb d 10 l, le-leb 48 (48 + d) (omega arith), le-leb (48 + d) 57 (omega arith))
     go (no l) = simp (le-ltb d 10 (omega arith), le-leb 48 (55 + d) (omega arith), lt-leb (55 + d) 57 (omega arith), le-leb 65 (55 + d) (omega arith), le-leb (55 + d) 70 (omega arith))
+
+-- the digits of so many numbers from i on, and the one at j
+abbrev digitsFrom : ℕ → ℕ → List ℕ
+digitsFrom i zero = []
+digitsFrom i (suc n) = glyph i ∷ digitsFrom (suc i) n
+
+from : (i n j : ℕ) → j < n → getD (digitsFrom i n) j 0 ≡ glyph (i + j)
+from i zero j h = absurd (omega arith)
+from i (suc n) zero h = rw (add-zero i)
+from i (suc n) (suc j) h = from (suc i) n j (omega arith) ∙ rw (suc-add i j, add-suc i j)
+
+-- all sixteen, as antt computes them
+pub glyph-at : (d : ℕ) → d < 16 → getD (digitsFrom 0 16) d 0 ≡ glyph d
+glyph-at d h = from 0 16 d h ∙ rw (zero-add d)
 
 both : (p q : Bool) → p && q ≡ true → (p ≡ true) × (q ≡ true)
 both true q e = (refl, e)

@@ -1,5 +1,7 @@
 pub mod Digits
 pub mod Stores
 pub mod Decimals
+pub mod Filling
 pub mod Texts
+pub mod Laying
 pub mod Unique

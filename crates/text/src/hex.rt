@@ -7,7 +7,8 @@ fn digit(d: u8) -> u8
     requires { ⌜ d < 16 ⌝ }
     ensures { λ r. ⌜ r ≡ glyph d ⌝ }
 {
-    if d < 10 { b'0' + d } else { b'A' - 10 + d }
+    let glyphs = b"0123456789ABCDEF";
+    glyphs[d as usize]
 }
 
 pub fn hex2(b: u8) -> [u8; 2]

@@ -3,6 +3,8 @@ mod hex;
 mod lines;
 
 ghost use mathlib.Core.Path.{_≡_};
+ghost use Prim.Native.Nat.{_+_, _≤_};
+ghost use lib.ListN.{length};
 ghost use lib.Seq.{sets};
 pub use hex::byte;
 pub use hex::hex2;
@@ -18,7 +20,20 @@ pub use lines::with_byte;
 pub use lines::with_decimal;
 pub use lines::with_hex;
 
-// Writes a part at a place. What would lie past the end is left out.
+// Writes a part at a place that has room for it.
+fn lay(out: &mut [u8], at: usize, part: &[u8])
+    requires { ⌜ at + length (now part) ≤ length (now out) ⌝ }
+    ensures { λ _. ⌜ now (out .exit) ≡ sets (now (out .entry)) at (now (part .entry)) ⌝ }
+{
+    let mut i = 0;
+    while i < part.len() {
+        out[at + i] = part[i];
+        i += 1;
+    }
+}
+
+// Writes a part at a place. What would lie past the end is left out. How many bytes fit is known before the first is written, so that no byte
+// is tested for itself.
 pub fn put(out: &mut [u8], at: usize, part: &[u8])
     ensures { λ _. ⌜ now (out .exit) ≡ sets (now (out .entry)) at (now (part .entry)) ⌝ }
 {
@@ -27,11 +42,9 @@ pub fn put(out: &mut [u8], at: usize, part: &[u8])
         return;
     }
     let room = size - at;
-    let mut i = 0;
-    while i < part.len() {
-        if i < room {
-            out[at + i] = part[i];
-        }
-        i += 1;
+    if part.len() <= room {
+        lay(out, at, part);
+        return;
     }
+    lay(out, at, &part[..room]);
 }

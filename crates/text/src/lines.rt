@@ -1,11 +1,14 @@
 // Decimal numbers and the lines that are printed, as values.
 ghost use mathlib.Core.Path.{_≡_};
 ghost use mathlib.Core.List.{[], _∷_};
+ghost use Prim.Native.Nat.{_+_, _≤_};
 ghost use lib.ListN.{length};
 ghost use lib.Seq.{sets};
 ghost use Rattle.text.specs.Hex.{hex2 as Hex·hex2};
 ghost use Rattle.text.specs.Lines.{decimal as Lines·decimal, line as Lines·line, alone as Lines·alone, textOf, grown, said};
 use crate::hex2;
+use crate::hex4;
+use crate::lay;
 use crate::put;
 
 // The longest line: an answer of three digits, PC, CC, a counter of twenty digits.
@@ -85,13 +88,59 @@ pub fn alone(n: u8) -> Text
     with_byte(decimal(n as u64), b'\n')
 }
 
+// How many decimal digits a number has.
+fn digits(n: u64) -> usize
+    ensures { λ r. ⌜ r ≡ length (Lines·decimal n) ⌝ }
+{
+    let mut count = 1;
+    let mut rest = n;
+    while 10 <= rest {
+        rest = rest / 10;
+        count += 1;
+    }
+    count
+}
+
+// Writes a number at a place that has room for it, the last digit first, and returns where it ends.
+fn lay_decimal(out: &mut [u8], at: usize, n: u64) -> usize
+    requires { ⌜ at + length (Lines·decimal n) ≤ length (now out) ⌝ }
+    ensures { λ r. ⌜ (r ≡ at + length (Lines·decimal n)) × (now (out .exit) ≡ sets (now (out .entry)) at (Lines·decimal n)) ⌝ }
+{
+    let end = at + digits(n);
+    let mut rest = n;
+    let mut i = end - 1;
+    while 10 <= rest {
+        out[i] = b'0' + (rest % 10) as u8;
+        rest = rest / 10;
+        i -= 1;
+    }
+    out[i] = b'0' + rest as u8;
+    end
+}
+
+// Writes the line of a call at a place that has room for the longest, and returns where it ends.
+fn lay_line(out: &mut [u8], at: usize, answer: u8, pc: u16, cc: u8, cycles: u64) -> usize
+    requires { ⌜ at + 33 ≤ length (now out) ⌝ }
+    ensures { λ r. ⌜ (r ≡ at + length (Lines·line answer pc cc cycles)) × (now (out .exit) ≡ sets (now (out .entry)) at (Lines·line answer pc cc cycles)) ⌝ }
+{
+    let middle = lay_decimal(out, at, answer as u64);
+    let p = hex4(pc);
+    let c = hex2(cc);
+    lay(
+        out,
+        middle,
+        &[b' ', p[0], p[1], p[2], p[3], b' ', c[0], c[1], b' '],
+    );
+    let last = lay_decimal(out, middle + 9, cycles);
+    out[last] = b'\n';
+    last + 1
+}
+
 // The line of a call.
 pub fn line(answer: u8, pc: u16, cc: u8, cycles: u64) -> Text
     ensures { λ r. ⌜ r ≡ textOf (Lines·line answer pc cc cycles) ⌝ }
 {
-    let number = with_byte(decimal(answer as u64), b' ');
-    let high = with_hex(number, (pc / 256) as u8);
-    let word = with_byte(with_hex(high, (pc % 256) as u8), b' ');
-    let codes = with_byte(with_hex(word, cc), b' ');
-    with_byte(with_decimal(codes, cycles), b'\n')
+    let mut bytes = [0; ROOM];
+    let len = lay_line(&mut bytes, 0, answer, pc, cc, cycles);
+    Text { bytes, len }
 }

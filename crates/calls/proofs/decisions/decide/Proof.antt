@@ -7,7 +7,7 @@ use Rattle.calls.proofs.decisions.decide.Tie as tie
 
 returns : tie.Need-returns
 unfolding finished decodedTo
-returns c = record { plan = rw (c .refuse .ensures, ← (c .before .before .before .before .decode .ensures), c .before .before .refusal .given .1); plain = rw (c .refuse .ensures) tt }
+returns c = rw (c .refuse .ensures, ← (c .before .before .before .before .decode .ensures), c .before .before .refusal .given .1)
 
 returns-2 : tie.Need-returns-2
 unfolding decodedTo

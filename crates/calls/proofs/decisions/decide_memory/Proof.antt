@@ -18,21 +18,21 @@ returns-4 : tie.Need-returns-4
 returns-4 c = rw (c .before .enum-told .given .1) (c .call .ensures)
 
 returns-5 : tie.Need-returns-5
-returns-5 c = rw (c .before .enum-told2 .given .1) (record { effect = c .call2 .ensures .effect; plain = c .call2 .ensures .plain })
+returns-5 c = rw (c .before .enum-told2 .given .1) (c .call2 .ensures)
 
 returns-6 : tie.Need-returns-6
-returns-6 c = rw (c .before .before .enum-told3 .given .1) (record { effect = rw (c .tell .ensures, c .before .return-from-subroutine .ensures); plain = rw (c .tell .ensures) tt })
+returns-6 c = rw (c .before .before .enum-told3 .given .1) (rw (c .tell .ensures, c .before .return-from-subroutine .ensures))
 
 returns-7 : tie.Need-returns-7
-returns-7 c = rw (c .before .before .op4 .given .1) (c .push .ensures)
+returns-7 c = rw (c .before .before .before .op4 .given .1, c .tell-push .ensures, c .before .read-u8 .ensures)
 
 returns-8 : tie.Need-returns-8
-returns-8 c = rw (c .before .before .before .before .op5 .given .1) (record { effect = rw (c .tell2 .ensures, c .before .pull-registers .ensures, c .before .before .read-u8 .ensures); plain = rw (c .tell2 .ensures) tt })
+returns-8 c = rw (c .before .before .before .before .op5 .given .1) (rw (c .tell2 .ensures, c .before .pull-registers .ensures, c .before .before .read-u82 .ensures))
 
 returns-9 : tie.Need-returns-9
-returns-9 c = record { effect = rw (c .leave .ensures); plain = rw (c .leave .ensures) tt }
+returns-9 c = rw (c .leave .ensures)
 
 pub decide-memory-spec : {M : Type 1} → statement M
 decide-memory-spec =
     tie.close
-    (tie.spec (search needs) (search needs) (search needs) (search needs) (search needs) (search needs) (search needs) (search needs) (search needs) (search needs) (search needs) (search needs) (search needs) (search needs) (search needs) (search needs) (search needs) (search needs) (search needs) (search needs) returns returns-2 returns-3 returns-4 returns-5 returns-6 returns-7 returns-8 returns-9)
+    (tie.spec (search needs) (search needs) (search needs) (search needs) (search needs) (search needs) (search needs) (search needs) (search needs) (search needs) (search needs) (search needs) (search needs) (search needs) (search needs) (search needs) (search needs) (search needs) (search needs) (search needs) (search needs) returns returns-2 returns-3 returns-4 returns-5 returns-6 returns-7 returns-8 returns-9)

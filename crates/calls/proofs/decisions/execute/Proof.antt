@@ -10,16 +10,13 @@ use Rattle.calls.proofs.decisions.execute.Tie as tie
 
 returns : tie.Need-returns
 unfolding finished
-returns c = record { plan = rw (c .refuse .ensures, ← (c .before .before .before .before .resolve .ensures), c .before .before .refusal .given .1); plain = rw (c .refuse .ensures) tt }
+returns c = rw (c .refuse .ensures, ← (c .before .before .before .before .resolve .ensures), c .before .before .refusal .given .1)
 
 returns-2 : tie.Need-returns-2
 unfolding cyclesOf
 returns-2 c =
     let a = c .before .before .before .before .before .before .before .before .before .before .args in
-    record {
-      plan = decides-plan (a .machine) (a .settings) (a .mem .now) (c .operate .result) (c .operate .ensures) ∙ rw (c .before .before .before .before .before .before .before .operand-extra .ensures, ← (c .before .before .before .before .before .resolve .ensures), c .before .before .before .found .given .1);
-      plain = c .operate .ensures .plain;
-    }
+    decides-plan (a .machine) (a .settings) (a .mem .now) (c .operate .result) (c .operate .ensures) ∙ rw (c .before .before .before .before .before .before .before .operand-extra .ensures, ← (c .before .before .before .before .before .resolve .ensures), c .before .before .before .found .given .1)
 
 pub execute-spec : {M : Type 1} → statement M
 execute-spec =

@@ -2,7 +2,7 @@
 -- Assumes nothing.
 use borrow.Author.Needs.{needs}
 use mathlib.Core.Path.{_∙_}
-use Rattle.calls.proofs.Decided.{billed-effect, billed-plain}
+use Rattle.calls.proofs.Decided.{billed-effect}
 use Rattle.calls.proofs.decisions.operate.Statement.{statement}
 use Rattle.calls.proofs.decisions.operate.Tie as tie
 
@@ -12,7 +12,6 @@ returns c =
       effect = rw (c .bill .ensures, c .before .tell .ensures, c .before .before .before .before .before .before .before .before .before .before .op .given .1, ← (c .before .before .before .before .before .change .ensures), c .before .before .before .after .given .1);
       cycles = rw (c .bill .ensures, c .before .before .before .before .before .before .before .cost .ensures, c .before .before .before .before .before .before .before .before .registers-extra .ensures, c .before .before .before .before .before .before .before .before .before .before .op .given .1);
       arms = rw (c .bill .ensures, c .before .before .before .before .before .before .registers-arm .ensures, c .before .before .before .before .before .before .before .before .before .before .op .given .1);
-      plain = rw (c .bill .ensures, c .before .tell .ensures) tt;
     }
 
 returns-2 : tie.Need-returns-2
@@ -21,7 +20,6 @@ returns-2 c =
       effect = rw (c .bill2 .ensures, c .before .refuse .ensures, c .before .before .before .before .before .before .before .before .before .before .op .given .1, ← (c .before .before .before .before .before .change .ensures), c .before .before .before .refusal .given .1);
       cycles = rw (c .bill2 .ensures, c .before .before .before .before .before .before .before .cost .ensures, c .before .before .before .before .before .before .before .before .registers-extra .ensures, c .before .before .before .before .before .before .before .before .before .before .op .given .1);
       arms = rw (c .bill2 .ensures, c .before .before .before .before .before .before .registers-arm .ensures, c .before .before .before .before .before .before .before .before .before .before .op .given .1);
-      plain = rw (c .bill2 .ensures, c .before .refuse .ensures) tt;
     }
 
 returns-3 : tie.Need-returns-3
@@ -31,10 +29,9 @@ returns-3 c =
     let n = c .before .before .before .cost2 .result in
     let b = c .before .before .memory-arms .result in
     record {
-      effect = rw (c .bill3 .ensures, c .before .before .before .before .before .before .op2 .given .1) (billed-effect (a .settings) (a .mem .now) (d .result) n b ∙ d .ensures .effect);
+      effect = rw (c .bill3 .ensures, c .before .before .before .before .before .before .op2 .given .1) (billed-effect (a .settings) (a .mem .now) (d .result) n b ∙ d .ensures);
       cycles = rw (c .bill3 .ensures, c .before .before .before .cost2 .ensures, c .before .before .before .before .memory-extra .ensures, c .before .before .before .before .before .before .op2 .given .1);
       arms = rw (c .bill3 .ensures, c .before .before .memory-arms .ensures, c .before .before .before .before .before .before .op2 .given .1);
-      plain = rw (c .bill3 .ensures) (billed-plain (a .settings) (a .mem .now) (d .result) n b (d .ensures .plain));
     }
 
 pub operate-spec : {M : Type 1} → statement M

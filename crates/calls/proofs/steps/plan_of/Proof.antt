@@ -8,7 +8,7 @@ use Rattle.memory.proofs.Folds.{one-write, two-writes}
 use Rattle.calls.specs.Steps.{finished}
 use Rattle.calls.specs.Decisions.{effectAs}
 use Rattle.calls.specs.declared.decisions.Kind.the-variants.{Byte, Word}
-use Rattle.calls.proofs.Decided.{plan-as, plain-by}
+use Rattle.calls.proofs.Decided.{plan-as}
 use Rattle.calls.proofs.steps.plan_of.Statement.{statement}
 use Rattle.calls.proofs.steps.plan_of.Tie as tie
 
@@ -32,11 +32,8 @@ returns-3 c =
     let a = c .before .before .before .before .before .before .before .before .before .args in
     let d = a .decision in
     let t = plan-as (a .machine) (a .settings) (a .mem .now) d (c .before .before .before .before .before .enum-told3 .given .1) in
-    let q = plain-by (a .settings .«ram_top») d (c .before .before .before .before .before .enum-told3 .given .1) (c .before .before .before .before .before .before .before .before .before .pre) in
-    let v = q .2 in
-    let f : d .value % 256 ≡ d .value = omega arith in
     let g : finished (a .machine) (d .cycles) (d .arms) (c .before .stores .result) ≡ finished (a .machine) (d .cycles) (d .arms) (effectAs Byte (a .settings) (a .mem .now) d) =
-    rw (c .before .stores .ensures, c .before .before .add .ensures, c .before .before .before .none .ensures, f, one-write) in
+    rw (c .before .stores .ensures, c .before .before .add .ensures, c .before .before .before .none .ensures, one-write) in
     c .finish .ensures ∙ (g ∙ sym t)
 
 returns-4 : tie.Need-returns-4

@@ -5,13 +5,10 @@ use mathlib.Core.Path.{_∙_}
 use Rattle.calls.proofs.steps.plan_running.Statement.{statement}
 use Rattle.calls.proofs.steps.plan_running.Tie as tie
 
-plan-of-requires : tie.Need-plan-of-requires
-plan-of-requires c κs = c .decide .ensures .plain
-
 returns : tie.Need-returns
-returns c = c .plan-of .ensures ∙ c .before .decide .ensures .plan
+returns c = c .plan-of .ensures ∙ c .before .decide .ensures
 
 pub plan-running-spec : {M : Type 1} → statement M
 plan-running-spec =
     tie.close
-    (tie.spec (search needs) plan-of-requires returns)
+    (tie.spec (search needs) (search needs) returns)

@@ -1,11 +1,11 @@
--- The recorded call of this kind.
+-- A call from outside.
 -- Assumes nothing.
 use borrow.Author.Needs.{needs}
 use Rattle.journal.proofs.recorded.reset.Statement.{statement}
 use Rattle.journal.proofs.recorded.reset.Tie as tie
 
 returns : tie.Need-returns
-returns c = c .before .before .before .before .call .ensures
+returns c = c .before .before .before .before .record-outside .ensures
 
 pub reset-spec : {M : Type 1} → statement M
 reset-spec =

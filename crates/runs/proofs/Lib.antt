@@ -1,0 +1,6 @@
+pub mod Running
+pub mod Loop
+pub mod Laws
+pub mod Back
+pub mod History
+pub mod Unique
