@@ -24,3 +24,6 @@ operand-at κs a x y ws vs p q = (p ∙ sym q, refl)
 
 pub decode : Determines 1 proofs.instruction.decode.Kinds.ps proofs.instruction.decode.Kinds.r proofs.instruction.decode.Reads.Post
 decode κs a x y ws vs p q = (p ∙ sym q, refl)
+
+pub with-operand : Determines 1 proofs.instruction.with_operand.Kinds.ps proofs.instruction.with_operand.Kinds.r proofs.instruction.with_operand.Reads.Post
+with-operand κs a x y ws vs p q = (p ∙ sym q, refl)

@@ -53,7 +53,8 @@ fn locate(mem: &[u8], pc: u16) -> Located
     }
 }
 
-fn with_operand(mem: &[u8], entry: Entry, at: u32) -> Decoded
+// The entry's operand, from `at` on, the address after the opcode.
+pub fn with_operand(mem: &[u8], entry: Entry, at: u32) -> Decoded
     ensures { λ r. ⌜ r ≡ decodedAs (InManual entry) (now (mem .entry)) at ⌝ }
 {
     let mode = entry.mode;

@@ -6,6 +6,7 @@ mod postbyte;
 pub use instruction::Decoded;
 pub use instruction::Instruction;
 pub use instruction::decode;
+pub use instruction::with_operand;
 pub use operand::Indexed;
 pub use operand::Operand;
 pub use operand::OperandRead;

@@ -1,9 +1,11 @@
-// Prints a line for each instruction of the opcode table: page, opcode, mnemonic, mode, size and base cycles.
+// Prints a line for each instruction of the opcode table: page, opcode, mnemonic, mode, size and base cycles. Then prints the same from the
+// opcodes' bit fields.
 mod line;
 
 use line::Line;
 use opcodes::Entry;
 use opcodes::Mode;
+use opcodes::Page;
 use opcodes::Place;
 
 fn put_mode(line: Line, mode: Mode) -> Line {
@@ -38,6 +40,7 @@ fn print_entry(prefix: u8, code: u8, entry: Entry) {
     line::write(line::put(out, b'\n'));
 }
 
+// The prefix is the byte before the opcodes of the page, 00 where there is none. An empty place has no line.
 fn print_place(prefix: u8, code: u8, place: Place) {
     match place {
         Place::Instruction(entry) => print_entry(prefix, code, entry),
@@ -45,7 +48,6 @@ fn print_place(prefix: u8, code: u8, place: Place) {
     }
 }
 
-// The prefix is the byte before the opcodes of the page, 00 where there is none.
 fn print_page(prefix: u8, places: [Place; 256]) {
     let mut code = 0;
     while code < 256 {
@@ -55,9 +57,21 @@ fn print_page(prefix: u8, places: [Place; 256]) {
     }
 }
 
+fn print_fields(prefix: u8, page: Page) {
+    let mut code: u16 = 0;
+    while code < 256 {
+        let byte = code as u8;
+        print_place(prefix, byte, fields::place(page, byte));
+        code += 1;
+    }
+}
+
 fn main() {
     let pages = pages::all();
     print_page(0x00, pages[0]);
     print_page(0x10, pages[1]);
     print_page(0x11, pages[2]);
+    print_fields(0x00, Page::Plain);
+    print_fields(0x10, Page::Ten);
+    print_fields(0x11, Page::Eleven);
 }

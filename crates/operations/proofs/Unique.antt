@@ -53,3 +53,15 @@ unary κs a x y ws vs p q = (p ∙ sym q, refl)
 
 pub test16 : Determines 0 words.test16.Kinds.ps words.test16.Kinds.r words.test16.Reads.Post
 test16 κs a x y ws vs p q = (p ∙ sym q, refl)
+
+pub transfer : Determines 0 transfers.transfer.Kinds.ps transfers.transfer.Kinds.r transfers.transfer.Reads.Post
+transfer κs a x y ws vs p q = (p ∙ sym q, refl)
+
+pub exchange : Determines 0 transfers.exchange.Kinds.ps transfers.exchange.Kinds.r transfers.exchange.Reads.Post
+exchange κs a x y ws vs p q = (p ∙ sym q, refl)
+
+pub with-accumulator : Determines 0 eight_bit.with_accumulator.Kinds.ps eight_bit.with_accumulator.Kinds.r eight_bit.with_accumulator.Reads.Post
+with-accumulator κs a x y ws vs p q = (p ∙ sym q, refl)
+
+pub one-write : Determines 0 eight_bit.one_write.Kinds.ps eight_bit.one_write.Kinds.r eight_bit.one_write.Reads.Post
+one-write κs a x y ws vs p q = (p ∙ sym q, refl)

@@ -119,7 +119,8 @@ pub fn test(regs: Set, m: u8) -> Set
     with_codes(regs, regs.cc.tst_u8(m))
 }
 
-fn one_write(at: u16, byte: u8) -> Writes
+// One byte written by the program.
+pub fn one_write(at: u16, byte: u8) -> Writes
     ensures { λ r. ⌜ r ≡ oneWrite at byte ⌝ }
 {
     Writes::none().add(Write {

@@ -17,12 +17,16 @@ pub use codes::or_codes;
 pub use codes::with_codes;
 pub use eight_bit::accumulator;
 pub use eight_bit::on_memory;
+pub use eight_bit::one_write;
 pub use eight_bit::store8;
 pub use eight_bit::test;
 pub use eight_bit::unary;
+pub use eight_bit::with_accumulator;
 use opcodes::RegisterOp;
 use registers::Flags;
 use registers::Set;
+pub use transfers::exchange;
+pub use transfers::transfer;
 pub use transfers::transfer_name;
 pub use transfers::transferable;
 pub use words::store16;
@@ -64,7 +68,7 @@ pub fn change(op: RegisterOp, flags: Flags, mem: &[u8], regs: Set, ea: u16) -> C
         RegisterOp::Abx => Changed::After(inherent::add_b_to_x(regs)),
         RegisterOp::Andcc => Changed::After(and_codes(regs, memory::read_u8(mem, ea))),
         RegisterOp::Orcc => Changed::After(or_codes(regs, memory::read_u8(mem, ea))),
-        RegisterOp::Exg => transfers::exchange(regs, memory::read_u8(mem, ea)),
-        RegisterOp::Tfr => transfers::transfer(regs, memory::read_u8(mem, ea)),
+        RegisterOp::Exg => exchange(regs, memory::read_u8(mem, ea)),
+        RegisterOp::Tfr => transfer(regs, memory::read_u8(mem, ea)),
     }
 }
