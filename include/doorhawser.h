@@ -119,7 +119,7 @@ typedef struct doorhawser_ran { /* 136 bytes */
 } doorhawser_ran;
 
 typedef struct doorhawser_stopped { /* 144 bytes */
-    doorhawser_outcome outcome;     /* the twin after the run, the device writes of its last step, all bytes read and written; the answer is 0 */
+    doorhawser_outcome outcome;     /* the twin after the run, the device writes of its last step; the answer is 0, and so are reads and writes yet */
     uint64_t reason;                /* why the run ended; 0 with answer 64 */
     uint64_t number;                /* the answer of the step that was refused; 0 with every other reason */
 } doorhawser_stopped;
