@@ -25,14 +25,14 @@ returns c =
     let a = c .before .before .before .before .before .before .before .before .before .args in
     let s = inHand (a .mem .now) (a .journal .now) (a .twin) in
     let z = record-size (a .settings) (a .plan) s _ _ (c .before .before .before .count-entries .ensures .1 (a .mem .now)) (c .before .before .record-length .ensures) in
-    refused-leaves (planAnswer (a .settings) (a .plan) s) s (recorded (a .settings) (a .plan) s) (reported (a .settings .«ram_top») (listed (a .plan .writes))) _ (c .refused2 .result)
+    refused-leaves (planAnswer (a .settings) (a .plan) s) s (recorded (a .settings) (a .plan) s) (reported (a .settings .«ram_top») (listed (a .plan .writes))) (a .plan .reads) (length (listed (a .plan .writes))) _ (c .refused2 .result)
     (plan-full (a .settings) (a .plan) s (c .before .before .before .before .before .enum-told .given .1) (omega (arith, z, c .before .if1 .taken))) (c .refused2 .ensures)
 
 returns-2 : tie.Need-returns-2
 returns-2 c =
     let a = c .before .before .before .before .before .before .args in
     let s = inHand (a .mem .now) (a .journal .now) (a .twin) in
-    refused-leaves (planAnswer (a .settings) (a .plan) s) s (recorded (a .settings) (a .plan) s) (reported (a .settings .«ram_top») (listed (a .plan .writes))) _ (c .refused .result)
+    refused-leaves (planAnswer (a .settings) (a .plan) s) s (recorded (a .settings) (a .plan) s) (reported (a .settings .«ram_top») (listed (a .plan .writes))) (a .plan .reads) (length (listed (a .plan .writes))) _ (c .refused .result)
     (plan-refused (a .settings) (a .plan) s _ (c .before .before .answer .given .1)) (c .refused .ensures)
 
 returns-3 : tie.Need-returns-3
