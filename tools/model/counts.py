@@ -160,6 +160,11 @@ class World:
 # ---- random scenes
 
 
+def most_traffic(rng):
+    """an instruction of many reads or writes"""
+    return rng.choice([b'\x35\xFF', b'\x37\xFF', b'\x34\xFF', b'\x36\xFF', b'\x10\x3F', b'\x11\x3F', b'\x3F', b'\x3C\xFF', b'\x3B'])
+
+
 def memory(rng):
     """pieces of memory, and where code stands"""
     blobs = [(0xBFE0, 0x20)] if rng.random() < 0.3 else []
@@ -168,6 +173,7 @@ def memory(rng):
         blobs.append((at, min(rng.choice([16, 64, 200, 600]), 0x10000 - at)))
     pieces = datapieces(rng) if rng.random() < 0.6 else []
     pieces += [(at, codeblob(rng, at, n, blobs, rng.choice([0, 0.02, 0.1]))) for at, n in blobs]
+    pieces += [(at, most_traffic(rng)[:n]) for at, n in blobs if rng.random() < 0.15]
     pieces.append((0xBFF2, vectors(rng, [lambda: rng.choice(blobs)[0]])))
     return pieces, blobs
 
