@@ -210,7 +210,7 @@ static void twins(void) {
         doorhawser_outcome o = call(n % CALLS, NULL, 0, journal, sizeof journal, t, manual, 0);
         HOLD(refuses(&o, DOORHAWSER_MEMORY_LENGTH, &t));
     }
-    /* NOP: PC, the counters and the counts of the journal alone */
+    /* NOP: PC, the counters and the counts of the journal alone; its opcode is read */
     memset(memory, 0x12, sizeof memory);
     for (int n = 0; n < 20000; n++) {
         t = any_twin();
@@ -222,12 +222,13 @@ static void twins(void) {
         expected.twin.pc++;
         expected.twin.cycles += 2;
         expected.twin.instructions++;
+        expected.reads = 1;
         if (n % 2) expected.twin.records++, expected.twin.bytes += 34;
         doorhawser_outcome o = call(n % 2 ? STEP : STEP_UNRECORDED, memory, sizeof memory, journal, sizeof journal, t, manual, 0);
         HOLD(!memcmp(&o, &expected, sizeof o));
         if (!(n % 2)) continue;
         o = call(UNDO, memory, sizeof memory, journal, sizeof journal, o.twin, manual, 0);
-        HOLD(!memcmp(&o.twin, &t, sizeof t) && !o.answer);
+        HOLD(!memcmp(&o.twin, &t, sizeof t) && !o.answer && !o.reads && !o.writes);
     }
     done("twins there and back");
 }
@@ -245,6 +246,7 @@ static void frames(void) {
         doorhawser_outcome o = doorhawser_interrupt_unrecorded(memory, sizeof memory, t, manual, DOORHAWSER_NMI);
         const uint8_t *at = memory + t.s - 12;
         HOLD(!o.answer && o.twin.s == t.s - 12 && o.twin.pc == 0x9000 && o.twin.wait == DOORHAWSER_RUNNING && o.twin.armed == 1 && !o.count);
+        HOLD(o.reads == 3 && o.writes == 12); /* the vector and the byte that it leads to */
         HOLD(at[0] == (t.cc | 0x80) && at[1] == t.a && at[2] == t.b && at[3] == t.dp);
         HOLD(at[4] << 8 == (t.x & 0xFF00) && at[5] == (t.x & 0xFF) && at[6] << 8 == (t.y & 0xFF00) && at[7] == (t.y & 0xFF));
         HOLD(at[8] << 8 == (t.u & 0xFF00) && at[9] == (t.u & 0xFF) && at[10] << 8 == (t.pc & 0xFF00) && at[11] == (t.pc & 0xFF));
@@ -272,10 +274,10 @@ static void marks(void) {
         HOLD(!memcmp(&o, &expected, sizeof o) && kept());
         t.wait = DOORHAWSER_RUNNING;
         o = doorhawser_step_unrecorded(memory, sizeof memory, t, manual);
-        HOLD(!o.answer && o.twin.s == 0 && o.twin.armed == 1);
+        HOLD(!o.answer && o.twin.s == 0 && o.twin.armed == 1 && o.reads == 4 && !o.writes);
         HOLD(doorhawser_interrupt_unrecorded(memory, sizeof memory, o.twin, manual, DOORHAWSER_NMI).answer == DOORHAWSER_STACK_TOO_SMALL);
         o = doorhawser_reset_unrecorded(memory, sizeof memory, o.twin, manual);
-        HOLD(!o.answer && o.twin.armed == 0);
+        HOLD(!o.answer && o.twin.armed == 0 && o.reads == 2 && !o.writes);
     }
     done("NMI held off");
 }
@@ -297,7 +299,7 @@ static void devices(void) {
                                       : doorhawser_step_unrecorded(memory, sizeof memory, t, manual);
         const uint8_t pc = system ? 0x88 : 0x8A, cc = system ? 0xCC : 0x4C;
         const uint8_t pushed[] = {0x77, pc, 0x55, 0x66, 0x33, 0x44, 0x11, 0x22, 0xBB, 0xAA, 0x99, cc};
-        HOLD(!o.answer && o.count == 12 && !o.reads && !o.writes && kept());
+        HOLD(!o.answer && o.count == 12 && o.reads == (system ? 3 : 2) && o.writes == 12 && kept());
         for (int i = 0; i < 12; i++)
             HOLD(o.devices[i].at == 0xFF00 + at[i] && o.devices[i].byte == pushed[i] && o.devices[i].system == system);
     }
@@ -322,6 +324,7 @@ static void names(void) {
     for (int i = 0; i < 3; i++) {
         doorhawser_outcome o = doorhawser_interrupt_unrecorded(memory, sizeof memory, t, manual, interrupts[i].which);
         HOLD(!o.answer && o.twin.pc == interrupts[i].leads && o.twin.s == t.s - interrupts[i].frame);
+        HOLD(o.reads == 3 && o.writes == interrupts[i].frame);
     }
     memcpy(memory, "\x13\x3C\xFF\x4A", 4); /* SYNC, CWAI #FF, DECA */
     HOLD(doorhawser_step_unrecorded(memory, sizeof memory, t, manual).twin.wait == DOORHAWSER_SYNC);
@@ -449,7 +452,7 @@ static doorhawser_twin back(doorhawser_twin t, size_t length) {
         return t;
     }
     held--;
-    HOLD(!o.answer && !o.count && !memcmp(&o.twin, &before[held], sizeof t) && sum() == sums[held]);
+    HOLD(!o.answer && !o.count && !o.reads && !o.writes && !memcmp(&o.twin, &before[held], sizeof t) && sum() == sums[held]);
     return o.twin;
 }
 
@@ -464,7 +467,7 @@ static doorhawser_twin forget(doorhawser_twin t, size_t length, uint64_t k) {
     doorhawser_twin expected = t;
     expected.records -= k;
     expected.bytes = left;
-    HOLD(!o.answer && !o.count && !memcmp(&o.twin, &expected, sizeof t) && !memcmp(memory, memory_was, sizeof memory));
+    HOLD(!o.answer && !o.count && !o.reads && !o.writes && !memcmp(&o.twin, &expected, sizeof t) && !memcmp(memory, memory_was, sizeof memory));
     HOLD(!memcmp(journal, journal_was + from, left) && !memcmp(journal + left, journal_was + left, sizeof journal - left));
     held -= k;
     memmove(before, before + k, held * sizeof *before);
@@ -488,6 +491,7 @@ static doorhawser_twin forth(doorhawser_twin t, size_t length) {
     uint64_t end = o.twin.bytes, size = end - t.bytes;
     HOLD(o.twin.records == held + 1 && end <= length && size >= 34 && size <= DOORHAWSER_RECORD);
     HOLD(size == 34 + 3u * journal[t.bytes + 32] && journal[end - 1] == size);
+    HOLD(o.reads <= 14 && o.writes <= 12 && o.reads + o.writes <= (which == STEP ? 17 : 15) && o.writes >= journal[t.bytes + 32]);
     HOLD(!memcmp(journal, journal_was, t.bytes) && !memcmp(journal + end, journal_was + end, sizeof journal - end));
     doorhawser_part p = doorhawser_newest(journal, length, o.twin.records, end);
     HOLD(p.at == t.bytes && p.count == size);

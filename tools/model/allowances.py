@@ -19,7 +19,6 @@ sys.path.insert(0, os.path.dirname(os.path.abspath(__file__)))
 from fuzz import built, codeblob, instr, word
 from model import A, B, CC, DP, M64, PC, S, U, X, Y, Machine, Refuse
 
-REPORTED = False  # whether the twin reports the bytes that a step reads and writes
 REASONS = {'refused': 1, 'waits': 2, 'stop': 3, 'device': 4, 'allowance': 5}
 CODE, ROOM = 0x1000, 16
 
@@ -131,10 +130,9 @@ def put(mem, at, data):
 def shown(number, letter, value, devices, m, reads, writes, place):
     at, byte = devices[0] if devices else (0, 0)
     view = ''.join('%02X' % (m.mem[p] if p < len(m.mem) else 0) for p in range(place, place + 4))
-    counts = (reads, writes) if REPORTED or letter == 'U' else (0, 0)
     return '%03d %s %02d %02d %04X %02X %04X %02X %d %010d %010d %016X %016X %05d %05d %s %08X %08X\n' % (
         number, letter, value, len(devices), at, byte, m.r[PC], m.r[CC], m.wait, m.cycles, m.instrs, m.records(), m.used,
-        *counts, view, zlib.adler32(bytes(m.mem)), zlib.adler32(bytes(m.bytes)))
+        reads, writes, view, zlib.adler32(bytes(m.mem)), zlib.adler32(bytes(m.bytes)))
 
 
 def played(number, f, seen):
