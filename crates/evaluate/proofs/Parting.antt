@@ -17,7 +17,7 @@ use Rattle.evaluate.specs.Evaluate.{effectOf}
 use Rattle.evaluate.specs.Parting.{InstructionParts, on-registers, on-memory, InstructionsPart}
 
 -- the same parting, where the case is named otherwise
-renamed : {r q : Set} {C D : Type 0} → PartInV r q C → (C → D) → (D → C) → PartInV r q D
+pub renamed : {r q : Set} {C D : Type 0} → PartInV r q C → (C → D) → (D → C) → PartInV r q D
 renamed p f g = record {
   a = p .a;
   b = p .b;
