@@ -56,7 +56,8 @@ fn change(machine: Machine, cycles: u16, arms: bool, reads: u8, regs: Set) -> Pl
     }
 }
 
-fn finish(machine: Machine, cycles: u16, arms: bool, reads: u8, effect: Effect) -> Plan
+// An operation's effect as a plan: its refusal, or the machine after the instruction and what is to be written.
+pub fn finish(machine: Machine, cycles: u16, arms: bool, reads: u8, effect: Effect) -> Plan
     ensures { λ r. ⌜ r ≡ finished machine cycles arms reads effect ⌝ }
 {
     let answer = effect.answer;
