@@ -117,8 +117,8 @@ fn plan_free(mem: &[u8], machine: Machine, settings: Settings, decision: Decisio
     }
 }
 
-// What it would store is judged once it is listed.
-fn fence(settings: Settings, machine: Machine, plan: Plan) -> Plan
+// What a plan would store is judged once it is listed. Each plan of a step passes here.
+pub fn fence(settings: Settings, machine: Machine, plan: Plan) -> Plan
     ensures { λ r. ⌜ r ≡ fenced settings machine plan ⌝ }
 {
     let writes = plan.writes;

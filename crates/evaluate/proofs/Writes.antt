@@ -85,7 +85,7 @@ of-jsr r ea =
     let p = pushed r S 0x80 false in
     once r (p .answer) (stores (jumped (p .regs) ea) (p .writes)) (pushes r false (r .s) (registersNamed S 0x80)) (λ a d. of-push r S 0x80 false a)
 
-of-frame : (r : Set) (entire : Bool) → Lists (framed r entire) (frameWrites r entire)
+pub of-frame : (r : Set) (entire : Bool) → Lists (framed r entire) (frameWrites r entire)
 unfolding framed
 of-frame r entire =
     let q = withCodes r (put E entire (r .cc)) in
