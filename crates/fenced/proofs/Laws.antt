@@ -50,6 +50,7 @@ use Rattle.vectors.specs.declared.table.Vector.{Vector}
 use Rattle.vectors.proofs.Laws.{vectors-refuse-exactly}
 use Rattle.evaluate.specs.Arming.{arms}
 use Rattle.evaluate.specs.Evaluate.{evaluateOf}
+use Rattle.evaluate.specs.Room.{isSmall}
 use Rattle.evaluate.specs.Writes.{frameWrites, memoryMakes, madeBy}
 use Rattle.cycles.specs.Cycles.{cyclesOf}
 use Rattle.bus.specs.Reads.{instructionReads}
@@ -69,9 +70,6 @@ use Rattle.refusals.specs.Steps.{Met}
 use Rattle.refusals.proofs.Operations.{frame-listed}
 use Rattle.refusals.proofs.Steps.{steps-refused}
 use Rattle.fenced.specs.Laws.{CallsWithin, fencedFrame, InterruptFencedExactly, CallFree, AllAllowedFree, SamePlaces}
-
-not-done : {A : Type 0} {x : Answer} → x ≡ Done → x ≡ Refused Fenced → A
-not-done e f = let z : _≡_ {A = ℕ} 0 1 = cc in absurd (omega arith)
 
 -- ---- what a call stores passes the fence
 
@@ -161,15 +159,19 @@ answered m n e Done = refl
 answered m n e (Refused x) = refl
 
 module _ (mem : List ℕ) (s : Settings) (r : Set) (v : Vector) where
+  -- whether the vector leads to a zero byte
+  abbrev leads : List ℕ → Bool
+  leads at = eqb (byteAt at (wordAt at (addressOf v))) 0
+
   running : is28 (vectored mem s r (framed r (isEntire v)) v .answer) ≡ (not (ltb (r .s) (cond (isEntire v) 12 3)) && bars s (frameWrites r (isEntire v)))
   running =
       ap (λ (n : ℕ). eqb n 28) (vectors-refuse-exactly .running mem s r v)
-      ∙ frame-28 (ltb (r .s) (cond (isEntire v) 12 3)) (bars s (listed (framed r (isEntire v) .writes))) (bars s (frameWrites r (isEntire v))) _ (λ e. ap (bars s) (frame-listed r (isEntire v) e))
+      ∙ frame-28 (ltb (r .s) (cond (isEntire v) 12 3)) (bars s (listed (framed r (isEntire v) .writes))) (bars s (frameWrites r (isEntire v))) (leads (stored (s .«ram_top») (listed (framed r (isEntire v) .writes)) mem)) (λ e. ap (bars s) (frame-listed r (isEntire v) e))
 
   taken-28 : (w : Wait) → is28 (taken w mem s r v .answer) ≡ fencedFrame w s r v
   taken-28 Running = running
   taken-28 Sync = running
-  taken-28 Cwai = ap (λ (n : ℕ). eqb n 28) (vectors-refuse-exactly .inCwai mem s r v) ∙ no-28 _
+  taken-28 Cwai = ap (λ (n : ℕ). eqb n 28) (vectors-refuse-exactly .inCwai mem s r v) ∙ no-28 (leads mem)
 
 pub interrupt-fenced-exactly : InterruptFencedExactly
 unfolding interruptPlan
@@ -257,7 +259,7 @@ module _ (s : Settings) (free : s .profile ≡ everywhere) (mem : List ℕ) (m :
 
   never : (a : Reached) → ReachedFits a → Met a (λ op r ea. isFenced op s mem r ea) → ⊥
   never (At i r ea) k e =
-      no-fence (bars s (madeBy (i .entry .op) s mem r ea)) _ (all-allowed s (madeBy (i .entry .op) s mem r ea) free (made-map s mem r ea (k .0) (k .1) (i .entry .op))) e
+      no-fence (bars s (madeBy (i .entry .op) s mem r ea)) (isSmall (i .entry .op) r (byteAt mem ea)) (all-allowed s (madeBy (i .entry .op) s mem r ea) free (made-map s mem r ea (k .0) (k .1) (i .entry .op))) e
   never (NotReached x) k e = e
 
   free-interrupt : (i : InterruptType) → eqb (numberOfAnswer (interruptPlan mem m s i .answer)) 28 ≡ false
@@ -276,11 +278,11 @@ module _ (s : Settings) (free : s .profile ≡ everywhere) (mem : List ℕ) (m :
       go : (l k : Bool) (w : Wait) → cond l (cond k false (fencedFrame w s (m .regs) v)) false ≡ false
       go false k w = refl
       go true true w = refl
-      go true false Running = away _
-      go true false Sync = away _
+      go true false Running = away (ltb (m .regs .s) (cond (isEntire v) 12 3))
+      go true false Sync = away (ltb (m .regs .s) (cond (isEntire v) 12 3))
       go true false Cwai = refl
 
-reset-free : (l : Bool) → cond l 0 1 ≡ 28 → ⊥
+reset-free : (l : Bool) → _≡_ {A = ℕ} (cond l 0 1) 28 → ⊥
 reset-free true e = omega arith
 reset-free false e = omega arith
 
