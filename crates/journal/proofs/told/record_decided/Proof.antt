@@ -11,7 +11,7 @@ conclude-told-requires c κs = ((c .before .before .before .before .before .befo
 
 returns : tie.Need-returns
 returns c =
-    let d = c .before .before .before .before .before .before in
+    let d = c .before .before .before .before .before .before .before in
     let a = d .before .before .before .before .before .args in
     let e = plain-free (a .twin .machine) (a .settings) (a .mem .now) (a .decision) (sym (d .before .is-plain .ensures) ∙ d .if1 .taken) in
     rw e (c .before .before .before .before .conclude-told .ensures)
