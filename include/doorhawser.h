@@ -45,8 +45,8 @@ extern "C" {
 #endif
 
 /* Raised by each change of a struct below, or of what a call takes. */
-enum { DOORHAWSER_ABI = 3 };
-enum { DOORHAWSER_MEMORY = 65536, DOORHAWSER_RECORD = 70, DOORHAWSER_DEVICES = 12, DOORHAWSER_LINE = 48 }; /* a record has at most 70 bytes */
+enum { DOORHAWSER_ABI = 4 };
+enum { DOORHAWSER_MEMORY = 65536, DOORHAWSER_RECORD = 70, DOORHAWSER_DEVICES = 12, DOORHAWSER_LINE = 48, DOORHAWSER_RANGES = 8 }; /* a record has at most 70 bytes */
 enum { DOORHAWSER_DUMP = 65568, DOORHAWSER_ENTRY = 17, DOORHAWSER_ENTRIES = 32781 }; /* bytes of a dump and of an entry; the most entries */
 
 enum { DOORHAWSER_BOUGHT = 0, DOORHAWSER_MANUAL = 1 };                     /* flags: as the bought emulator sets them, or by the manual */
@@ -79,15 +79,24 @@ enum {
     DOORHAWSER_LINE_SHORT = 25,      /* disassemble: the line is shorter than 48 bytes */
     DOORHAWSER_TOO_FEW_RECORDS = 26, /* drop of more records than are held */
     DOORHAWSER_LIST_SHORT = 27,      /* compare: the list is too short for all entries */
+    DOORHAWSER_FENCED = 28,          /* a byte would be stored at a place outside every range of the profile */
     DOORHAWSER_SALVAGE_SHORT = 29,   /* salvage: the output or the list is too short */
     DOORHAWSER_UNNAMED = 64          /* wait, armed, flags, which or stop outside its range, or a spare field not 0; judged before all others */
 };
 
-typedef struct doorhawser_settings { /* 4 bytes */
+typedef struct doorhawser_range { /* 4 bytes */
+    uint16_t first, last;         /* both included; empty where first is above last */
+} doorhawser_range;
+
+typedef struct doorhawser_settings { /* 36 bytes */
     uint16_t ram_top;                /* the last address that a program's writes reach */
     uint8_t flags;
-    uint8_t spare; /* 0 */
+    uint8_t spare;                              /* 0 */
+    doorhawser_range profile[DOORHAWSER_RANGES]; /* the places where a call may store; a call that would store elsewhere is refused, with 28 */
 } doorhawser_settings;
+
+/* For profile: 0000 to FFFF, then seven empty ranges. All zeros would allow place 0000 alone. */
+#define DOORHAWSER_ALL_ALLOWED {{0, 0xFFFF}, {1, 0}, {1, 0}, {1, 0}, {1, 0}, {1, 0}, {1, 0}, {1, 0}}
 
 typedef struct doorhawser_twin { /* 48 bytes */
     uint64_t cycles, instructions;
@@ -155,10 +164,14 @@ typedef struct doorhawser_undumped { /* 56 bytes */
 #define DOORHAWSER_SIZE(type, size) DOORHAWSER_HOLDS(sizeof(type) == (size))
 #define DOORHAWSER_AT(type, field, at) DOORHAWSER_HOLDS(offsetof(type, field) == (at))
 DOORHAWSER_HOLDS(sizeof(void *) == 8 && sizeof(size_t) == 8);
-DOORHAWSER_SIZE(doorhawser_settings, 4);
+DOORHAWSER_SIZE(doorhawser_range, 4);
+DOORHAWSER_AT(doorhawser_range, first, 0);
+DOORHAWSER_AT(doorhawser_range, last, 2);
+DOORHAWSER_SIZE(doorhawser_settings, 36);
 DOORHAWSER_AT(doorhawser_settings, ram_top, 0);
 DOORHAWSER_AT(doorhawser_settings, flags, 2);
 DOORHAWSER_AT(doorhawser_settings, spare, 3);
+DOORHAWSER_AT(doorhawser_settings, profile, 4);
 DOORHAWSER_SIZE(doorhawser_twin, 48);
 DOORHAWSER_AT(doorhawser_twin, cycles, 0);
 DOORHAWSER_AT(doorhawser_twin, instructions, 8);

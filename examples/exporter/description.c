@@ -316,6 +316,8 @@ static void complete(Description *d) {
     if (!d->firmware) fault(d->path, 0, "no line says firmware");
     if (!d->has_ram_top) d->settings.ram_top = 0xFFFF;
     if (!d->has_flags) d->settings.flags = DOORHAWSER_MANUAL;
+    static const doorhawser_range all[DOORHAWSER_RANGES] = DOORHAWSER_ALL_ALLOWED;
+    memcpy(d->settings.profile, all, sizeof all);
     if (!d->run) d->run = 1000000;
     for (size_t i = 0; i < d->metric_count; i++) {
         Metric *m = &d->metrics[i];

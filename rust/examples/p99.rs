@@ -3,7 +3,7 @@
 use doorhawser::{Flags, Settings, Twin};
 
 fn p99(text: &[u8], flags: Flags) -> Result<String, Box<dyn std::error::Error>> {
-    let mut twin = Twin::new(Settings { ram_top: 0x7FFF, flags }, 0);
+    let mut twin = Twin::new(Settings::new(0x7FFF, flags), 0);
     twin.load(text)?;
     twin.reset_unrecorded()?;
     let ran = twin.run(1_000_000); // up to SYNC, at which a step is refused

@@ -6,7 +6,7 @@
 //!
 //! ```no_run
 //! use doorhawser::{Flags, Settings, Twin};
-//! let mut twin = Twin::new(Settings { ram_top: 0x7FFF, flags: Flags::Manual }, 932);
+//! let mut twin = Twin::new(Settings::new(0x7FFF, Flags::Manual), 932);
 //! twin.load(b"S105BFFE10002D\nS10510005F5A31\nS9031000EC\n").unwrap();
 //! twin.reset().unwrap();
 //! twin.step().unwrap();
@@ -57,6 +57,21 @@ pub enum Interrupt {
     Nmi = 2,
 }
 
+/// A range of places, both ends included; empty where `first` is above `last`.
+#[derive(Clone, Copy, Debug, PartialEq, Eq, Hash)]
+#[allow(missing_docs)]
+pub struct Range {
+    pub first: u16,
+    pub last: u16,
+}
+
+/// The profile that allows all stores: 0000 to FFFF, then seven empty ranges.
+pub const ALL_ALLOWED: [Range; 8] = {
+    let mut profile = [Range { first: 1, last: 0 }; 8];
+    profile[0] = Range { first: 0, last: 0xFFFF };
+    profile
+};
+
 /// What a twin is run with.
 #[derive(Clone, Copy, Debug, PartialEq, Eq, Hash)]
 pub struct Settings {
@@ -64,11 +79,19 @@ pub struct Settings {
     pub ram_top: u16,
     /// whose rules set the flags
     pub flags: Flags,
+    /// where a call may store; a call that would store at a place outside all of them is refused, with 28
+    pub profile: [Range; 8],
 }
 
 impl Settings {
+    /// With all stores allowed.
+    pub fn new(ram_top: u16, flags: Flags) -> Settings {
+        Settings { ram_top, flags, profile: ALL_ALLOWED }
+    }
+
     fn raw(self) -> raw::Settings {
-        raw::Settings { ram_top: self.ram_top, flags: self.flags as u8, spare: 0 }
+        let profile = self.profile.map(|r| raw::Range { first: r.first, last: r.last });
+        raw::Settings { ram_top: self.ram_top, flags: self.flags as u8, spare: 0, profile }
     }
 }
 

@@ -1,7 +1,7 @@
 //! The declarations of include/doorhawser.h. No proof ties them to crates/host: tests/twin.rs holds the layout, and `abi` has to be `ABI`.
 use std::mem::size_of;
 
-pub const ABI: u64 = 3;
+pub const ABI: u64 = 4;
 pub const MEMORY: usize = 65536;
 pub const RECORD: usize = 70;
 pub const DEVICES: usize = 12;
@@ -10,6 +10,14 @@ pub const DUMP: usize = 65568;
 pub const ENTRY: usize = 17;
 pub const ENTRIES: usize = 32781;
 pub const NO_STOP: u32 = 65536;
+pub const RANGES: usize = 8;
+
+#[repr(C)]
+#[derive(Clone, Copy, Debug, PartialEq, Eq)]
+pub struct Range {
+    pub first: u16,
+    pub last: u16,
+}
 
 #[repr(C)]
 #[derive(Clone, Copy, Debug, PartialEq, Eq)]
@@ -17,6 +25,7 @@ pub struct Settings {
     pub ram_top: u16,
     pub flags: u8,
     pub spare: u8,
+    pub profile: [Range; RANGES],
 }
 
 #[repr(C)]
@@ -110,7 +119,7 @@ pub struct Undumped {
     pub answer: u64,
 }
 
-const _: () = assert!(size_of::<usize>() == 8 && size_of::<Settings>() == 4 && size_of::<Twin>() == 48 && size_of::<Write>() == 4);
+const _: () = assert!(size_of::<usize>() == 8 && size_of::<Range>() == 4 && size_of::<Settings>() == 36 && size_of::<Twin>() == 48 && size_of::<Write>() == 4);
 const _: () = assert!(size_of::<Outcome>() == 128 && size_of::<Ran>() == 136 && size_of::<Stopped>() == 144);
 const _: () = assert!(size_of::<Part>() == 16 && size_of::<Loaded>() == 16 && size_of::<Written>() == 16 && size_of::<Salvaged>() == 32);
 const _: () = assert!(size_of::<Undumped>() == 56);

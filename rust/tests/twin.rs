@@ -2,7 +2,7 @@
 use doorhawser::{raw, DeviceWrite, Difference, Flags, Interrupt, Reason, Refused, Registers, Salvaged, Settings, Twin, Wait};
 
 fn twin(flags: Flags, records: usize) -> Twin {
-    Twin::new(Settings { ram_top: 0x7FFF, flags }, records)
+    Twin::new(Settings::new(0x7FFF, flags), records)
 }
 
 fn put(t: &mut Twin, at: usize, bytes: &[u8]) {
@@ -255,7 +255,9 @@ fn the_layout_is_the_headers() {
     let t = unsafe { raw::doorhawser_start() };
     let w = raw::Write { at: 0, byte: 0, system: 0 };
     let o = raw::Outcome { twin: t, devices: [w; 12], count: 0, reads: 0, writes: 0, answer: 0 };
-    assert_eq!(at!(raw::Settings { ram_top: 0, flags: 0, spare: 0 }, ram_top, flags, spare), [0, 2, 3]);
+    let none = [raw::Range { first: 0, last: 0 }; raw::RANGES];
+    assert_eq!(at!(raw::Range { first: 0, last: 0 }, first, last), [0, 2]);
+    assert_eq!(at!(raw::Settings { ram_top: 0, flags: 0, spare: 0, profile: none }, ram_top, flags, spare, profile), [0, 2, 3, 4]);
     let fields = at!(t, cycles, instructions, records, bytes, x, y, u, s, pc, a, b, dp, cc, wait, armed);
     assert_eq!(fields, [0, 8, 16, 24, 32, 34, 36, 38, 40, 42, 43, 44, 45, 46, 47]);
     assert_eq!(at!(w, at, byte, system), [0, 2, 3]);

@@ -43,7 +43,7 @@ int main(void)
         return 2;
     fread(memory + CODE, 1, sizeof memory - CODE, stdin);
     doorhawser_twin twin = { .a = 1, .b = 2, .x = 0x3000, .y = 0x3100, .u = 0x3200, .s = 0x7000, .pc = CODE, .cc = 0x50 };
-    doorhawser_settings settings = { .ram_top = 0x7FFF, .flags = DOORHAWSER_MANUAL };
+    doorhawser_settings settings = { .ram_top = 0x7FFF, .flags = DOORHAWSER_MANUAL, .profile = DOORHAWSER_ALL_ALLOWED };
     uint32_t count = (uint32_t)head[1] << 24 | head[2] << 16 | head[3] << 8 | head[4];
     int failed = head[0] == 'L' ? run(&twin, settings, count) : steps(&twin, settings, count, head[5] << 8 | head[6]);
     putchar(twin.cycles >> 8 & 255), putchar(twin.cycles & 255), putchar(twin.records >> 8 & 255), putchar(twin.records & 255);

@@ -7,7 +7,7 @@
 
 enum { JOURNAL = 960 * DOORHAWSER_RECORD };
 static uint8_t memory[DOORHAWSER_MEMORY], memory_was[DOORHAWSER_MEMORY], journal[JOURNAL], journal_was[JOURNAL];
-static const doorhawser_settings manual = {0xFFFF, DOORHAWSER_MANUAL, 0};
+static const doorhawser_settings manual = {0xFFFF, DOORHAWSER_MANUAL, 0, DOORHAWSER_ALL_ALLOWED};
 static unsigned long tried;
 
 #define HOLD(test) \
@@ -112,7 +112,7 @@ static void out_of_range(void) {
         int interrupts = which == INTERRUPT || which == INTERRUPT_UNRECORDED, settings = which != UNDO;
         for (unsigned n = 1; n < 256; n++) {
             doorhawser_twin t = any_twin(), bad = t;
-            doorhawser_settings s = {(uint16_t)any(), (uint8_t)(any() & 1), 0}, off = s;
+            doorhawser_settings s = {(uint16_t)any(), (uint8_t)(any() & 1), 0, DOORHAWSER_ALL_ALLOWED}, off = s;
             uint8_t i = (uint8_t)(any() % 3), byte = (uint8_t)n;
             bad.wait = byte;
             if (n > 2) unnamed(which, bad, s, i);
@@ -331,7 +331,7 @@ static void names(void) {
     t.pc = 1;
     HOLD(doorhawser_step_unrecorded(memory, sizeof memory, t, manual).twin.wait == DOORHAWSER_CWAI);
     t.pc = 3;
-    doorhawser_settings bought = {0xFFFF, DOORHAWSER_BOUGHT, 0};
+    doorhawser_settings bought = {0xFFFF, DOORHAWSER_BOUGHT, 0, DOORHAWSER_ALL_ALLOWED};
     HOLD(doorhawser_step_unrecorded(memory, sizeof memory, t, manual).twin.cc == 0x08);
     HOLD(doorhawser_step_unrecorded(memory, sizeof memory, t, bought).twin.cc == 0x0A);
     done("what numbers name");
@@ -359,7 +359,7 @@ static void runs(void) {
         for (int i = 0; n % 4 == 3 && i < 1000; i++) memcpy(memory + any() % 0xBF00, "\xB7\xFF\x02", 3);
         memcpy(other, memory, sizeof other);
         doorhawser_twin t = any_twin();
-        doorhawser_settings s = {(uint16_t)any(), (uint8_t)(any() & 1), 0};
+        doorhawser_settings s = {(uint16_t)any(), (uint8_t)(any() & 1), 0, DOORHAWSER_ALL_ALLOWED};
         if (n % 8) t.wait = DOORHAWSER_RUNNING;
         uint64_t count = any() % 40;
         doorhawser_ran r = doorhawser_run_unrecorded(memory, sizeof memory, t, s, count), e = by_steps(other, t, s, count);
@@ -412,7 +412,7 @@ static void allowances(void) {
         memcpy(other, memory, sizeof other);
         memcpy(other_journal, journal, sizeof journal);
         doorhawser_twin t = any_twin();
-        doorhawser_settings s = {(uint16_t)any(), (uint8_t)(any() & 1), 0};
+        doorhawser_settings s = {(uint16_t)any(), (uint8_t)(any() & 1), 0, DOORHAWSER_ALL_ALLOWED};
         if (n % 16) t.wait = DOORHAWSER_RUNNING;
         if (n % 4) t.pc = (uint16_t)(t.pc % 0xBF00);
         if (n % 2) t.records = t.bytes = 0;
@@ -478,7 +478,7 @@ static doorhawser_twin forget(doorhawser_twin t, size_t length, uint64_t k) {
 
 /* A call that is accepted leaves a record behind the bytes in use, of 34 bytes and 3 for each entry, and no other byte of the journal. */
 static doorhawser_twin forth(doorhawser_twin t, size_t length) {
-    doorhawser_settings s = {(uint16_t)any(), (uint8_t)(any() & 1), 0};
+    doorhawser_settings s = {(uint16_t)any(), (uint8_t)(any() & 1), 0, DOORHAWSER_ALL_ALLOWED};
     int which = any() % 4 ? STEP : any() % 4 ? INTERRUPT : RESET;
     uint64_t now = sum();
     doorhawser_outcome o = call(which, memory, sizeof memory, journal, length, t, s, (uint8_t)(any() % 3));

@@ -10,11 +10,11 @@ static uint8_t all[3 * DOORHAWSER_MEMORY];
 
 static void make(const char *call, uint8_t *m, size_t ml, uint8_t *o, size_t ol) {
     /* a struct written out in the call: its commas are not the macro's */
-    if (!strcmp(call, "step")) doorhawser_step(m, ml, o, ol, doorhawser_start(), (doorhawser_settings){0x7FFF, DOORHAWSER_MANUAL, 0});
-    if (!strcmp(call, "interrupt")) doorhawser_interrupt(m, ml, o, ol, doorhawser_start(), (doorhawser_settings){0x7FFF, 1, 0}, DOORHAWSER_IRQ);
-    if (!strcmp(call, "reset")) doorhawser_reset(m, ml, o, ol, doorhawser_start(), (doorhawser_settings){0x7FFF, 1, 0});
+    if (!strcmp(call, "step")) doorhawser_step(m, ml, o, ol, doorhawser_start(), (doorhawser_settings){0x7FFF, DOORHAWSER_MANUAL, 0, DOORHAWSER_ALL_ALLOWED});
+    if (!strcmp(call, "interrupt")) doorhawser_interrupt(m, ml, o, ol, doorhawser_start(), (doorhawser_settings){0x7FFF, 1, 0, DOORHAWSER_ALL_ALLOWED}, DOORHAWSER_IRQ);
+    if (!strcmp(call, "reset")) doorhawser_reset(m, ml, o, ol, doorhawser_start(), (doorhawser_settings){0x7FFF, 1, 0, DOORHAWSER_ALL_ALLOWED});
     if (!strcmp(call, "undo")) doorhawser_undo(m, ml, o, ol, doorhawser_start());
-    if (!strcmp(call, "run")) doorhawser_run(m, ml, o, ol, doorhawser_start(), (doorhawser_settings){0x7FFF, 1, 0}, 1, DOORHAWSER_NO_STOP);
+    if (!strcmp(call, "run")) doorhawser_run(m, ml, o, ol, doorhawser_start(), (doorhawser_settings){0x7FFF, 1, 0, DOORHAWSER_ALL_ALLOWED}, 1, DOORHAWSER_NO_STOP);
     if (!strcmp(call, "load")) doorhawser_load(m, ml, o, ol);
     if (!strcmp(call, "save")) doorhawser_save(m, ml, 0, o, ol);
     if (!strcmp(call, "salvage")) doorhawser_salvage(m, ml, o, ol, NULL, 0);

@@ -294,6 +294,7 @@ class Machine:
         self.mem = mem
         self.ram_top = ram_top
         self.man = manual
+        self.ranges = [(0, 0xFFFF)]  # document 02 [14]: the profile, as first and last; all allowed
         self.r = [0, 0, 0, 0, 0, 0, 0, 0, 0x50]
         self.wait = 0
         self.armed = False     # document 02 [5]: S has been loaded, so that NMI is let in
@@ -327,7 +328,11 @@ class Machine:
         return None
 
     def apply(self, writes, system):
-        """-> stored [(place, old)], device [(addr, byte)]"""
+        """-> stored [(place, old)], device [(addr, byte)]; 28, and nothing is stored, if a place lies outside the profile (document 02, [14])"""
+        for a, _ in writes:
+            p = self.place(a, system)
+            if p not in (None, 'dev') and not any(first <= p <= last for first, last in self.ranges):
+                raise Refuse(28)
         stored = []
         dev = []
         mem = self.mem

@@ -8,7 +8,7 @@ use native.Mathlib.Omega.{arith}
 use lib.ListN.{getD}
 use Rattle.answers.specs.Numbers.{numberOf, RefusedByANumber, SixWithdrawn, NumbersApart, NumbersSmall}
 use Rattle.answers.specs.declared.Refusal.{Refusal}
-use Rattle.answers.specs.declared.Refusal.the-variants.{MemoryLength, Waiting, Opcode, PastEnd, PostByte, TransferCode, StackTooSmall, ZeroAtVector, JournalFull, NoRecord, JournalLength, DivisionByZero, LeftByte, NoRoom, Malformed, OutputShort, LineShape, Checksum, PastTop, NoEnd, PostByte8F, TooFewRecords, SalvageShort, ListShort, LineShort}
+use Rattle.answers.specs.declared.Refusal.the-variants.{MemoryLength, Waiting, Opcode, PastEnd, PostByte, TransferCode, StackTooSmall, ZeroAtVector, JournalFull, NoRecord, JournalLength, DivisionByZero, LeftByte, NoRoom, Malformed, OutputShort, LineShape, Checksum, PastTop, NoEnd, PostByte8F, TooFewRecords, Fenced, SalvageShort, ListShort, LineShort}
 
 pub refused-by-a-number : RefusedByANumber
 refused-by-a-number MemoryLength = omega arith
@@ -35,6 +35,7 @@ refused-by-a-number PostByte8F = omega arith
 refused-by-a-number LineShort = omega arith
 refused-by-a-number TooFewRecords = omega arith
 refused-by-a-number ListShort = omega arith
+refused-by-a-number Fenced = omega arith
 refused-by-a-number SalvageShort = omega arith
 
 pub numbers-small : NumbersSmall
@@ -62,13 +63,14 @@ numbers-small PostByte8F = omega arith
 numbers-small LineShort = omega arith
 numbers-small TooFewRecords = omega arith
 numbers-small ListShort = omega arith
+numbers-small Fenced = omega arith
 numbers-small SalvageShort = omega arith
 
--- the refusal of a number, by the table's places; 6, 18, 19 and 28 are not used
+-- the refusal of a number, by the table's places; 6, 18 and 19 are not used
 abbrev refusalOf : ℕ → Refusal
 refusalOf n =
     getD
-    (SalvageShort ∷ MemoryLength ∷ Waiting ∷ Opcode ∷ PastEnd ∷ PostByte ∷ SalvageShort ∷ TransferCode ∷ StackTooSmall ∷ ZeroAtVector ∷ JournalFull ∷ NoRecord ∷ JournalLength ∷ DivisionByZero ∷ LeftByte ∷ NoRoom ∷ Malformed ∷ OutputShort ∷ SalvageShort ∷ SalvageShort ∷ LineShape ∷ Checksum ∷ PastTop ∷ NoEnd ∷ PostByte8F ∷ LineShort ∷ TooFewRecords ∷ ListShort ∷ [])
+    (SalvageShort ∷ MemoryLength ∷ Waiting ∷ Opcode ∷ PastEnd ∷ PostByte ∷ SalvageShort ∷ TransferCode ∷ StackTooSmall ∷ ZeroAtVector ∷ JournalFull ∷ NoRecord ∷ JournalLength ∷ DivisionByZero ∷ LeftByte ∷ NoRoom ∷ Malformed ∷ OutputShort ∷ SalvageShort ∷ SalvageShort ∷ LineShape ∷ Checksum ∷ PastTop ∷ NoEnd ∷ PostByte8F ∷ LineShort ∷ TooFewRecords ∷ ListShort ∷ Fenced ∷ [])
     n SalvageShort
 
 back : (x : Refusal) → refusalOf (numberOf x) ≡ x
@@ -95,6 +97,7 @@ back NoEnd = refl
 back PostByte8F = refl
 back LineShort = refl
 back TooFewRecords = refl
+back Fenced = refl
 back SalvageShort = refl
 back ListShort = refl
 

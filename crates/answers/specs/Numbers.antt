@@ -6,7 +6,7 @@ use mathlib.Core.Path.{_≡_}
 use Rattle.answers.specs.declared.Answer.{Answer}
 use Rattle.answers.specs.declared.Answer.the-variants.{Done, Refused}
 use Rattle.answers.specs.declared.Refusal.{Refusal}
-use Rattle.answers.specs.declared.Refusal.the-variants.{MemoryLength, Waiting, Opcode, PastEnd, PostByte, TransferCode, StackTooSmall, ZeroAtVector, JournalFull, NoRecord, JournalLength, DivisionByZero, LeftByte, NoRoom, Malformed, OutputShort, LineShape, Checksum, PastTop, NoEnd, PostByte8F, TooFewRecords, SalvageShort, ListShort, LineShort}
+use Rattle.answers.specs.declared.Refusal.the-variants.{MemoryLength, Waiting, Opcode, PastEnd, PostByte, TransferCode, StackTooSmall, ZeroAtVector, JournalFull, NoRecord, JournalLength, DivisionByZero, LeftByte, NoRoom, Malformed, OutputShort, LineShape, Checksum, PastTop, NoEnd, PostByte8F, TooFewRecords, Fenced, SalvageShort, ListShort, LineShort}
 
 abbrev pub numberOf : Refusal → ℕ
 -- memory is not 65,536 bytes
@@ -57,6 +57,8 @@ numberOf LineShort = 25
 numberOf TooFewRecords = 26
 -- [10]: the list is too short for all entries
 numberOf ListShort = 27
+-- [14]: a byte would be stored at a place outside every range of the profile
+numberOf Fenced = 28
 -- [14]: the output or the list of a salvage is too short
 numberOf SalvageShort = 29
 

@@ -28,6 +28,7 @@ pub enum Refusal {
     LineShort,
     TooFewRecords,
     ListShort,
+    Fenced,
     SalvageShort,
 }
 
@@ -65,6 +66,7 @@ impl Refusal {
             Refusal::LineShort => 25,
             Refusal::TooFewRecords => 26,
             Refusal::ListShort => 27,
+            Refusal::Fenced => 28,
             Refusal::SalvageShort => 29,
         }
     }

@@ -4,7 +4,7 @@ use Prim.Native.Nat.{ℕ}
 use mathlib.Core.Bool.{Bool, true, false, cond}
 use mathlib.Core.List.{List}
 use mathlib.Core.Logic.{_≢_}
-use mathlib.Core.Path.{_≡_, refl}
+use mathlib.Core.Path.{_≡_, refl, ap, _∙_}
 use lib.Dec.{eqb}
 use lib.ListN.{length}
 use borrow.Author.Tests.{eq-eqb}
@@ -12,23 +12,25 @@ use Rattle.answers.specs.Numbers.{numberOfAnswer}
 use Rattle.answers.specs.declared.Refusal.the-variants.{MemoryLength, Waiting}
 use Rattle.registers.specs.declared.Flags.{Flags}
 use Rattle.memory.specs.Map.{wordAt}
-use Rattle.machine.specs.Machine.{withRegisters, settingsOf}
+use Rattle.machine.specs.Machine.{withRegisters, settingsWith}
 use Rattle.machine.specs.declared.Machine.{Machine}
 use Rattle.machine.specs.declared.Settings.{Settings}
 use Rattle.machine.specs.declared.Wait.{Wait}
+use Rattle.machine.specs.declared.fence.Range.{Range}
 use Rattle.machine.specs.declared.Wait.the-variants.{Running, Cwai, Sync}
 use Rattle.vectors.specs.Service.{vectored}
 use Rattle.bus.specs.Reads.{bytesFrom}
 use Rattle.calls.specs.Accepted.{WaitsRefused, MaskedStays, ResetAccepted, ResetRefusesExactly, AnyFlags}
-use Rattle.calls.specs.Plans.{refusedWith, accepted}
+use Rattle.calls.specs.Plans.{refusedWith, accepted, fenced}
 use Rattle.calls.specs.Steps.{unlessWaiting, reached, planned, stepPlan}
 use Rattle.calls.specs.Interrupts.{vectorOf, isHeldOff, taken, takenReads, afterHeldOff, takenBy, interruptPlan}
 use Rattle.calls.specs.declared.InterruptType.{InterruptType}
 use Rattle.calls.specs.Resets.{resetTo, resetPlan}
+use Rattle.calls.proofs.Passing.{refused-free}
 
 pub waits-refused : WaitsRefused
 unfolding stepPlan reached
-waits-refused mem m s size n = rw (eq-eqb (length mem) 65536 size) (go (m .wait) n)
+waits-refused mem m s size n = rw (eq-eqb (length mem) 65536 size) (ap (fenced s m) (go (m .wait) n) ∙ refused-free s m Waiting)
   where
     go : (w : Wait) → w ≢ Running → planned mem m s (unlessWaiting w mem (m .regs)) ≡ refusedWith m Waiting
     go Running k = absurd (k refl)
@@ -54,13 +56,13 @@ reset-refuses-exactly mem m = go (eqb (length mem) 65536) _
 pub any-flags : AnyFlags
 unfolding interruptPlan vectored
 any-flags = record {
-  interrupt = λ mem m top f g i. go mem m top f g i (m .wait);
-  reset = λ mem m top f g. refl;
+  interrupt = λ mem m top rs f g i. go mem m top rs f g i (m .wait);
+  reset = λ mem m top rs f g. refl;
 }
   where
-    go : (mem : List ℕ) (m : Machine) (top : ℕ) (f g : Flags) (i : InterruptType) (w : Wait)
-        → cond (eqb (length mem) 65536) (cond (isHeldOff i m) (accepted (withRegisters m (m .regs) (afterHeldOff (m .wait))) 0) (takenBy m (length (takenReads w mem (settingsOf top f) (m .regs) (vectorOf i))) (taken w mem (settingsOf top f) (m .regs) (vectorOf i)))) (refusedWith m MemoryLength)
-        ≡ cond (eqb (length mem) 65536) (cond (isHeldOff i m) (accepted (withRegisters m (m .regs) (afterHeldOff (m .wait))) 0) (takenBy m (length (takenReads w mem (settingsOf top g) (m .regs) (vectorOf i))) (taken w mem (settingsOf top g) (m .regs) (vectorOf i)))) (refusedWith m MemoryLength)
-    go mem m top f g i Running = refl
-    go mem m top f g i Cwai = refl
-    go mem m top f g i Sync = refl
+    go : (mem : List ℕ) (m : Machine) (top : ℕ) (rs : List Range) (f g : Flags) (i : InterruptType) (w : Wait)
+        → cond (eqb (length mem) 65536) (cond (isHeldOff i m) (accepted (withRegisters m (m .regs) (afterHeldOff (m .wait))) 0) (takenBy m (length (takenReads w mem (settingsWith top f rs) (m .regs) (vectorOf i))) (taken w mem (settingsWith top f rs) (m .regs) (vectorOf i)))) (refusedWith m MemoryLength)
+        ≡ cond (eqb (length mem) 65536) (cond (isHeldOff i m) (accepted (withRegisters m (m .regs) (afterHeldOff (m .wait))) 0) (takenBy m (length (takenReads w mem (settingsWith top g rs) (m .regs) (vectorOf i))) (taken w mem (settingsWith top g rs) (m .regs) (vectorOf i)))) (refusedWith m MemoryLength)
+    go mem m top rs f g i Running = refl
+    go mem m top rs f g i Cwai = refl
+    go mem m top rs f g i Sync = refl

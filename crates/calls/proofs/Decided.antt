@@ -1,13 +1,13 @@
 -- What a decision stands for, kind by kind; and what it does where its writes are plain.
 -- Assumes nothing.
-use Prim.Native.Nat.{ℕ, _+_, _-_, _/_, _%_, _≤_, _<_}
+use Prim.Native.Nat.{ℕ, suc, _+_, _-_, _/_, _%_, _≤_, _<_}
 use mathlib.Core.Bool.{Bool, true, false, cond, _&&_}
 use mathlib.Core.List.{List, [], _∷_}
 use mathlib.Core.Path.{_≡_, refl, sym, ap, subst, _∙_}
 use native.Mathlib.Omega.{arith}
 use borrow.Author.Tests.{le-ltb, lt-ltb, ltb-true, leb-true}
 use lib.Dec.{leb, ltb}
-use lib.ListN.{length, set, length-take}
+use lib.ListN.{length, getD, set, length-take}
 use Rattle.u8oru16.specs.declared.u8u16.the-variants.{u8, u16}
 use Rattle.answers.specs.declared.Answer.the-variants.{Done}
 use Rattle.answers.specs.declared.Refusal.the-variants.{StackTooSmall}
@@ -27,6 +27,7 @@ use Rattle.machine.specs.declared.Machine.{Machine}
 use Rattle.machine.specs.declared.Settings.{Settings}
 use Rattle.machine.specs.declared.Wait.{Wait}
 use Rattle.machine.specs.declared.Wait.the-variants.{Running, Cwai, Sync}
+use Rattle.machine.specs.declared.fence.Range.{Range}
 use Rattle.operations.specs.Branches.{jumped}
 use Rattle.stack.specs.Pushing.{chosen, registersNamed, bytesPushed, pushes, pushed, jumpedToSubroutine}
 use Rattle.stack.specs.Frames.{framed}
@@ -43,7 +44,7 @@ use Rattle.opcodes.specs.declared.Mode.{Mode}
 use Rattle.opcodes.specs.declared.Op.{Op}
 use Rattle.decode.specs.declared.operand.Operand.{Operand}
 use Rattle.decode.specs.declared.instruction.Instruction.{Instruction}
-use Rattle.calls.specs.Decisions.{billed, effectAs, effectTold, planTold, metNoDevice, isBelow, isPlainAs, isPlain, Decides}
+use Rattle.calls.specs.Decisions.{billed, effectAs, effectTold, planTold, firstRange, metNoDevice, isBelow, isWordBelow, isPlainAs, isPlain, Decides}
 use Rattle.calls.specs.declared.Plan.{Plan}
 use Rattle.calls.specs.declared.Report.{Report}
 use Rattle.calls.specs.declared.decisions.Decision.{Decision}
@@ -72,44 +73,82 @@ plan-as m s mem d e = ap (λ (k : Kind). finished m (d .cycles) (d .arms) (d .re
 
 -- ---- where it is plain
 
-pub is-plain-by : (top : ℕ) (d : Decision) {k : Kind} → d .kind ≡ k → isPlainAs k top d ≡ isPlain top d
-is-plain-by top d e = sym (ap (λ (k : Kind). isPlainAs k top d) e)
+pub is-plain-by : (s : Settings) (d : Decision) {k : Kind} → d .kind ≡ k → isPlainAs k (s .«ram_top») (firstRange (s .profile)) d ≡ isPlain s d
+is-plain-by s d e = sym (ap (λ (k : Kind). isPlainAs k (s .«ram_top») (firstRange (s .profile)) d) e)
+
+-- the first of eight ranges
+pub first-of : (rs : List Range) (none : Range) {n : ℕ} → length rs ≡ suc n → getD rs 0 none ≡ firstRange rs
+first-of [] none e = absurd (omega arith)
+first-of (g ∷ gs) none e = refl
 
 and-true : (a b : Bool) → (a && b) ≡ true → (a ≡ true) × (b ≡ true)
 and-true true b e = (refl, e)
 and-true false b e = let z : _≡_ {A = ℕ} 0 1 = cc in absurd (omega arith)
 
-below-facts : (top at : ℕ) → isBelow top at ≡ true → (at < 0xFF00) × (at ≤ top)
-below-facts top at e = let f = and-true (ltb at 0xFF00) (leb at top) e in (ltb-true at 0xFF00 (f .0), leb-true at top (f .1))
+-- from one address to another all lies below the devices, at or below ram_top, and in the range g
+pub record Low (top : ℕ) (g : Range) (from to : ℕ) : Type 0 where
+  pub below : to < 0xFF00
+  pub reached : to ≤ top
+  pub first : g .first ≤ from
+  pub last : to ≤ g .last
+
+below-facts : (top : ℕ) (g : Range) (at : ℕ) → isBelow top g at ≡ true → Low top g at at
+below-facts top g at e =
+    let l = and-true ((ltb at 0xFF00 && leb at top) && leb (g .first) at) (leb at (g .last)) e in
+    let f = and-true (ltb at 0xFF00 && leb at top) (leb (g .first) at) (l .0) in
+    let b = and-true (ltb at 0xFF00) (leb at top) (f .0) in
+    record { below = ltb-true at 0xFF00 (b .0); reached = leb-true at top (b .1); first = leb-true (g .first) at (f .1); last = leb-true at (g .last) (l .1) }
+
+word-facts : (top : ℕ) (g : Range) (at : ℕ) → isWordBelow top g at ≡ true → Low top g at (at + 1)
+word-facts top g at e =
+    let l = and-true ((ltb at 0xFEFF && ltb at top) && leb (g .first) at) (ltb at (g .last)) e in
+    let f = and-true (ltb at 0xFEFF && ltb at top) (leb (g .first) at) (l .0) in
+    let b = and-true (ltb at 0xFEFF) (ltb at top) (f .0) in
+    let h = ltb-true at 0xFEFF (b .0) in
+    let i = ltb-true at top (b .1) in
+    let j = ltb-true at (g .last) (l .1) in
+    record { below = omega arith; reached = omega arith; first = leb-true (g .first) at (f .1); last = omega arith }
 
 pub twelve-at-most : (mask : ℕ) → bytesPushed mask ≤ 12
 twelve-at-most mask = omega arith
 
-module _ (top : ℕ) (d : Decision) where
-  plain-as : {k : Kind} → d .kind ≡ k → isPlain top d ≡ true → isPlainAs k top d ≡ true
-  plain-as e p = subst (λ (k : Kind). isPlainAs k top d ≡ true) e p
+module _ (s : Settings) (d : Decision) where
+  abbrev range : Range
+  range = firstRange (s .profile)
 
-  pub plain-byte : d .kind ≡ Byte → isPlain top d ≡ true → (d .at < 0xFF00) × (d .at ≤ top)
-  plain-byte e p = below-facts top (d .at) (plain-as e p)
+  abbrev pointer : ℕ
+  pointer = wordOf (d .regs) (stackWord (d .own))
 
-  pub plain-word : d .kind ≡ Word → isPlain top d ≡ true → (d .at + 1 < 0xFF00) × (d .at + 1 ≤ top)
-  plain-word e p =
-      let f = and-true (ltb (d .at) 0xFEFF) (ltb (d .at) top) (plain-as e p) in
-      let g = ltb-true (d .at) 0xFEFF (f .0) in
-      let h = ltb-true (d .at) top (f .1) in
-      (omega arith, omega arith)
+  plain-as : {k : Kind} → d .kind ≡ k → isPlain s d ≡ true → isPlainAs k (s .«ram_top») range d ≡ true
+  plain-as e p = subst (λ (k : Kind). isPlainAs k (s .«ram_top») range d ≡ true) e p
 
-  pub plain-push : d .kind ≡ Push → isPlain top d ≡ true
-      → (wordOf (d .regs) (stackWord (d .own)) ≤ 0xFF00) × (wordOf (d .regs) (stackWord (d .own)) ≤ top) × (bytesPushed (d .mask) ≤ wordOf (d .regs) (stackWord (d .own)))
+  pub low-byte : d .kind ≡ Byte → isPlain s d ≡ true → Low (s .«ram_top») range (d .at) (d .at)
+  low-byte e p = below-facts (s .«ram_top») range (d .at) (plain-as e p)
+
+  pub low-word : d .kind ≡ Word → isPlain s d ≡ true → Low (s .«ram_top») range (d .at) (d .at + 1)
+  low-word e p = word-facts (s .«ram_top») range (d .at) (plain-as e p)
+
+  pub low-push : d .kind ≡ Push → isPlain s d ≡ true → Low (s .«ram_top») range (pointer - 12) pointer × (12 ≤ pointer)
+  low-push e p =
+      let f = and-true (ltb (range .first + 11) pointer) (isBelow (s .«ram_top») range pointer) (plain-as e p) in
+      let l = below-facts (s .«ram_top») range pointer (f .1) in
+      let k = ltb-true (range .first + 11) pointer (f .0) in
+      (record { below = l .below; reached = l .reached; first = omega arith; last = l .last }, omega arith)
+
+  pub plain-byte : d .kind ≡ Byte → isPlain s d ≡ true → (d .at < 0xFF00) × (d .at ≤ s .«ram_top»)
+  plain-byte e p = let l = low-byte e p in (l .below, l .reached)
+
+  pub plain-word : d .kind ≡ Word → isPlain s d ≡ true → (d .at + 1 < 0xFF00) × (d .at + 1 ≤ s .«ram_top»)
+  plain-word e p = let l = low-word e p in (l .below, l .reached)
+
+  pub plain-push : d .kind ≡ Push → isPlain s d ≡ true → (pointer ≤ 0xFF00) × (pointer ≤ s .«ram_top») × (bytesPushed (d .mask) ≤ pointer)
   plain-push e p =
-      let pointer = wordOf (d .regs) (stackWord (d .own)) in
-      let f = and-true (ltb 11 pointer) (isBelow top pointer) (plain-as e p) in
-      let g = below-facts top pointer (f .1) in
-      let h = g .0 in
-      let k = ltb-true 11 pointer (f .0) in
-      (omega arith, g .1, omega (arith, twelve-at-most (d .mask)))
+      let l = low-push e p in
+      let h = l .0 .below in
+      let k = l .1 in
+      (omega arith, l .0 .reached, omega (arith, twelve-at-most (d .mask)))
 
-  pub not-rest : d .kind ≡ Rest → isPlain top d ≡ true → ⊥
+  pub not-rest : d .kind ≡ Rest → isPlain s d ≡ true → ⊥
   not-rest e p = let q = plain-as e p in let z : _≡_ {A = ℕ} 0 1 = cc in omega arith
 
 pub as-told : (m : Machine) (s : Settings) (mem : List ℕ) (d : Decision) {k : Kind} → d .kind ≡ k

@@ -12,7 +12,7 @@ use lib.ListN.{length}
 use Rattle.answers.specs.declared.Answer.{Answer}
 use Rattle.answers.specs.declared.Answer.the-variants.{Done, Refused}
 use Rattle.answers.specs.declared.Refusal.{Refusal}
-use Rattle.answers.specs.declared.Refusal.the-variants.{MemoryLength, Waiting}
+use Rattle.answers.specs.declared.Refusal.the-variants.{MemoryLength, Waiting, Fenced}
 use Rattle.registers.specs.Fits.{Fits}
 use Rattle.registers.specs.RegisterSet.{afterReset}
 use Rattle.registers.specs.declared.Set.{Set}
@@ -22,6 +22,7 @@ use Rattle.memory.specs.Writes.{writesOf, listed, stored, reported}
 use Rattle.memory.proofs.Fits.{none-fit, listed-fit, word-fits}
 use Rattle.memory.proofs.Folds.{listed-back}
 use Rattle.memory.proofs.Twelve.{Full, none-full, at-most-twelve}
+use Rattle.machine.specs.Fence.{bars}
 use Rattle.machine.specs.Machine.{withRegisters, marked, MachineFits}
 use Rattle.machine.specs.declared.Effect.{Effect}
 use Rattle.machine.specs.declared.Machine.{Machine}
@@ -148,9 +149,23 @@ module _ (mem : List ℕ) (m : Machine) where
       (weaker (λ g. record { registers = k g .0; bytes = g .bytes; address = k g .1 }) (evaluated-sound (i .entry .op) s mem r ea))
   planned-whole s (NotReached x) k = refused-whole m (λ g. g .machine) x
 
+  free-whole : (s : Settings) → Whole (Provided mem m) (MovedBy mem (reached mem m) m) m (planned mem m s (reached mem m))
+  free-whole s = planned-whole s (reached mem m) (λ g. reached-fits (g .bytes) (g .machine .registers))
+
+  -- before the fence, too, a refused step is the machine as it was
+  pub free-refused : (s : Settings) (x : Refusal) → planned mem m s (reached mem m) .answer ≡ Refused x → planned mem m s (reached mem m) ≡ refusedWith m x
+  free-refused s x e = free-whole s .refused x e
+
+  pub free-fits : (s : Settings) → MachineFits m → Bytes mem → AllFit (listed (planned mem m s (reached mem m) .writes))
+  free-fits s h b = listed-fit (planned mem m s (reached mem m) .writes) (free-whole s .widths (record { machine = h; bytes = b }))
+
   step-whole : (s : Settings) → Whole (Provided mem m) (MovedBy mem (reached mem m) m) m (stepPlan mem m s)
   unfolding stepPlan
-  step-whole s = planned-whole s (reached mem m) (λ g. reached-fits (g .bytes) (g .machine .registers))
+  step-whole s = go (bars s (listed (planned mem m s (reached mem m) .writes)))
+    where
+      go : (b : Bool) → Whole (Provided mem m) (MovedBy mem (reached mem m) m) m (cond b (refusedWith m Fenced) (planned mem m s (reached mem m)))
+      go true = refused-whole m (λ g. g .machine) Fenced
+      go false = free-whole s
 
   -- ---- interrupts and reset
 

@@ -1,5 +1,6 @@
 pub mod PlainWrites
 pub mod Decided
+pub mod Passing
 pub mod Laws
 pub mod Accepted
 pub mod Room

@@ -4,7 +4,7 @@ use Prim.Native.Nat.{ℕ, _<_}
 use mathlib.Core.Bool.{Bool, true, false, cond}
 use mathlib.Core.List.{List}
 use mathlib.Core.Logic.{_≢_, ⊎-elim}
-use mathlib.Core.Path.{_≡_, refl, ap, _∙_}
+use mathlib.Core.Path.{_≡_, refl, sym, ap, _∙_}
 use native.Mathlib.Omega.{arith}
 use borrow.Author.Tests.{eq-eqb, ne-eqb, eqb-true, lt-ltb}
 use lib.Dec.{eqb, ltb}
@@ -13,9 +13,10 @@ use Rattle.answers.specs.Numbers.{numberOf, numberOfAnswer}
 use Rattle.answers.specs.declared.Answer.{Answer}
 use Rattle.answers.specs.declared.Answer.the-variants.{Done, Refused}
 use Rattle.answers.specs.declared.Refusal.{Refusal}
-use Rattle.answers.specs.declared.Refusal.the-variants.{MemoryLength, PastEnd}
+use Rattle.answers.specs.declared.Refusal.the-variants.{MemoryLength, PastEnd, Fenced}
 use Rattle.memory.specs.Map.{byteAt, wordAt}
 use Rattle.memory.specs.Writes.{listed, stored}
+use Rattle.machine.specs.Fence.{bars}
 use Rattle.machine.specs.Machine.{withRegisters}
 use Rattle.machine.specs.declared.Effect.{Effect}
 use Rattle.machine.specs.declared.Machine.{Machine}
@@ -43,11 +44,14 @@ use Rattle.vectors.specs.declared.table.Vector.{Vector}
 use Rattle.vectors.proofs.Laws.{vectors-refuse-exactly}
 use Rattle.bus.specs.Reads.{instructionReads}
 use Rattle.cycles.specs.Cycles.{cyclesOf}
-use Rattle.calls.specs.Plans.{refusedWith, accepted}
+use Rattle.calls.specs.Plans.{refusedWith, accepted, fenced}
 use Rattle.calls.specs.Steps.{Reached, At, NotReached, addressed, ofDecoded, decodedTo, unlessWaiting, reached, finishedAs, finished, planned, stepPlan}
 use Rattle.calls.specs.Interrupts.{vectorOf, isHeldOff, taken, takenReads, afterHeldOff, ofEffect, interruptPlan}
 use Rattle.calls.specs.Room.{smallAt, StepSmallExactly, smallFrame, smallInterrupt, InterruptSmallExactly}
 use Rattle.calls.specs.declared.InterruptType.{InterruptType}
+use Rattle.calls.specs.declared.Plan.{Plan}
+use Rattle.calls.proofs.Laws.{free-refused}
+use Rattle.calls.proofs.Passing.{barred-done}
 
 abbrev isEight : Answer → Bool
 isEight a = eqb (numberOfAnswer a) 8
@@ -95,9 +99,17 @@ done m cycles mark reads e = go (e .answer)
     go Done = refl
     go (Refused x) = refl
 
+-- the fence refuses by another number what was accepted before it
+fenced-eight : (s : Settings) (m : Machine) (p : Plan) → ((x : Refusal) → p .answer ≡ Refused x → p ≡ refusedWith m x) → isEight (fenced s m p .answer) ≡ isEight (p .answer)
+fenced-eight s m p h = go (bars s (listed (p .writes))) refl
+  where
+    go : (b : Bool) → bars s (listed (p .writes)) ≡ b → isEight (cond b (refusedWith m Fenced) p .answer) ≡ isEight (p .answer)
+    go true e = sym (ap isEight (barred-done s m p h e))
+    go false e = refl
+
 pub step-small-exactly : StepSmallExactly
 unfolding stepPlan
-step-small-exactly mem m s = go (reached mem m) (reached-other mem m)
+step-small-exactly mem m s = fenced-eight s m (planned mem m s (reached mem m)) (free-refused mem m s) ∙ go (reached mem m) (reached-other mem m)
   where
     go : (a : Reached) → OtherReached a → isEight (planned mem m s a .answer) ≡ smallAt mem a
     go (At i r ea) k = done m (cyclesOf i mem r ea) (arms (i .entry .op) (byteAt mem ea)) (length (instructionReads i mem s (m .regs) r ea)) (evaluateOf (i .entry .op) s mem r ea) ∙ small-exactly (i .entry .op) s mem r ea
@@ -109,22 +121,19 @@ answered : (m : Machine) (reads : ℕ) (e : Effect) (a : Answer) → isEight (of
 answered m reads e Done = refl
 answered m reads e (Refused x) = refl
 
--- 8 for the frame, 9 or nothing after it
+-- 8 for the frame; 28, 9 or nothing after it
 no-eight : (zero : Bool) → eqb (cond zero 9 0) 8 ≡ false
 no-eight true = refl
 no-eight false = refl
 
-frame-eight : (entire zero : Bool) (s : ℕ) → eqb (cond (ltb s (cond entire 12 3)) 8 (cond zero 9 0)) 8 ≡ ltb s (bytesPushed (stackedBy entire))
-frame-eight true zero s = go (ltb s 12)
-  where
-    go : (b : Bool) → eqb (cond b 8 (cond zero 9 0)) 8 ≡ b
-    go true = refl
-    go false = no-eight zero
-frame-eight false zero s = go (ltb s 3)
-  where
-    go : (b : Bool) → eqb (cond b 8 (cond zero 9 0)) 8 ≡ b
-    go true = refl
-    go false = no-eight zero
+eight : (b fence zero : Bool) → eqb (cond b 8 (cond fence 28 (cond zero 9 0))) 8 ≡ b
+eight true fence zero = refl
+eight false true zero = refl
+eight false false zero = no-eight zero
+
+frame-eight : (entire fence zero : Bool) (s : ℕ) → eqb (cond (ltb s (cond entire 12 3)) 8 (cond fence 28 (cond zero 9 0))) 8 ≡ ltb s (bytesPushed (stackedBy entire))
+frame-eight true fence zero s = eight (ltb s 12) fence zero
+frame-eight false fence zero s = eight (ltb s 3) fence zero
 
 module _ (mem : List ℕ) (m : Machine) (s : Settings) (v : Vector) where
   -- whether the vector leads to a zero byte
@@ -135,7 +144,7 @@ module _ (mem : List ℕ) (m : Machine) (s : Settings) (v : Vector) where
   unfolding leads
   running =
       ap (λ (n : ℕ). eqb n 8) (vectors-refuse-exactly .running mem s (m .regs) v)
-      ∙ frame-eight (isEntire v) (leads (stored (s .«ram_top») (listed (stacked (m .regs) (isEntire v) .writes)) mem)) (m .regs .s)
+      ∙ frame-eight (isEntire v) (bars s (listed (stacked (m .regs) (isEntire v) .writes))) (leads (stored (s .«ram_top») (listed (stacked (m .regs) (isEntire v) .writes)) mem)) (m .regs .s)
 
   framed : (w : Wait) → isEight (taken w mem s (m .regs) v .answer) ≡ smallFrame w (m .regs .s) v
   unfolding leads

@@ -46,3 +46,6 @@ refused κs a x y ws vs p q = (p ∙ sym q, refl)
 
 pub carry-out : Determines 1 plans.carry_out.Kinds.ps plans.carry_out.Kinds.r plans.carry_out.Reads.Post
 carry-out κs a x y ws vs p q = (p .0 ∙ sym (q .0), ap (λ (l : List ℕ). (l, (tt, (tt, tt)))) (p .1 ∙ sym (q .1)))
+
+pub fence : Determines 0 steps.fence.Kinds.ps steps.fence.Kinds.r steps.fence.Reads.Post
+fence κs a x y ws vs p q = (p ∙ sym q, refl)

@@ -12,10 +12,11 @@ use Rattle.answers.specs.declared.Refusal.the-variants.{Waiting}
 use Rattle.registers.specs.RegisterSet.{afterReset}
 use Rattle.memory.specs.Map.{byteAt}
 use Rattle.registers.specs.declared.Flags.{Flags}
-use Rattle.machine.specs.Machine.{withRegisters, marked, settingsOf}
+use Rattle.machine.specs.Machine.{withRegisters, marked, settingsWith}
 use Rattle.machine.specs.declared.Machine.{Machine}
 use Rattle.machine.specs.declared.Settings.{Settings}
 use Rattle.machine.specs.declared.Wait.the-variants.{Running}
+use Rattle.machine.specs.declared.fence.Range.{Range}
 use Rattle.operations.specs.Branches.{jumped}
 use Rattle.calls.specs.Plans.{refusedWith, accepted}
 use Rattle.calls.specs.Steps.{stepPlan}
@@ -27,7 +28,7 @@ use Rattle.calls.specs.declared.InterruptType.{InterruptType}
 abbrev pub WaitsRefused : Type 0
 WaitsRefused = (mem : List ℕ) (m : Machine) (s : Settings) → length mem ≡ 65536 → m .wait ≢ Running → stepPlan mem m s ≡ refusedWith m Waiting
 
--- a masked interrupt, or an NMI before S is loaded, is answered 0: neither 8 nor 9 is judged, nothing is read, no register and not the mark
+-- a masked interrupt, or an NMI before S is loaded, is answered 0: none of 8, 28 and 9 is judged, nothing is read, no register and not the mark
 -- changes, and SYNC alone ends
 abbrev pub MaskedStays : Type 0
 MaskedStays =
@@ -44,7 +45,7 @@ ResetAccepted =
 abbrev pub ResetRefusesExactly : Type 0
 ResetRefusesExactly = (mem : List ℕ) (m : Machine) → numberOfAnswer (resetPlan mem m .answer) ≡ cond (eqb (length mem) 65536) 0 1
 
--- the flag setting plays no part in an interrupt or a reset: with the same ram_top, what is returned and memory afterwards are the same
+-- the flag setting plays no part in an interrupt or a reset: with the same ram_top and profile, what is returned and memory afterwards are the same
 pub record AnyFlags : Type 0 where
-  pub interrupt : (mem : List ℕ) (m : Machine) (top : ℕ) (f g : Flags) (i : InterruptType) → interruptPlan mem m (settingsOf top f) i ≡ interruptPlan mem m (settingsOf top g) i
-  pub reset : (mem : List ℕ) (m : Machine) (top : ℕ) (f g : Flags) → resetOf mem m (settingsOf top f) ≡ resetOf mem m (settingsOf top g)
+  pub interrupt : (mem : List ℕ) (m : Machine) (top : ℕ) (rs : List Range) (f g : Flags) (i : InterruptType) → interruptPlan mem m (settingsWith top f rs) i ≡ interruptPlan mem m (settingsWith top g rs) i
+  pub reset : (mem : List ℕ) (m : Machine) (top : ℕ) (rs : List Range) (f g : Flags) → resetOf mem m (settingsWith top f rs) ≡ resetOf mem m (settingsWith top g rs)

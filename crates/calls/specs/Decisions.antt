@@ -1,8 +1,8 @@
 -- What an instruction does, told by a small value: the effect that it stands for. It is a form of a plan between functions, not a rule of the machine.
 -- Assumes nothing.
-use Prim.Native.Nat.{ℕ, _%_}
+use Prim.Native.Nat.{ℕ, _+_, _%_}
 use mathlib.Core.Bool.{Bool, true, false, _&&_}
-use mathlib.Core.List.{List, []}
+use mathlib.Core.List.{List, [], _∷_}
 use mathlib.Core.Path.{_≡_}
 use lib.Dec.{leb, ltb}
 use Rattle.answers.specs.declared.Answer.the-variants.{Done}
@@ -20,6 +20,7 @@ use Rattle.machine.specs.declared.Effect.{Effect}
 use Rattle.machine.specs.declared.Machine.{Machine}
 use Rattle.machine.specs.declared.Settings.{Settings}
 use Rattle.machine.specs.declared.Wait.the-variants.{Running}
+use Rattle.machine.specs.declared.fence.Range.{Range}
 use Rattle.opcodes.specs.declared.MemoryOp.{MemoryOp}
 use Rattle.opcodes.specs.declared.MemoryOp.the-variants.{Sync}
 use Rattle.stack.specs.Pushing.{pushed}
@@ -67,6 +68,7 @@ effectAs Rest s mem d = memoryOf (d .op) s mem (d .regs) (d .at)
 abbrev pub effectTold : Settings → List ℕ → Decision → Effect
 effectTold s mem d = effectAs (d .kind) s mem d
 
+-- its plan, before the fence
 abbrev pub planTold : Machine → Settings → List ℕ → Decision → Plan
 planTold m s mem d = finished m (d .cycles) (d .arms) (d .reads) (effectTold s mem d)
 
@@ -77,24 +79,30 @@ metNoDevice m cycles arms reads writes r =
 
 -- ---- where it lies
 
--- a byte below the devices and at or below ram_top; both bytes of a word
-abbrev pub isBelow : ℕ → ℕ → Bool
-isBelow top at = ltb at 0xFF00 && leb at top
+-- the first range of a profile
+abbrev pub firstRange : List Range → Range
+firstRange [] = record { first = 1; last = 0 }
+firstRange (g ∷ gs) = g
 
-abbrev pub isWordBelow : ℕ → ℕ → Bool
-isWordBelow top at = ltb at 0xFEFF && ltb at top
+-- a byte below the devices, at or below ram_top and in the range g; both bytes of a word
+abbrev pub isBelow : ℕ → Range → ℕ → Bool
+isBelow top g at = ((ltb at 0xFF00 && leb at top) && leb (g .first) at) && leb at (g .last)
 
--- all that is told as stored lies there, and a push has room for every register: nothing but the stores is to be done
-abbrev pub isPlainAs : Kind → ℕ → Decision → Bool
-isPlainAs Refused top d = true
-isPlainAs Change top d = true
-isPlainAs Byte top d = isBelow top (d .at)
-isPlainAs Word top d = isWordBelow top (d .at)
-isPlainAs Push top d = ltb 11 (wordOf (d .regs) (stackWord (d .own))) && isBelow top (wordOf (d .regs) (stackWord (d .own)))
-isPlainAs Rest top d = false
+abbrev pub isWordBelow : ℕ → Range → ℕ → Bool
+isWordBelow top g at = ((ltb at 0xFEFF && ltb at top) && leb (g .first) at) && ltb at (g .last)
 
-abbrev pub isPlain : ℕ → Decision → Bool
-isPlain top d = isPlainAs (d .kind) top d
+-- all that is told as stored lies there, and a push has room there for every register: nothing but the stores is to be done
+abbrev pub isPlainAs : Kind → ℕ → Range → Decision → Bool
+isPlainAs Refused top g d = true
+isPlainAs Change top g d = true
+isPlainAs Byte top g d = isBelow top g (d .at)
+isPlainAs Word top g d = isWordBelow top g (d .at)
+isPlainAs Push top g d = ltb (g .first + 11) (wordOf (d .regs) (stackWord (d .own))) && isBelow top g (wordOf (d .regs) (stackWord (d .own)))
+isPlainAs Rest top g d = false
+
+-- in the first range of the profile: with all allowed that is every place
+abbrev pub isPlain : Settings → Decision → Bool
+isPlain s d = isPlainAs (d .kind) (s .«ram_top») (firstRange (s .profile)) d
 
 -- ---- the statement of the operation
 

@@ -65,7 +65,7 @@ ofEffect m reads e (Refused x) = refusedWith m x
 abbrev pub takenBy : Machine → ℕ → Effect → Plan
 takenBy m reads e = ofEffect m reads e (e .answer)
 
--- 1 unless memory has 65,536 bytes; then, unless it is held off and reads nothing, 8 and 9 as they are met
+-- 1 unless memory has 65,536 bytes; then, unless it is held off and reads nothing, 8, 28 and 9 as they are met
 unfoldable pub interruptPlan : List ℕ → Machine → Settings → InterruptType → Plan
 interruptPlan mem m s i =
     cond (eqb (length mem) 65536)

@@ -3,12 +3,14 @@
 use Prim.Native.Nat.{ℕ}
 use mathlib.Core.Path.{_≡_}
 use mathlib.Core.List.{List}
+use Rattle.answers.specs.declared.Answer.the-variants.{Done}
 use Rattle.registers.specs.Fits.{Fits}
 use Rattle.registers.specs.declared.Flags.the-variants.{Bought, Manual}
 use Rattle.memory.specs.Fits.{Bytes}
 use Rattle.memory.specs.Map.{byteAt}
-use Rattle.machine.specs.Machine.{settingsOf}
+use Rattle.machine.specs.Machine.{settingsWith}
 use Rattle.machine.specs.declared.Machine.{Machine}
+use Rattle.machine.specs.declared.fence.Range.{Range}
 use Rattle.operations.specs.Parting.{PartInV}
 use Rattle.evaluate.specs.Parting.{InstructionParts}
 use Rattle.calls.specs.Steps.{Reached, At, NotReached, reached, stepPlan}
@@ -30,8 +32,10 @@ abbrev pub PartsAt : List ℕ → Reached → Type 0
 PartsAt mem (At i r ea) = InstructionParts r (byteAt mem ea) (i .entry .op)
 PartsAt mem (NotReached x) = ⊥
 
--- the law: as bought on the left, by the manual on the right; memory and devices follow the writes
+-- the law: as bought on the left, by the manual on the right; memory and devices follow the writes. The settings part where the step is
+-- accepted, which is where the fence lets what it stores pass
 abbrev pub StepsPart : Type 0
 StepsPart =
-    (mem : List ℕ) (m : Machine) (top : ℕ) → Bytes mem → Fits (m .regs)
-    → PlansPart (stepPlan mem m (settingsOf top Bought)) (stepPlan mem m (settingsOf top Manual)) (PartsAt mem (reached mem m))
+    (mem : List ℕ) (m : Machine) (top : ℕ) (rs : List Range) → Bytes mem → Fits (m .regs)
+    → PlansPart (stepPlan mem m (settingsWith top Bought rs)) (stepPlan mem m (settingsWith top Manual rs))
+    ((stepPlan mem m (settingsWith top Bought rs) .answer ≡ Done) × PartsAt mem (reached mem m))

@@ -2,13 +2,16 @@
 -- [11]). How many bytes are written is not said a second time: it is the length of the list of writes.
 -- Assumes nothing.
 use Prim.Native.Nat.{ℕ}
+use mathlib.Core.Bool.{cond}
 use mathlib.Core.List.{List, []}
 use mathlib.Core.Path.{_≡_}
 use lib.ListN.{length}
 use Rattle.answers.specs.declared.Answer.the-variants.{Done, Refused}
 use Rattle.answers.specs.declared.Refusal.{Refusal}
+use Rattle.answers.specs.declared.Refusal.the-variants.{Fenced}
 use Rattle.memory.specs.Fits.{AllFit}
 use Rattle.memory.specs.Writes.{writesOf, listed, stored, reported}
+use Rattle.machine.specs.Fence.{bars}
 use Rattle.machine.specs.Machine.{MachineFits}
 use Rattle.machine.specs.declared.Machine.{Machine}
 use Rattle.machine.specs.declared.Settings.{Settings}
@@ -21,6 +24,10 @@ refusedWith m x = record { writes = writesOf []; machine = m; reads = 0; answer 
 -- the machine changes, so many bytes are read, and nothing is written
 abbrev pub accepted : Machine → ℕ → Plan
 accepted m reads = record { writes = writesOf []; machine = m; reads = reads; answer = Done }
+
+-- 28 (document 02, [14]): a plan of machine m that would store a byte outside the profile is refused. A refused plan stores nothing
+abbrev pub fenced : Settings → Machine → Plan → Plan
+fenced s m p = cond (bars s (listed (p .writes))) (refusedWith m Fenced) p
 
 -- a plan carried out: the device writes in order, the machine, how many bytes were read and written (stored, ignored or a device's), and the
 -- answer; and memory

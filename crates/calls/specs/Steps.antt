@@ -1,4 +1,4 @@
--- A step (document 01, "Numbers returned" gives the order of refusals): 1, 2, then decoding, the address, the operation.
+-- A step (document 01, "Numbers returned" gives the order of refusals): 1, 2, then decoding, the address, the operation, then the fence.
 -- Assumes nothing.
 use Prim.Native.Nat.{ℕ, _+_, _%_, _^_}
 use mathlib.Core.Bool.{Bool, cond, _||_}
@@ -27,7 +27,7 @@ use Rattle.bus.specs.Reads.{instructionReads}
 use Rattle.evaluate.specs.Arming.{arms}
 use Rattle.evaluate.specs.Evaluate.{evaluateOf}
 use Rattle.cycles.specs.Cycles.{cyclesOf}
-use Rattle.calls.specs.Plans.{refusedWith, carriedOut, memoryWith}
+use Rattle.calls.specs.Plans.{refusedWith, fenced, carriedOut, memoryWith}
 use Rattle.calls.specs.declared.Plan.{Plan}
 use Rattle.calls.specs.declared.Report.{Report}
 
@@ -93,8 +93,9 @@ abbrev pub planned : List ℕ → Machine → Settings → Reached → Plan
 planned mem m s (At i r ea) = operated mem m s i r ea
 planned mem m s (NotReached x) = refusedWith m x
 
+-- the fence judges once the writes are known. SWI's frame it has judged already, before the vector was read
 unfoldable pub stepPlan : List ℕ → Machine → Settings → Plan
-stepPlan mem m s = planned mem m s (reached mem m)
+stepPlan mem m s = fenced s m (planned mem m s (reached mem m))
 
 -- the step carried out: what it returns, and memory
 abbrev pub stepOf : List ℕ → Machine → Settings → Report

@@ -1,6 +1,7 @@
 // What an instruction does, told by a small value: a list of twelve writes is made for the few that need one (docs/PERFORMANCE.md).
 ghost use mathlib.Core.Path.{_≡_};
 ghost use Prim.Native.Nat.{_+_, _<_, _≤_};
+ghost use lib.Dec.{ltb};
 ghost use Rattle.decode.specs.declared.instruction.Decoded.the-variants.{Instruction as Decodes};
 ghost use Rattle.evaluate.specs.Arming.{arms};
 ghost use Rattle.evaluate.specs.Evaluate.{evaluateOf, memoryOf};
@@ -25,6 +26,7 @@ use cycles::registers_extra;
 use decode::Decoded;
 use decode::Instruction;
 use machine::Machine;
+use machine::Range;
 use machine::Settings;
 use opcodes::Acc;
 use opcodes::Entry;
@@ -142,36 +144,46 @@ fn wide(byte: u8) -> u16
     byte as u16
 }
 
-// A byte is written below the devices and at or below ram_top.
-fn is_below(at: u16, ram_top: u16) -> bool
-    ensures { λ r. ⌜ r ≡ isBelow «ram_top» at ⌝ }
+// A byte is written below the devices, at or below ram_top, and in the range.
+fn is_below(at: u16, ram_top: u16, range: Range) -> bool
+    ensures { λ r. ⌜ r ≡ isBelow «ram_top» range at ⌝ }
 {
-    (at < 0xFF00) & (at <= ram_top)
+    (at < 0xFF00) & (at <= ram_top) & (range.first <= at) & (at <= range.last)
 }
 
 // Both bytes of a word are.
-fn is_word_below(at: u16, ram_top: u16) -> bool
-    ensures { λ r. ⌜ r ≡ isWordBelow «ram_top» at ⌝ }
+fn is_word_below(at: u16, ram_top: u16, range: Range) -> bool
+    ensures { λ r. ⌜ r ≡ isWordBelow «ram_top» range at ⌝ }
 {
-    (at < 0xFEFF) & (at < ram_top)
+    (at < 0xFEFF) & (at < ram_top) & (range.first <= at) & (at < range.last)
 }
 
-// Whether nothing but the stores is to be done: all that is told as stored lies below the devices and at or below ram_top, and a push has
-// room for every register.
-pub fn is_plain(decision: Decision, ram_top: u16) -> bool
-    ensures { λ r. ⌜ r ≡ isPlain «ram_top» decision ⌝ }
+// A push from top has room in the range for every register.
+fn has_room(top: u16, range: Range) -> bool
+    ensures { λ r. ⌜ r ≡ ltb (range .first + 11) top ⌝ }
+{
+    range.first as u32 + 11 < top as u32
+}
+
+// Whether nothing but the stores is to be done: all that is told as stored lies below the devices, at or below ram_top and in the profile's
+// first range, and a push has room there for every register. What lies in another range goes by the list of writes.
+pub fn is_plain(decision: Decision, settings: Settings) -> bool
+    ensures { λ r. ⌜ r ≡ isPlain settings decision ⌝ }
 {
     let kind = decision.kind;
+    let ram_top = settings.ram_top;
+    let profile = settings.profile;
+    let range = profile[0];
     match kind {
         Kind::Refused => true,
         Kind::Change => true,
-        Kind::Byte => is_below(decision.at, ram_top),
-        Kind::Word => is_word_below(decision.at, ram_top),
+        Kind::Byte => is_below(decision.at, ram_top, range),
+        Kind::Word => is_word_below(decision.at, ram_top, range),
         Kind::Push => {
             let own = decision.own;
             let regs = decision.regs;
             let top = regs.word(own.word());
-            (11 < top) & is_below(top, ram_top)
+            has_room(top, range) & is_below(top, ram_top, range)
         }
         Kind::Rest => false,
     }

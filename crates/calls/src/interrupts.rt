@@ -77,7 +77,7 @@ fn finish(machine: Machine, reads: u8, effect: Effect) -> Plan
     }
 }
 
-// What an interrupt will do: 1 by the memory's length; then, unless it is held off, 8 and 9 as they are met.
+// What an interrupt will do: 1 by the memory's length; then, unless it is held off, 8, 28 and 9 as they are met.
 pub fn plan_interrupt(
     mem: &[u8],
     machine: Machine,

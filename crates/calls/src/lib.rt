@@ -22,6 +22,7 @@ pub use plans::refused;
 pub use resets::plan_reset;
 pub use resets::reset;
 pub use steps::carry;
+pub use steps::fence;
 pub use steps::finish;
 pub use steps::plan_of;
 pub use steps::plan_step;

@@ -7,7 +7,7 @@ ghost use Rattle.registers.specs.Names.{stackWord};
 ghost use Rattle.registers.specs.RegisterSet.{wordOf};
 ghost use Rattle.machine.specs.Effect.{changes};
 ghost use Rattle.stack.specs.Pushing.{bytesPushed, pushed};
-ghost use Rattle.calls.specs.Plans.{refusedWith, carriedOut, memoryWith};
+ghost use Rattle.calls.specs.Plans.{refusedWith, fenced, carriedOut, memoryWith};
 ghost use Rattle.calls.specs.Steps.{afterInstruction, finished, decodedTo, planned, stepPlan, stepOf, memoryAfterStep};
 ghost use Rattle.calls.specs.Decisions.{planTold, metNoDevice, isPlain};
 use super::Plan;
@@ -25,6 +25,7 @@ use machine::Effect;
 use machine::Machine;
 use machine::Settings;
 use machine::Wait;
+use machine::bars;
 use memory::Write;
 use memory::Writes;
 use registers::Set;
@@ -75,7 +76,7 @@ pub fn finish(machine: Machine, cycles: u16, arms: bool, reads: u8, effect: Effe
 }
 
 // The list of writes of what was decided.
-pub fn plan_of(mem: &[u8], machine: Machine, settings: Settings, decision: Decision) -> Plan
+fn plan_free(mem: &[u8], machine: Machine, settings: Settings, decision: Decision) -> Plan
     ensures { λ r. ⌜ r ≡ planTold machine settings (now (mem .entry)) decision ⌝ }
 {
     let kind = decision.kind;
@@ -116,9 +117,31 @@ pub fn plan_of(mem: &[u8], machine: Machine, settings: Settings, decision: Decis
     }
 }
 
+// What a plan would store is judged once it is listed. Each plan of a step passes here.
+pub fn fence(settings: Settings, machine: Machine, plan: Plan) -> Plan
+    ensures { λ r. ⌜ r ≡ fenced settings machine plan ⌝ }
+{
+    let writes = plan.writes;
+    if bars(settings, writes) {
+        return refused(machine, Refusal::Fenced);
+    }
+    plan
+}
+
+// What was decided, by way of the list of writes.
+pub fn plan_of(mem: &[u8], machine: Machine, settings: Settings, decision: Decision) -> Plan
+    ensures { λ r. ⌜ r ≡ fenced settings machine (planTold machine settings (now (mem .entry)) decision) ⌝ }
+{
+    fence(
+        settings,
+        machine,
+        plan_free(mem, machine, settings, decision),
+    )
+}
+
 // A machine that is running.
 fn plan_running(mem: &[u8], machine: Machine, settings: Settings) -> Plan
-    ensures { λ r. ⌜ r ≡ planned (now (mem .entry)) machine settings (decodedTo (now (mem .entry)) (machine .regs)) ⌝ }
+    ensures { λ r. ⌜ r ≡ fenced settings machine (planned (now (mem .entry)) machine settings (decodedTo (now (mem .entry)) (machine .regs))) ⌝ }
 {
     let decision = decide(mem, machine, settings);
     plan_of(mem, machine, settings, decision)
@@ -195,7 +218,7 @@ fn carry_push(
 
 // Where all is plain, nothing but the stores is to be done.
 fn carry_plain(mem: &mut [u8], machine: Machine, settings: Settings, decision: Decision) -> Report
-    requires { ⌜ (length (now mem) ≡ 65536) × (isPlain (settings .«ram_top») decision ≡ true) ⌝ }
+    requires { ⌜ (length (now mem) ≡ 65536) × (isPlain settings decision ≡ true) ⌝ }
     ensures { λ r. ⌜ (r ≡ carriedOut settings (planTold machine settings (now (mem .entry)) decision)) × (now (mem .exit) ≡ memoryWith settings (planTold machine settings (now (mem .entry)) decision) (now (mem .entry))) ⌝ }
 {
     let kind = decision.kind;
@@ -228,7 +251,7 @@ fn carry_plain(mem: &mut [u8], machine: Machine, settings: Settings, decision: D
 
 // By way of the list of writes.
 fn carry_list(mem: &mut [u8], machine: Machine, settings: Settings, decision: Decision) -> Report
-    ensures { λ r. ⌜ (r ≡ carriedOut settings (planTold machine settings (now (mem .entry)) decision)) × (now (mem .exit) ≡ memoryWith settings (planTold machine settings (now (mem .entry)) decision) (now (mem .entry))) ⌝ }
+    ensures { λ r. ⌜ (r ≡ carriedOut settings (fenced settings machine (planTold machine settings (now (mem .entry)) decision))) × (now (mem .exit) ≡ memoryWith settings (fenced settings machine (planTold machine settings (now (mem .entry)) decision)) (now (mem .entry))) ⌝ }
 {
     let plan = plan_of(mem, machine, settings, decision);
     carry_out(mem, settings, plan)
@@ -236,10 +259,10 @@ fn carry_list(mem: &mut [u8], machine: Machine, settings: Settings, decision: De
 
 // What was decided is done: the machine after it, and memory.
 pub fn carry(mem: &mut [u8], machine: Machine, settings: Settings, decision: Decision) -> Report
-    ensures { λ r. ⌜ (r ≡ carriedOut settings (planTold machine settings (now (mem .entry)) decision)) × (now (mem .exit) ≡ memoryWith settings (planTold machine settings (now (mem .entry)) decision) (now (mem .entry))) ⌝ }
+    ensures { λ r. ⌜ (r ≡ carriedOut settings (fenced settings machine (planTold machine settings (now (mem .entry)) decision))) × (now (mem .exit) ≡ memoryWith settings (fenced settings machine (planTold machine settings (now (mem .entry)) decision)) (now (mem .entry))) ⌝ }
 {
     if mem.len() == 65536 {
-        if is_plain(decision, settings.ram_top) {
+        if is_plain(decision, settings) {
             return carry_plain(mem, machine, settings, decision);
         }
     }
@@ -250,7 +273,7 @@ pub fn carry(mem: &mut [u8], machine: Machine, settings: Settings, decision: Dec
 
 // A machine that is running.
 fn step_running(mem: &mut [u8], machine: Machine, settings: Settings) -> Report
-    ensures { λ r. ⌜ (r ≡ carriedOut settings (planned (now (mem .entry)) machine settings (decodedTo (now (mem .entry)) (machine .regs)))) × (now (mem .exit) ≡ memoryWith settings (planned (now (mem .entry)) machine settings (decodedTo (now (mem .entry)) (machine .regs))) (now (mem .entry))) ⌝ }
+    ensures { λ r. ⌜ (r ≡ carriedOut settings (fenced settings machine (planned (now (mem .entry)) machine settings (decodedTo (now (mem .entry)) (machine .regs))))) × (now (mem .exit) ≡ memoryWith settings (fenced settings machine (planned (now (mem .entry)) machine settings (decodedTo (now (mem .entry)) (machine .regs)))) (now (mem .entry))) ⌝ }
 {
     let decision = decide(mem, machine, settings);
     carry(mem, machine, settings, decision)

@@ -9,7 +9,7 @@ use lib.Bits.{bitOr, or-shr, or-mod, or-zero-r}
 use lib.Dec.{eqb, ltb}
 use Rattle.answers.specs.declared.Answer.{Answer}
 use Rattle.answers.specs.declared.Answer.the-variants.{Done, Refused as NotDone}
-use Rattle.answers.specs.declared.Refusal.the-variants.{TransferCode, StackTooSmall, ZeroAtVector}
+use Rattle.answers.specs.declared.Refusal.the-variants.{TransferCode, StackTooSmall, Fenced, ZeroAtVector}
 use Rattle.u8oru16.specs.Negated.{signExtended}
 use Rattle.u8oru16.specs.Value.{valueOf}
 use Rattle.u8oru16.specs.declared.u8u16.the-variants.{u8}
@@ -37,6 +37,7 @@ use Rattle.registers.proofs.Reading.{flag-far}
 use Rattle.memory.specs.Map.{byteAt, wordAt}
 use Rattle.memory.specs.Writes.{listed, stored}
 use Rattle.machine.specs.Effect.{stores, refuses}
+use Rattle.machine.specs.Fence.{bars}
 use Rattle.machine.specs.declared.Effect.{Effect}
 use Rattle.machine.specs.declared.Settings.{Settings}
 use Rattle.opcodes.specs.declared.Acc.{Acc}
@@ -245,8 +246,9 @@ served-same mem s r v e =
     let after = stored (s .«ram_top») (listed (frame .writes)) mem in
     let pc = wordAt after (addressOf v) in
     once r (frame .answer) _
+    (either r (bars s (listed (frame .writes))) (refuses r Fenced) _ refl
     (either r (eqb (byteAt after pc) 0) (refuses r ZeroAtVector) (stores (jumped (orCodes (frame .regs) (masksOf v)) pc) (frame .writes)) refl
-    (or-leaves 5 (frame .regs .cc .reg) (masksOf v) e ∙ frame-same r (isEntire v)))
+    (or-leaves 5 (frame .regs .cc .reg) (masksOf v) e ∙ frame-same r (isEntire v))))
 
 -- RTS pulls PC, and not CC
 pc-alone : bitAt 0 0x80 ≡ false

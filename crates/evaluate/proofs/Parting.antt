@@ -17,7 +17,7 @@ use Rattle.evaluate.specs.Evaluate.{effectOf}
 use Rattle.evaluate.specs.Parting.{InstructionParts, on-registers, on-memory, InstructionsPart}
 
 -- the same parting, where the case is named otherwise
-renamed : {r q : Set} {C D : Type 0} → PartInV r q C → (C → D) → (D → C) → PartInV r q D
+pub renamed : {r q : Set} {C D : Type 0} → PartInV r q C → (C → D) → (D → C) → PartInV r q D
 renamed p f g = record {
   a = p .a;
   b = p .b;
@@ -47,16 +47,16 @@ module _ (r : Set) (m : ℕ) where
 
 pub instructions-part : InstructionsPart
 unfolding vectored
-instructions-part (Registers op) top mem r ea la lb l = of-change r _ _ (changes-part op mem r ea la lb l) on-registers (of-registers r (byteAt mem ea) op)
-instructions-part (Memory (OnMemory op)) top mem r ea la lb l = of-effect _ _ (on-memory-parts op mem r ea l) on-memory (of-memory r (byteAt mem ea) op)
-instructions-part (Memory (Store8 acc)) top mem r ea la lb l = same-effects refl (elim [ ])
-instructions-part (Memory (Store16 word)) top mem r ea la lb l = same-effects refl (elim [ ])
-instructions-part (Memory Bsr) top mem r ea la lb l = same-effects refl (elim [ ])
-instructions-part (Memory Jsr) top mem r ea la lb l = same-effects refl (elim [ ])
-instructions-part (Memory Rts) top mem r ea la lb l = same-effects refl (elim [ ])
-instructions-part (Memory Rti) top mem r ea la lb l = same-effects refl (elim [ ])
-instructions-part (Memory (Swi which)) top mem r ea la lb l = same-effects refl (elim [ ])
-instructions-part (Memory Cwai) top mem r ea la lb l = same-effects refl (elim [ ])
-instructions-part (Memory Sync) top mem r ea la lb l = same-effects refl (elim [ ])
-instructions-part (Memory (Push own)) top mem r ea la lb l = same-effects refl (elim [ ])
-instructions-part (Memory (Pull own)) top mem r ea la lb l = same-effects refl (elim [ ])
+instructions-part (Registers op) top ranges mem r ea la lb l = of-change r _ _ (changes-part op mem r ea la lb l) on-registers (of-registers r (byteAt mem ea) op)
+instructions-part (Memory (OnMemory op)) top ranges mem r ea la lb l = of-effect _ _ (on-memory-parts op mem r ea l) on-memory (of-memory r (byteAt mem ea) op)
+instructions-part (Memory (Store8 acc)) top ranges mem r ea la lb l = same-effects refl (elim [ ])
+instructions-part (Memory (Store16 word)) top ranges mem r ea la lb l = same-effects refl (elim [ ])
+instructions-part (Memory Bsr) top ranges mem r ea la lb l = same-effects refl (elim [ ])
+instructions-part (Memory Jsr) top ranges mem r ea la lb l = same-effects refl (elim [ ])
+instructions-part (Memory Rts) top ranges mem r ea la lb l = same-effects refl (elim [ ])
+instructions-part (Memory Rti) top ranges mem r ea la lb l = same-effects refl (elim [ ])
+instructions-part (Memory (Swi which)) top ranges mem r ea la lb l = same-effects refl (elim [ ])
+instructions-part (Memory Cwai) top ranges mem r ea la lb l = same-effects refl (elim [ ])
+instructions-part (Memory Sync) top ranges mem r ea la lb l = same-effects refl (elim [ ])
+instructions-part (Memory (Push own)) top ranges mem r ea la lb l = same-effects refl (elim [ ])
+instructions-part (Memory (Pull own)) top ranges mem r ea la lb l = same-effects refl (elim [ ])

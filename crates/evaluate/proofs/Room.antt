@@ -11,6 +11,7 @@ use Rattle.registers.specs.RegisterSet.{wordOf}
 use Rattle.registers.specs.declared.Set.{Set}
 use Rattle.memory.specs.Map.{byteAt, wordAt}
 use Rattle.memory.specs.Writes.{listed, stored}
+use Rattle.machine.specs.Fence.{bars}
 use Rattle.machine.specs.declared.Settings.{Settings}
 use Rattle.opcodes.specs.declared.MemoryOp.the-variants.{OnMemory, Store8, Store16, Bsr, Jsr, Rts, Rti, Swi, Cwai, Sync, Push, Pull}
 use Rattle.opcodes.specs.declared.Op.the-variants.{Registers, Memory}
@@ -51,9 +52,11 @@ of-jsr r ea = ap isEight (stack-refuses-exactly .jsr r ea) ∙ eight (ltb (r .s)
 
 of-service : (mem : List ℕ) (s : Settings) (r : Set) (v : Vector) → isEight (numberOfAnswer (served mem s r v .answer)) ≡ ltb (r .s) (cond (isEntire v) 12 3)
 of-service mem s r v =
-    let after = stored (s .«ram_top») (listed (framed r (isEntire v) .writes)) mem in
+    let frame = listed (framed r (isEntire v) .writes) in
+    let after = stored (s .«ram_top») frame mem in
     ap isEight (vectors-refuse-exactly .running mem s r v)
-    ∙ eight (ltb (r .s) (cond (isEntire v) 12 3)) (zeroNumber after v) (other (eqb (byteAt after (wordAt after (addressOf v))) 0) 9 0 refl refl)
+    ∙ eight (ltb (r .s) (cond (isEntire v) 12 3)) (cond (bars s frame) 28 (zeroNumber after v))
+    (other (bars s frame) 28 (zeroNumber after v) refl (other (eqb (byteAt after (wordAt after (addressOf v))) 0) 9 0 refl refl))
 
 -- a change of registers has the number of its refusal
 numbered : (r : Set) (c : Changed) → numberOfAnswer (effectOf r c .answer) ≡ numberOfChanged c

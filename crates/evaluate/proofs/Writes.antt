@@ -10,7 +10,7 @@ use lib.ListN.{length}
 use Rattle.answers.specs.declared.Answer.{Answer}
 use Rattle.answers.specs.declared.Answer.the-variants.{Done, Refused}
 use Rattle.answers.specs.declared.Refusal.{Refusal}
-use Rattle.answers.specs.declared.Refusal.the-variants.{StackTooSmall, ZeroAtVector}
+use Rattle.answers.specs.declared.Refusal.the-variants.{StackTooSmall, Fenced, ZeroAtVector}
 use Rattle.registers.specs.ConditionCodes.{put}
 use Rattle.registers.specs.Names.{stackWord}
 use Rattle.registers.specs.RegisterSet.{wordOf}
@@ -24,6 +24,7 @@ use Rattle.memory.specs.Writes.{listed, stored, wordWrites}
 use Rattle.memory.specs.declared.writes.Write.{Write}
 use Rattle.memory.proofs.Folds.{one-write, two-writes, listed-back}
 use Rattle.machine.specs.Effect.{stores, refuses}
+use Rattle.machine.specs.Fence.{bars}
 use Rattle.machine.specs.declared.Effect.{Effect}
 use Rattle.machine.specs.declared.Settings.{Settings}
 use Rattle.machine.specs.declared.Wait.the-variants.{Cwai as InCwai}
@@ -84,7 +85,7 @@ of-jsr r ea =
     let p = pushed r S 0x80 false in
     once r (p .answer) (stores (jumped (p .regs) ea) (p .writes)) (pushes r false (r .s) (registersNamed S 0x80)) (λ a d. of-push r S 0x80 false a)
 
-of-frame : (r : Set) (entire : Bool) → Lists (framed r entire) (frameWrites r entire)
+pub of-frame : (r : Set) (entire : Bool) → Lists (framed r entire) (frameWrites r entire)
 unfolding framed
 of-frame r entire =
     let q = withCodes r (put E entire (r .cc)) in
@@ -98,8 +99,9 @@ of-served mem s r v =
     let after = stored (s .«ram_top») (listed (frame .writes)) mem in
     let pc = wordAt after (addressOf v) in
     once r (frame .answer) _ (frameWrites r (isEntire v))
-    (λ a. either (eqb (byteAt after pc) 0) (refuses r ZeroAtVector) (stores (jumped (orCodes (frame .regs) (masksOf v)) pc) (frame .writes)) (frameWrites r (isEntire v))
-    (λ d. not-done d) (λ d. of-frame r (isEntire v) a))
+    (λ a. either (bars s (listed (frame .writes))) (refuses r Fenced) _ (frameWrites r (isEntire v)) (λ d. not-done d)
+    (either (eqb (byteAt after pc) 0) (refuses r ZeroAtVector) (stores (jumped (orCodes (frame .regs) (masksOf v)) pc) (frame .writes)) (frameWrites r (isEntire v))
+    (λ d. not-done d) (λ d. of-frame r (isEntire v) a)))
 
 of-wait : (r : Set) (m : ℕ) → Lists (waiting r m) (frameWrites (andCodes r m) true)
 unfolding waiting

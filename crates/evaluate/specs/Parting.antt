@@ -5,7 +5,8 @@ use mathlib.Core.List.{List}
 use Rattle.registers.specs.declared.Flags.the-variants.{Bought, Manual}
 use Rattle.registers.specs.declared.Set.{Set}
 use Rattle.memory.specs.Map.{byteAt}
-use Rattle.machine.specs.Machine.{settingsOf}
+use Rattle.machine.specs.Machine.{settingsWith}
+use Rattle.machine.specs.declared.fence.Range.{Range}
 use Rattle.opcodes.specs.declared.MemoryOp.the-variants.{OnMemory}
 use Rattle.opcodes.specs.declared.Op.{Op}
 use Rattle.opcodes.specs.declared.Op.the-variants.{Registers, Memory}
@@ -22,5 +23,5 @@ pub data InstructionParts (r : Set) (m : ℕ) : Op → Type 0 where
 -- the law: as bought on the left, by the manual on the right
 abbrev pub InstructionsPart : Type 0
 InstructionsPart =
-    (op : Op) (top : ℕ) (mem : List ℕ) (r : Set) (ea : ℕ) → r .a < 256 → r .b < 256 → byteAt mem ea < 256
-    → EffectsPart (evaluateOf op (settingsOf top Bought) mem r ea) (evaluateOf op (settingsOf top Manual) mem r ea) (InstructionParts r (byteAt mem ea) op)
+    (op : Op) (top : ℕ) (ranges : List Range) (mem : List ℕ) (r : Set) (ea : ℕ) → r .a < 256 → r .b < 256 → byteAt mem ea < 256
+    → EffectsPart (evaluateOf op (settingsWith top Bought ranges) mem r ea) (evaluateOf op (settingsWith top Manual ranges) mem r ea) (InstructionParts r (byteAt mem ea) op)

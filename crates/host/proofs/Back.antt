@@ -1,7 +1,8 @@
 -- What goes to a host and back, and the numbers apart: the laws of specs/Numbers.antt and specs/Structs.antt.
 -- Assumes nothing.
 use Prim.Native.Nat.{ℕ, zero, suc, _<_}
-use mathlib.Core.Path.{_≡_, refl}
+use mathlib.Core.List.{List, [], _∷_, map}
+use mathlib.Core.Path.{_≡_, refl, ap}
 use mathlib.Core.Bool.{Bool, true, false, _&&_, false≢true}
 use native.Mathlib.Omega.{arith}
 use borrow.Author.Tests.{ltb-true, eqb-true}
@@ -14,13 +15,15 @@ use Rattle.registers.specs.declared.Flags.{Flags}
 use Rattle.registers.specs.declared.Flags.the-variants.{Bought, Manual}
 use Rattle.machine.specs.Record.{waitByte, waitOf, markByte, markOf}
 use Rattle.machine.specs.declared.Settings.{Settings}
+use Rattle.machine.specs.declared.fence.Range.{Range}
 use Rattle.machine.specs.declared.Wait.{Wait}
 use Rattle.machine.specs.declared.Wait.the-variants.{Running, Cwai, Sync}
 use Rattle.calls.specs.declared.InterruptType.{InterruptType}
 use Rattle.calls.specs.declared.InterruptType.the-variants.{Irq, Firq, Nmi}
 use Rattle.journal.specs.declared.Twin.{Twin}
 use Rattle.host.specs.Numbers.{flagsOf, flagsNumber, interruptTypeOf, interruptNumber, isTwin, isSettings, UnnamedApart, NumbersBack}
-use Rattle.host.specs.Structs.{settingsFrom, hostSettings, machineFrom, twinFrom, hostTwin, TwinsBack, SettingsBack}
+use Rattle.host.specs.Structs.{rangeFrom, hostRange, settingsFrom, hostSettings, machineFrom, twinFrom, hostTwin, TwinsBack, SettingsBack}
+use Rattle.host.specs.declared.HostRange.{HostRange}
 use Rattle.host.specs.declared.HostSettings.{HostSettings}
 use Rattle.host.specs.declared.HostTwin.{HostTwin}
 
@@ -119,13 +122,21 @@ twin-named t = rw (wait-told (t .machine .wait), mark-told (t .machine .armed))
 pub twins-back : TwinsBack
 twins-back = record { host = host-back; twin = twin-back; named = twin-named }
 
+ranges-host-back : (l : List HostRange) → map hostRange (map rangeFrom l) ≡ l
+ranges-host-back [] = refl
+ranges-host-back (g ∷ l) = ap (λ (k : List HostRange). g ∷ k) (ranges-host-back l)
+
+ranges-back : (l : List Range) → map rangeFrom (map hostRange l) ≡ l
+ranges-back [] = refl
+ranges-back (g ∷ l) = ap (λ (k : List Range). g ∷ k) (ranges-back l)
+
 settings-host-back : (s : HostSettings) → isSettings s ≡ true → hostSettings (settingsFrom s) ≡ s
 settings-host-back s h =
     let q = both _ _ h in
-    rw (flags-back (s .flags) (ltb-true _ _ (q .0)), eqb-true (s .spare) 0 (q .1))
+    rw (ranges-host-back (s .profile), flags-back (s .flags) (ltb-true _ _ (q .0)), eqb-true (s .spare) 0 (q .1))
 
 settings-back-so : (s : Settings) → settingsFrom (hostSettings s) ≡ s
-settings-back-so s = rw (flags-named (s .flags))
+settings-back-so s = rw (flags-named (s .flags), ranges-back (s .profile))
 
 settings-named : (s : Settings) → isSettings (hostSettings s) ≡ true
 settings-named s = rw (flags-told (s .flags))

@@ -9,16 +9,14 @@ use native.Mathlib.Numerals.{add-one}
 use lib.ListN.{length, getD, set, take}
 use lib.Seq.{take-suc, take-suc-set, take-all}
 use Rattle.registers.specs.declared.Flags.the-variants.{Bought, Manual}
-use Rattle.memory.specs.declared.writes.Write.{Write}
 use Rattle.calls.specs.declared.InterruptType.the-variants.{Irq, Firq, Nmi}
 use Rattle.calls.specs.declared.Report.{Report}
 use Rattle.journal.specs.Recorded.{State, Ended, Leaves}
 use Rattle.journal.specs.declared.Outcome.{Outcome}
 use Rattle.host.specs.Numbers.{flagsOf, interruptTypeOf}
-use Rattle.host.specs.Structs.{hostWrite, hostOutcome, keeping, unnamed}
+use Rattle.host.specs.Structs.{hostOutcome, keeping, unnamed}
 use Rattle.host.specs.Ends.{handed, Ends, Reports}
 use Rattle.host.specs.declared.HostTwin.{HostTwin}
-use Rattle.host.specs.declared.HostWrite.{HostWrite}
 use Rattle.host.specs.declared.HostOutcome.{HostOutcome}
 
 -- ---- numbers
@@ -34,17 +32,17 @@ interrupt-rest zero h k = absurd (h refl)
 interrupt-rest (suc zero) h k = absurd (k refl)
 interrupt-rest (suc (suc n)) h k = refl
 
--- ---- the device writes, one more
+-- ---- a list made of another, element by element: one more, and all
 
-pub turn : (list : List Write) (out : List HostWrite) (i : ℕ) (d : Write) (w : HostWrite) → i < length list → i < length out
-    → take i out ≡ map hostWrite (take i list) → w ≡ hostWrite (getD list i d) → take (i + 1) (set out i w) ≡ map hostWrite (take (i + 1) list)
-turn list out i d w h k e f =
-    let n : i + 1 ≡ suc i = add-one i in
-    rw (n, take-suc-set out i w k, e, f, take-suc list i d h, map-append hostWrite (take i list) (getD list i d ∷ []))
+module _ {A B : Type 0} (make : A → B) (list : List A) (out : List B) (i : ℕ) where
+  pub turn : (d : A) (w : B) → i < length list → i < length out → take i out ≡ map make (take i list) → w ≡ make (getD list i d)
+      → take (i + 1) (set out i w) ≡ map make (take (i + 1) list)
+  turn d w h k e f =
+      let n : i + 1 ≡ suc i = add-one i in
+      rw (n, take-suc-set out i w k, e, f, take-suc list i d h, map-append make (take i list) (getD list i d ∷ []))
 
-pub all-made : (list : List Write) (out : List HostWrite) (i : ℕ) → 12 ≤ i → length list ≡ 12 → length out ≡ 12 → take i out ≡ map hostWrite (take i list)
-    → out ≡ map hostWrite list
-all-made list out i t h k e = sym (take-all i out (omega arith)) ∙ e ∙ ap (λ (l : List Write). map hostWrite l) (take-all i list (omega arith))
+  pub all-made : (n : ℕ) → n ≤ i → length list ≡ n → length out ≡ n → take i out ≡ map make (take i list) → out ≡ map make list
+  all-made n t h k e = sym (take-all i out (omega arith)) ∙ e ∙ ap (λ (l : List A). map make l) (take-all i list (omega arith))
 
 -- ---- how a call ends
 

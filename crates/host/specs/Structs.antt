@@ -7,14 +7,16 @@ use mathlib.Core.Path.{_≡_}
 use lib.ListN.{replicate}
 use Rattle.answers.specs.Numbers.{numberOfAnswer}
 use Rattle.memory.specs.declared.writes.Write.{Write}
-use Rattle.machine.specs.Machine.{settingsOf}
+use Rattle.machine.specs.Machine.{settingsWith}
 use Rattle.machine.specs.Record.{waitByte, waitOf, markByte, markOf}
 use Rattle.machine.specs.declared.Machine.{Machine}
 use Rattle.machine.specs.declared.Settings.{Settings}
+use Rattle.machine.specs.declared.fence.Range.{Range}
 use Rattle.calls.specs.declared.Report.{Report}
 use Rattle.journal.specs.declared.Outcome.{Outcome}
 use Rattle.journal.specs.declared.Twin.{Twin}
 use Rattle.host.specs.Numbers.{flagsOf, flagsNumber, isTwin, isSettings, unnamedNumber}
+use Rattle.host.specs.declared.HostRange.{HostRange}
 use Rattle.host.specs.declared.HostSettings.{HostSettings}
 use Rattle.host.specs.declared.HostTwin.{HostTwin}
 use Rattle.host.specs.declared.HostWrite.{HostWrite}
@@ -22,11 +24,17 @@ use Rattle.host.specs.declared.HostOutcome.{HostOutcome}
 
 -- ---- settings
 
+abbrev pub rangeFrom : HostRange → Range
+rangeFrom g = record { first = g .first; last = g .last }
+
+abbrev pub hostRange : Range → HostRange
+hostRange g = record { first = g .first; last = g .last }
+
 abbrev pub settingsFrom : HostSettings → Settings
-settingsFrom s = settingsOf (s .«ram_top») (flagsOf (s .flags))
+settingsFrom s = settingsWith (s .«ram_top») (flagsOf (s .flags)) (map rangeFrom (s .profile))
 
 abbrev pub hostSettings : Settings → HostSettings
-hostSettings s = record { «ram_top» = s .«ram_top»; flags = flagsNumber (s .flags); spare = 0 }
+hostSettings s = record { «ram_top» = s .«ram_top»; flags = flagsNumber (s .flags); spare = 0; profile = map hostRange (s .profile) }
 
 -- ---- the twin
 

@@ -4,12 +4,13 @@ ghost use mathlib.Core.Path.{_≡_};
 ghost use mathlib.Core.List.{map};
 ghost use Rattle.machine.specs.Record.{waitByte, waitOf, markByte, markOf};
 ghost use Rattle.host.specs.Numbers.{flagsOf, interruptTypeOf, isTwin, isSettings, isNamed, isInterrupt};
-ghost use Rattle.host.specs.Structs.{settingsFrom, machineFrom, twinFrom, hostTwin, hostWrite, noWrites, hostOutcome, keeping, unnamed};
+ghost use Rattle.host.specs.Structs.{rangeFrom, settingsFrom, machineFrom, twinFrom, hostTwin, hostWrite, noWrites, hostOutcome, keeping, unnamed};
 use calls::InterruptType;
 use calls::Report;
 use journal::Outcome;
 use journal::Twin;
 use machine::Machine;
+use machine::Range;
 use machine::Settings;
 use machine::Wait;
 use memory::Write;
@@ -22,12 +23,20 @@ use registers::Set;
 // call on a twin.
 const UNNAMED: u64 = 64;
 
-// `flags` is 0 as bought, 1 by the manual; `spare` is 0.
+// A range of the profile: first to last, both included; empty where first is above last.
+#[repr(C)]
+pub struct HostRange {
+    pub first: u16,
+    pub last: u16,
+}
+
+// `flags` is 0 as bought, 1 by the manual; `spare` is 0. Outside the eight ranges nothing may be stored.
 #[repr(C)]
 pub struct HostSettings {
     pub ram_top: u16,
     pub flags: u8,
     pub spare: u8,
+    pub profile: [HostRange; 8],
 }
 
 // A machine, how many records its journal holds and how many bytes they use: 48 bytes, no gap, the registers in the order of `Set`. `wait`
@@ -80,10 +89,33 @@ fn flags_of(flags: u8) -> Flags
     Flags::Manual
 }
 
+fn range_of(g: HostRange) -> Range
+    ensures { λ r. ⌜ r ≡ rangeFrom g ⌝ }
+{
+    Range {
+        first: g.first,
+        last: g.last,
+    }
+}
+
+fn profile_of(list: [HostRange; 8]) -> [Range; 8]
+    ensures { λ r. ⌜ r ≡ map rangeFrom list ⌝ }
+{
+    let mut out = [Range { first: 1, last: 0 }; 8];
+    let mut i = 0;
+    while i < 8 {
+        let g = range_of(list[i]);
+        out[i] = g;
+        i += 1;
+    }
+    out
+}
+
 pub fn settings_of(s: HostSettings) -> Settings
     ensures { λ r. ⌜ r ≡ settingsFrom s ⌝ }
 {
-    Settings::new(s.ram_top, flags_of(s.flags))
+    let profile = s.profile;
+    Settings::fenced(s.ram_top, flags_of(s.flags), profile_of(profile))
 }
 
 fn wait_of(n: u8) -> Wait

@@ -17,7 +17,7 @@ use Rattle.host_calls.specs.declared.HostSalvaged.{HostSalvaged}
 
 -- raised with each change of a struct, or of what a call takes
 abbrev pub abiNumber : ℕ
-abiNumber = 3
+abiNumber = 4
 
 -- where the newest record stands (crate journal), and how long it is: 0 where there is none
 unfoldable pub partOf : List ℕ → ℕ → ℕ → HostPart

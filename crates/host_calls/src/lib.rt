@@ -19,7 +19,7 @@ use host::HostTwin;
 use journal::Twin;
 
 // Raised with each change of a struct, or of what a call takes.
-const ABI: u64 = 3;
+const ABI: u64 = 4;
 
 // `count` bytes of the journal from `at` on; 0 bytes where there is no record.
 #[repr(C)]

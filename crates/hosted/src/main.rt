@@ -2,6 +2,7 @@
 // call: its number, PC, CC and cycles. What it prints is worked out by hand (README.md).
 mod played;
 
+use host::HostRange;
 use host::HostSettings;
 use host::HostTwin;
 
@@ -12,12 +13,23 @@ type Dump = [u8; 65568];
 // Room for four records of 34 bytes, and one of 70 with twelve entries.
 type Journal = [u8; 206];
 
+// 0000 to FFFF, then seven empty ranges.
+fn all_allowed() -> [HostRange; 8] {
+    let mut profile = [HostRange { first: 1, last: 0 }; 8];
+    profile[0] = HostRange {
+        first: 0,
+        last: 0xFFFF,
+    };
+    profile
+}
+
 // ram_top 7FFF, flags by the manual.
 fn settings() -> HostSettings {
     HostSettings {
         ram_top: 0x7FFF,
         flags: 1,
         spare: 0,
+        profile: all_allowed(),
     }
 }
 

@@ -24,6 +24,8 @@ use Rattle.machine.specs.declared.Wait.{Wait}
 use Rattle.machine.specs.declared.Wait.the-variants.{Running, Cwai, Sync}
 use Rattle.machine.specs.Record.{machineOf}
 use Rattle.calls.specs.Calls.{planOf}
+use Rattle.calls.specs.Plans.{fenced}
+use Rattle.calls.proofs.Passing.{refused-free}
 use Rattle.calls.specs.Steps.{unlessWaiting, decodedTo, planned, reached, stepPlan}
 use Rattle.calls.specs.declared.Plan.{Plan}
 use Rattle.journal.specs.Record.{waitAt, markAt, countOf, entriesOf, readEntries, isRecord, mostStored, entriesAt, recordLength}
@@ -313,11 +315,11 @@ module _ (s : State) where
 
 -- ---- the plan of a step, once memory has its length
 
-pub running-plan : (mem : List ℕ) (m : Machine) (t : Settings) → length mem ≡ 65536 → m .wait ≡ Running → stepPlan mem m t ≡ planned mem m t (decodedTo mem (m .regs))
+pub running-plan : (mem : List ℕ) (m : Machine) (t : Settings) → length mem ≡ 65536 → m .wait ≡ Running → stepPlan mem m t ≡ fenced t m (planned mem m t (decodedTo mem (m .regs)))
 unfolding stepPlan reached
-running-plan mem m t h e = rw (eq-eqb (length mem) 65536 h) (ap (λ (w : Wait). planned mem m t (unlessWaiting w mem (m .regs))) e)
+running-plan mem m t h e = rw (eq-eqb (length mem) 65536 h) (ap (λ (w : Wait). fenced t m (planned mem m t (unlessWaiting w mem (m .regs)))) e)
 
 pub waiting-plan : (mem : List ℕ) (m : Machine) (t : Settings) → length mem ≡ 65536 → (m .wait ≡ Cwai) ⊎ (m .wait ≡ Sync) → stepPlan mem m t .answer ≡ Refused Waiting
 unfolding stepPlan reached
-waiting-plan mem m t h (inl e) = rw (eq-eqb (length mem) 65536 h) (ap (λ (w : Wait). planned mem m t (unlessWaiting w mem (m .regs)) .answer) e)
-waiting-plan mem m t h (inr e) = rw (eq-eqb (length mem) 65536 h) (ap (λ (w : Wait). planned mem m t (unlessWaiting w mem (m .regs)) .answer) e)
+waiting-plan mem m t h (inl e) = rw (eq-eqb (length mem) 65536 h) (ap (λ (w : Wait). fenced t m (planned mem m t (unlessWaiting w mem (m .regs))) .answer) e ∙ ap (λ (p : Plan). p .answer) (refused-free t m Waiting))
+waiting-plan mem m t h (inr e) = rw (eq-eqb (length mem) 65536 h) (ap (λ (w : Wait). fenced t m (planned mem m t (unlessWaiting w mem (m .regs))) .answer) e ∙ ap (λ (p : Plan). p .answer) (refused-free t m Waiting))

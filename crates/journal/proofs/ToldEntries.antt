@@ -159,12 +159,12 @@ module _ (m : Machine) (s : Settings) (mem : List ℕ) (d : Decision) where
   unfolding finished reported
   told-nothing e = let p = plan-as m s mem d e in record { answer = ap (λ (x : Plan). x .answer) p; writes = ap (λ (x : Plan). listed (x .writes)) p; quiet = refl }
 
-  module _ (h : isPlain (s .«ram_top») d ≡ true) where
+  module _ (h : isPlain s d ≡ true) where
     pub told-byte : d .kind ≡ Byte → Plainly (s .«ram_top») (planTold m s mem d) (valueWrites (d .at) (u8 (d .value % 256)) false)
     unfolding finished
     told-byte e =
         let p = plan-as m s mem d e in
-        let b = plain-byte (s .«ram_top») d e h in
+        let b = plain-byte s d e h in
         let l = b .0 in
         let t = b .1 in
         record {
@@ -177,7 +177,7 @@ module _ (m : Machine) (s : Settings) (mem : List ℕ) (d : Decision) where
     unfolding finished
     told-word e =
         let p = plan-as m s mem d e in
-        let b = plain-word (s .«ram_top») d e h in
+        let b = plain-word s d e h in
         let l = b .0 in
         let t = b .1 in
         record {
@@ -189,7 +189,7 @@ module _ (m : Machine) (s : Settings) (mem : List ℕ) (d : Decision) where
     pub told-push : d .kind ≡ Push → Plainly (s .«ram_top») (planTold m s mem d) (pushes (d .regs) false (wordOf (d .regs) (stackWord (d .own))) (registersNamed (d .own) (d .mask)))
     unfolding finished
     told-push e =
-        let b = plain-push (s .«ram_top») d e h in
+        let b = plain-push s d e h in
         let pointer = wordOf (d .regs) (stackWord (d .own)) in
         let p = plan-as m s mem d e ∙ ap (finished m (d .cycles) (d .arms) (d .reads)) (pushed-as (d .regs) (d .own) (d .mask) (b .2)) in
         let n = named-size (d .mask) (d .own) in
@@ -254,10 +254,10 @@ module _ (m : Machine) (s : Settings) (mem : List ℕ) (d : Decision) where
   unfolding savedFor
   saves-nothing e = ap (λ (ws : List Write). savedFor (s .«ram_top») ws mem) (told-nothing m s mem d e .writes)
 
-  module _ (h : isPlain (s .«ram_top») d ≡ true) where
+  module _ (h : isPlain s d ≡ true) where
     pub saves-byte : d .kind ≡ Byte → saves ≡ savedFrom (d .at) 1 mem
     saves-byte e =
-        let b = plain-byte (s .«ram_top») d e h in
+        let b = plain-byte s d e h in
         let l = b .0 in
         let t = b .1 in
         ap (λ (ws : List Write). savedFor (s .«ram_top») ws mem) (told-byte m s mem d h e .writes)
@@ -265,7 +265,7 @@ module _ (m : Machine) (s : Settings) (mem : List ℕ) (d : Decision) where
 
     pub saves-word : d .kind ≡ Word → saves ≡ savedFrom (d .at) 2 mem
     saves-word e =
-        let b = plain-word (s .«ram_top») d e h in
+        let b = plain-word s d e h in
         let l = b .0 in
         let t = b .1 in
         ap (λ (ws : List Write). savedFor (s .«ram_top») ws mem) (told-word m s mem d h e .writes)
@@ -276,7 +276,7 @@ module _ (m : Machine) (s : Settings) (mem : List ℕ) (d : Decision) where
 
     pub count-push : d .kind ≡ Push → length saves ≡ bytesPushed (d .mask)
     count-push e =
-        let b = plain-push (s .«ram_top») d e h in
+        let b = plain-push s d e h in
         let n = named-size (d .mask) (d .own) in
         let room = b .2 in
         ap length (saves-push e)
@@ -295,7 +295,7 @@ module _ (m : Machine) (s : Settings) (mem : List ℕ) (d : Decision) where
         by-kind Byte e = heard _ (told-byte m s mem d h e)
         by-kind Word e = heard _ (told-word m s mem d h e)
         by-kind Push e = heard _ (told-push m s mem d h e)
-        by-kind Rest e = absurd (not-rest (s .«ram_top») d e h)
+        by-kind Rest e = absurd (not-rest s d e h)
 
 -- ---- room for the entries of a push
 

@@ -9,6 +9,7 @@ ghost use lib.Seq.{sets};
 ghost use Rattle.memory.specs.Writes.{listed};
 ghost use Rattle.stack.specs.Pushing.{order};
 ghost use Rattle.calls.specs.Decisions.{planTold, isPlain};
+ghost use Rattle.calls.specs.Plans.{fenced};
 ghost use Rattle.calls.specs.Steps.{stepPlan};
 ghost use Rattle.journal.specs.Record.{mostStored, entryLength, entriesAt, recordLength, entries, encode};
 ghost use Rattle.journal.specs.Recorded.{inHand, Typed, Leaves, mostRecords, savedFor, stepped};
@@ -83,7 +84,7 @@ fn save_bytes(rest: &mut [u8], mem: &[u8], pointer: u16, p: u16, mask: u8)
 
 // The entries of what is told.
 fn save_told(rest: &mut [u8], mem: &[u8], settings: Settings, decision: Decision)
-    requires { ⌜ ((length (now mem) ≡ 65536) × (isPlain (settings .«ram_top») decision ≡ true)) × ((m : Machine) → entriesAt + length (savedFor (settings .«ram_top») (listed (planTold m settings (now mem) decision .writes)) (now mem)) * entryLength ≤ length (now rest)) ⌝ }
+    requires { ⌜ ((length (now mem) ≡ 65536) × (isPlain settings decision ≡ true)) × ((m : Machine) → entriesAt + length (savedFor (settings .«ram_top») (listed (planTold m settings (now mem) decision .writes)) (now mem)) * entryLength ≤ length (now rest)) ⌝ }
     ensures { λ _. ⌜ ((m : Machine) → now (rest .exit) ≡ sets (now (rest .entry)) entriesAt (entries (savedFor (settings .«ram_top») (listed (planTold m settings (now (mem .entry)) decision .writes)) (now (mem .entry))))) ⌝ }
 {
     let kind = decision.kind;
@@ -117,7 +118,7 @@ enum Counted {
 
 // What is told is refused, or its record's length is known before a byte of the journal is written.
 fn count_told(settings: Settings, decision: Decision) -> Counted
-    requires { ⌜ isPlain (settings .«ram_top») decision ≡ true ⌝ }
+    requires { ⌜ isPlain settings decision ≡ true ⌝ }
     ensures { λ r. ⌜ ((m : Machine) (mem : List ℕ) → CountsFor (settings .«ram_top») mem (planTold m settings mem decision) r) ⌝ }
 {
     let kind = decision.kind;
@@ -143,7 +144,7 @@ fn write_told(
     decision: Decision,
     n: usize,
 )
-    requires { ⌜ ((length (now mem) ≡ 65536) × (isPlain (settings .«ram_top») decision ≡ true)) × ((n ≤ mostStored) × ((recordLength n ≤ length (now rest)) × ((m : Machine) → n ≡ length (savedFor (settings .«ram_top») (listed (planTold m settings (now mem) decision .writes)) (now mem))))) ⌝ }
+    requires { ⌜ ((length (now mem) ≡ 65536) × (isPlain settings decision ≡ true)) × ((n ≤ mostStored) × ((recordLength n ≤ length (now rest)) × ((m : Machine) → n ≡ length (savedFor (settings .«ram_top») (listed (planTold m settings (now mem) decision .writes)) (now mem))))) ⌝ }
     ensures { λ _. ⌜ ((m : Machine) → now (rest .exit) ≡ encode machine (savedFor (settings .«ram_top») (listed (planTold m settings (now (mem .entry)) decision .writes)) (now (mem .entry))) ++ drop (recordLength n) (now (rest .entry))) ⌝ }
 {
     write_header(rest, machine);
@@ -161,7 +162,7 @@ fn conclude_told(
     settings: Settings,
     decision: Decision,
 ) -> Outcome
-    requires { ⌜ ((length (now mem) ≡ 65536) × (isPlain (settings .«ram_top») decision ≡ true)) × ((twin .bytes ≤ length (now journal)) × (twin .records < mostRecords)) ⌝ }
+    requires { ⌜ ((length (now mem) ≡ 65536) × (isPlain settings decision ≡ true)) × ((twin .bytes ≤ length (now journal)) × (twin .records < mostRecords)) ⌝ }
     ensures { λ r. ⌜ Leaves r (now (mem .exit)) (now (journal .exit)) (concludedFor settings (planTold (twin .machine) settings (now (mem .entry)) decision) (inHand (now (mem .entry)) (now (journal .entry)) twin)) ⌝ }
 {
     match count_told(settings, decision) {
@@ -203,7 +204,7 @@ fn record_list(
     decision: Decision,
 ) -> Outcome
     requires { ⌜ (length (now mem) ≡ 65536) × ((twin .bytes ≤ length (now journal)) × (twin .records < mostRecords)) ⌝ }
-    ensures { λ r. ⌜ Leaves r (now (mem .exit)) (now (journal .exit)) (concludedFor settings (planTold (twin .machine) settings (now (mem .entry)) decision) (inHand (now (mem .entry)) (now (journal .entry)) twin)) ⌝ }
+    ensures { λ r. ⌜ Leaves r (now (mem .exit)) (now (journal .exit)) (concludedFor settings (fenced settings (twin .machine) (planTold (twin .machine) settings (now (mem .entry)) decision)) (inHand (now (mem .entry)) (now (journal .entry)) twin)) ⌝ }
 {
     let plan = calls::plan_of(mem, twin.machine, settings, decision);
     conclude(mem, journal, twin, settings, plan)
@@ -219,7 +220,7 @@ fn record_rest(
     decision: Decision,
 ) -> Outcome
     requires { ⌜ (length (now mem) ≡ 65536) × ((twin .bytes ≤ length (now journal)) × (twin .records < mostRecords)) ⌝ }
-    ensures { λ r. ⌜ Leaves r (now (mem .exit)) (now (journal .exit)) (concludedFor settings (planTold (twin .machine) settings (now (mem .entry)) decision) (inHand (now (mem .entry)) (now (journal .entry)) twin)) ⌝ }
+    ensures { λ r. ⌜ Leaves r (now (mem .exit)) (now (journal .exit)) (concludedFor settings (fenced settings (twin .machine) (planTold (twin .machine) settings (now (mem .entry)) decision)) (inHand (now (mem .entry)) (now (journal .entry)) twin)) ⌝ }
 {
     let outcome = record_list(mem, journal, twin, settings, decision);
     outcome
@@ -234,13 +235,13 @@ fn record_decided(
     decision: Decision,
 ) -> Outcome
     requires { ⌜ (length (now mem) ≡ 65536) × ((twin .bytes ≤ length (now journal)) × (twin .records < mostRecords)) ⌝ }
-    ensures { λ r. ⌜ Leaves r (now (mem .exit)) (now (journal .exit)) (concludedFor settings (planTold (twin .machine) settings (now (mem .entry)) decision) (inHand (now (mem .entry)) (now (journal .entry)) twin)) ⌝ }
+    ensures { λ r. ⌜ Leaves r (now (mem .exit)) (now (journal .exit)) (concludedFor settings (fenced settings (twin .machine) (planTold (twin .machine) settings (now (mem .entry)) decision)) (inHand (now (mem .entry)) (now (journal .entry)) twin)) ⌝ }
 {
     let kind = decision.kind;
     match kind {
         Kind::Rest => record_rest(mem, journal, twin, settings, decision),
         _ => {
-            if calls::is_plain(decision, settings.ram_top) {
+            if calls::is_plain(decision, settings) {
                 return conclude_told(mem, journal, twin, settings, decision);
             }
             let t = twin;

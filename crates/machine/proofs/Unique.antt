@@ -5,6 +5,7 @@ use Rattle.answers.proofs.Determined.{Determines}
 use Rattle.machine.proofs.Effect
 use Rattle.machine.proofs.Machine
 use Rattle.machine.proofs.Settings
+use Rattle.machine.proofs.fence
 use Rattle.machine.proofs.record
 
 pub fresh : Determines 0 Machine.fresh.Kinds.ps Machine.fresh.Kinds.r Machine.fresh.Reads.Post
@@ -18,6 +19,12 @@ marked κs a x y ws vs p q = (p ∙ sym q, refl)
 
 pub settings : Determines 0 Settings.new.Kinds.ps Settings.new.Kinds.r Settings.new.Reads.Post
 settings κs a x y ws vs p q = (p ∙ sym q, refl)
+
+pub fenced : Determines 0 Settings.fenced.Kinds.ps Settings.fenced.Kinds.r Settings.fenced.Reads.Post
+fenced κs a x y ws vs p q = (p ∙ sym q, refl)
+
+pub bars : Determines 0 fence.bars.Kinds.ps fence.bars.Kinds.r fence.bars.Reads.Post
+bars κs a x y ws vs p q = (p ∙ sym q, refl)
 
 pub changes : Determines 0 Effect.changes.Kinds.ps Effect.changes.Kinds.r Effect.changes.Reads.Post
 changes κs a x y ws vs p q = (p ∙ sym q, refl)

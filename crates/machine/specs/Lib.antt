@@ -1,3 +1,4 @@
 pub mod Machine
 pub mod Effect
 pub mod Record
+pub mod Fence

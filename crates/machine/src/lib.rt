@@ -1,11 +1,14 @@
 // The machine: registers, wait state, armed mark and counters; the settings given with each call; what an instruction does to it.
+mod fence;
 mod record;
 
 ghost use mathlib.Core.Path.{_≡_};
-ghost use Rattle.machine.specs.Machine.{fresh, withRegisters, marked, settingsOf};
+ghost use Rattle.machine.specs.Machine.{fresh, withRegisters, marked, settingsOf, settingsWith};
 ghost use Rattle.machine.specs.Effect.{changes, stores, refuses};
 use answers::Answer;
 use answers::Refusal;
+pub use fence::Range;
+pub use fence::bars;
 use memory::Writes;
 pub use record::ARMED;
 pub use record::CYCLES;
@@ -37,9 +40,10 @@ pub struct Machine {
     pub armed: bool,
 }
 
-// Given with each call.
+// Given with each call. The profile is the fence: a call stores only at places that one of its ranges has.
 pub struct Settings {
     pub ram_top: u16,
+    pub profile: [Range; 8],
     pub flags: Flags,
 }
 
@@ -89,10 +93,21 @@ impl Machine {
 }
 
 impl Settings {
+    // All allowed: the first range is 0000 to FFFF, the others are empty.
     pub fn new(ram_top: u16, flags: Flags) -> Settings
         ensures { λ r. ⌜ r ≡ settingsOf «ram_top» flags ⌝ }
     {
-        Settings { ram_top, flags }
+        Settings::fenced(ram_top, flags, fence::all_allowed())
+    }
+
+    pub fn fenced(ram_top: u16, flags: Flags, profile: [Range; 8]) -> Settings
+        ensures { λ r. ⌜ r ≡ settingsWith «ram_top» flags profile ⌝ }
+    {
+        Settings {
+            ram_top,
+            profile,
+            flags,
+        }
     }
 }
 

@@ -22,7 +22,7 @@ use Rattle.calls.specs.Resets.{resetOf, memoryAfterReset}
 use Rattle.journal.specs.Recorded.{freshTwin, inHand}
 use Rattle.runfile.specs.Format.{Parsed, says, malformed, parsed, placed}
 use Rattle.runfile.proofs.Operations.{they-fit, not-longer}
-use Rattle.player.specs.Plays.{zeros, journalLength, played, printed, PlayFits}
+use Rattle.player.specs.Plays.{zeros, journalLength, runSettings, played, printed, PlayFits}
 use Rattle.player.specs.Boots.{ramTop, flagByte, steps, text, isWhole, stepLines, runLines, loadedLines, bootLines, bootPrinted, BootFits}
 use Rattle.player.proofs.Playing.{line-bound, lines-bound}
 
@@ -33,7 +33,7 @@ play-fits file = go (parsed file) refl
     go : (p : Parsed) → parsed file ≡ p → length (played p (inHand (placed p (zeros 65536)) (zeros journalLength) freshTwin)) ≤ 33 * 32768
     go (says f) e =
         let s = inHand (placed (says f) (zeros 65536)) (zeros journalLength) freshTwin in
-        omega (arith, lines-bound (f .settings) (f .operations) s, they-fit file f e, not-longer file f e)
+        omega (arith, lines-bound (runSettings (f .settings)) (f .operations) s, they-fit file f e, not-longer file f e)
     go malformed e = omega (arith, alone-fits (numberOf Malformed))
 
 module _ (t : Settings) where

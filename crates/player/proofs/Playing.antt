@@ -27,7 +27,7 @@ use Rattle.runfile.specs.declared.Next.the-variants.{Is}
 use Rattle.runfile.specs.declared.Start.{Start}
 use Rattle.runfile.specs.declared.Loaded.the-variants.{Ready, Refused as NotLoaded}
 use Rattle.runfile.proofs.Operations.{in-order, they-fit, not-longer}
-use Rattle.player.specs.Plays.{acted, wantedBy, shownOf, LeavesShown, callLine, refusalLine, lineFor, lines, played}
+use Rattle.player.specs.Plays.{acted, wantedBy, shownOf, LeavesShown, callLine, refusalLine, lineFor, lines, played, runSettings}
 use Rattle.player.specs.declared.plays.Shown.{Shown}
 use Rattle.player.specs.declared.plays.Wanted.{Wanted}
 use Rattle.player.specs.declared.plays.Wanted.the-variants.{Call as Calling, Undo as Undoing}
@@ -119,7 +119,7 @@ pub record Sound (file : List ℕ) (from : Start) (p : Parsed) : Type 0 where
   pub starts : from .operations + length (operationsIn p) ≡ length file
   pub short : length file ≤ 32768
   pub each : (i : ℕ) → i < length (operationsIn p) → nextOf (operationAt file (from .operations + i)) ≡ Is (getD (operationsIn p) i Step)
-  pub plays : (s : State) → played p s ≡ lines (from .settings) (operationsIn p) s
+  pub plays : (s : State) → played p s ≡ lines (runSettings (from .settings)) (operationsIn p) s
 
 pub sound : (file : List ℕ) (from : Start) → Ready from ≡ loaded (length file) (parsed file) → Sound file from (parsed file)
 sound file from h = go (parsed file) refl h
@@ -139,15 +139,15 @@ sound file from h = go (parsed file) refl h
 -- ---- the end
 
 module _ {file : List ℕ} {from : Start} {p : Parsed} (so : Sound file from p) (s₀ : State) (out₀ : List ℕ) where
-  pub finished : (at used : ℕ) (out : List ℕ) (s : State) → Sofar (from .settings) (operationsIn p) s₀ out₀ (at - from .operations) used out s
+  pub finished : (at used : ℕ) (out : List ℕ) (s : State) → Sofar (runSettings (from .settings)) (operationsIn p) s₀ out₀ (at - from .operations) used out s
       → length file ≤ at → (used ≡ length (played p s₀)) × (out ≡ sets out₀ 0 (played p s₀))
   finished at used out s h k =
       let e = take-all (at - from .operations) (operationsIn p) (omega (arith, so .starts)) in
       rw (so .plays s₀) (h .count ∙ rw e, h .text ∙ rw e)
 
-  pub fits : (at used : ℕ) (out : List ℕ) (s : State) → Sofar (from .settings) (operationsIn p) s₀ out₀ (at - from .operations) used out s → at ≤ length file → used ≤ 33 * 32768
+  pub fits : (at used : ℕ) (out : List ℕ) (s : State) → Sofar (runSettings (from .settings)) (operationsIn p) s₀ out₀ (at - from .operations) used out s → at ≤ length file → used ≤ 33 * 32768
   fits at used out s h k =
-      let b = lines-bound (from .settings) (take (at - from .operations) (operationsIn p)) s₀ in
+      let b = lines-bound (runSettings (from .settings)) (take (at - from .operations) (operationsIn p)) s₀ in
       let l = length-take-le (at - from .operations) (operationsIn p) (omega (arith, so .starts)) in
       omega (arith, h .count, so .short)
 

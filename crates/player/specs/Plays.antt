@@ -9,6 +9,7 @@ use Rattle.answers.specs.declared.Answer.{Answer}
 use Rattle.answers.specs.declared.Refusal.{Refusal}
 use Rattle.answers.specs.declared.Refusal.the-variants.{Malformed}
 use Rattle.text.specs.Lines.{line, alone}
+use Rattle.machine.specs.Machine.{settingsOf}
 use Rattle.machine.specs.declared.Machine.{Machine}
 use Rattle.machine.specs.declared.Settings.{Settings}
 use Rattle.calls.specs.declared.InterruptType.the-variants.{Irq as IRQ, Firq as FIRQ, Nmi as NMI}
@@ -17,6 +18,7 @@ use Rattle.journal.specs.Undos.{undone}
 use Rattle.journal.specs.declared.CallType.the-variants.{Step as StepCall, Interrupt as InterruptCall, Reset as ResetCall}
 use Rattle.journal.specs.declared.Outcome.{Outcome}
 use Rattle.runfile.specs.Format.{Parsed, says, malformed, parsed, placed}
+use Rattle.runfile.specs.declared.FileSettings.{FileSettings}
 use Rattle.runfile.specs.declared.Operation.{Operation}
 use Rattle.runfile.specs.declared.Operation.the-variants.{Step, Irq, Firq, Nmi, Reset, Undo}
 use Rattle.player.specs.declared.plays.Shown.{Shown}
@@ -67,9 +69,13 @@ unfoldable pub lines : Settings → List Operation → State → List ℕ
 lines t [] s = []
 lines t (o ∷ os) s = lineFor (acted t o s) ++ lines t os (acted t o s .state)
 
+-- a run allows all stores
+abbrev pub runSettings : FileSettings → Settings
+runSettings g = settingsOf (g .«ram_top») (g .flags)
+
 -- a sound file's operations are played from the state s on; a malformed file prints its number, 16
 abbrev pub played : Parsed → State → List ℕ
-played (says f) s = lines (f .settings) (f .operations) s
+played (says f) s = lines (runSettings (f .settings)) (f .operations) s
 played malformed s = refusalLine Malformed
 
 unfoldable pub zeros : ℕ → List ℕ

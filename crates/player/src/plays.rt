@@ -4,7 +4,7 @@ ghost use lib.ListN.{length};
 ghost use lib.Seq.{sets};
 ghost use Rattle.journal.specs.Recorded.{freshTwin, inHand};
 ghost use Rattle.runfile.specs.Format.{loaded, parsed};
-ghost use Rattle.player.specs.Plays.{zeros, journalLength, acted, wantedBy, shownOf, LeavesShown, played, printed};
+ghost use Rattle.player.specs.Plays.{zeros, journalLength, acted, wantedBy, shownOf, LeavesShown, played, printed, runSettings};
 use super::put_call;
 use super::put_refusal;
 use super::zeroed_memory;
@@ -14,6 +14,7 @@ use journal::CallType;
 use journal::Outcome;
 use journal::Twin;
 use machine::Settings;
+use runfile::FileSettings;
 use runfile::Loaded;
 use runfile::Next;
 use runfile::Operation;
@@ -77,12 +78,21 @@ fn act(
     }
 }
 
+// A run allows all stores.
+fn run_settings(given: FileSettings) -> Settings
+    ensures { λ r. ⌜ r ≡ runSettings given ⌝ }
+{
+    let flags = given.flags;
+    Settings::new(given.ram_top, flags)
+}
+
 // Plays the operations of a sound file in order, and returns the length of the text.
 fn play_all(out: &mut [u8], file: &[u8], mem: &mut [u8], journal: &mut [u8], from: Start) -> usize
     requires { ⌜ Loaded.Ready from ≡ loaded (length (now file)) (parsed (now file)) ⌝ }
     ensures { λ r. ⌜ (r ≡ length (played (parsed (now (file .entry))) (inHand (now (mem .entry)) (now (journal .entry)) freshTwin))) × (now (out .exit) ≡ sets (now (out .entry)) 0 (played (parsed (now (file .entry))) (inHand (now (mem .entry)) (now (journal .entry)) freshTwin))) ⌝ }
 {
-    let settings = from.settings;
+    let given = from.settings;
+    let settings = run_settings(given);
     let mut twin = Twin::fresh();
     let mut used = 0;
     let mut at = from.operations;

@@ -6,17 +6,20 @@ use mathlib.Core.List.{List}
 use mathlib.Core.Logic.{_↔_, _≢_, _⊎_, inl, inr, ⊎-elim}
 use mathlib.Core.Path.{_≡_, refl, sym, ap, _∙_}
 use native.Mathlib.Omega.{arith}
-use borrow.Author.Tests.{eq-eqb, eqb-true, eqb-false}
-use lib.Dec.{T, eqb, leb, leb→le}
+use borrow.Author.Tests.{eq-eqb, eqb-true, eqb-false, leb-true}
+use lib.Dec.{T, eqb, eqb→eq, leb, leb→le}
 use lib.ListN.{length}
 use Rattle.answers.specs.Numbers.{numberOf, numberOfAnswer}
 use Rattle.answers.specs.declared.Answer.{Answer}
 use Rattle.answers.specs.declared.Answer.the-variants.{Done, Refused}
 use Rattle.answers.specs.declared.Refusal.{Refusal}
-use Rattle.answers.specs.declared.Refusal.the-variants.{MemoryLength, Opcode, PastEnd, PostByte, PostByte8F}
+use Rattle.answers.specs.declared.Refusal.the-variants.{MemoryLength, Opcode, PastEnd, PostByte, PostByte8F, Fenced}
 use Rattle.answers.proofs.Numbers.{refused-by-a-number, numbers-apart}
 use Rattle.registers.specs.declared.Set.{Set}
 use Rattle.memory.specs.Map.{byteAt}
+use Rattle.memory.specs.Writes.{listed}
+use Rattle.memory.specs.declared.writes.Write.{Write}
+use Rattle.machine.specs.Fence.{barred, bars, judged}
 use Rattle.machine.specs.declared.Effect.{Effect}
 use Rattle.machine.specs.declared.Machine.{Machine}
 use Rattle.machine.specs.declared.Settings.{Settings}
@@ -40,11 +43,15 @@ use Rattle.evaluate.specs.Arming.{arms}
 use Rattle.operations.specs.Refusals.{codeRefused}
 use Rattle.evaluate.specs.Evaluate.{evaluateOf}
 use Rattle.evaluate.specs.Room.{isSmall}
+use Rattle.evaluate.specs.Writes.{madeBy}
+use Rattle.evaluate.proofs.Writes.{no-write-lost}
 use Rattle.cycles.specs.Cycles.{cyclesOf}
+use Rattle.calls.specs.Plans.{refusedWith, fenced}
+use Rattle.calls.specs.declared.Plan.{Plan}
 use Rattle.calls.specs.Steps.{Reached, At, NotReached, addressed, ofDecoded, decodedTo, unlessWaiting, reached, finishedAs, finished, planned, stepPlan}
-use Rattle.refusals.specs.Operations.{leadsToZero}
+use Rattle.refusals.specs.Operations.{isFenced, leadsToZero}
 use Rattle.refusals.specs.Steps.{Runs, NextPast, Met, StepsRefused}
-use Rattle.refusals.proofs.Operations.{operation-number}
+use Rattle.refusals.proofs.Operations.{numberWith, operation-number}
 
 -- ---- the numbers of the parts
 
@@ -55,23 +62,29 @@ before (NotReached x) = numberOf x
 
 -- of the step
 abbrev whole : List ℕ → Settings → Reached → ℕ
-whole mem s (At i r ea) = numberOfAnswer (evaluateOf (i .entry .op) s mem r ea .answer)
+whole mem s (At i r ea) = numberWith s mem r ea (i .entry .op)
 whole mem s (NotReached x) = numberOf x
 
-done : (m : Machine) (cycles : ℕ) (mark : Bool) (reads : ℕ) (e : Effect) → numberOfAnswer (finished m cycles mark reads e .answer) ≡ numberOfAnswer (e .answer)
-unfolding finished
-done m cycles mark reads e = go (e .answer)
+-- a plan that is made of an effect, once the fence has judged it; made are the writes of the effect where it is carried out
+done : (s : Settings) (m : Machine) (cycles reads : ℕ) (mark : Bool) (e : Effect) (made : List Write) → (e .answer ≡ Done → listed (e .writes) ≡ made)
+    → numberOfAnswer (fenced s m (finished m cycles mark reads e) .answer) ≡ numberOfAnswer (judged s made (e .answer))
+unfolding finished barred
+done s m cycles reads mark e made h = go (e .answer) h
   where
-    go : (a : Answer) → numberOfAnswer (finishedAs a m cycles mark reads e .answer) ≡ numberOfAnswer a
-    go Done = refl
-    go (Refused x) = refl
+    through : (b : Bool) (p : Plan) → p .answer ≡ Done → numberOfAnswer (cond b (refusedWith m Fenced) p .answer) ≡ numberOfAnswer (cond b (Refused Fenced) Done)
+    through true p d = refl
+    through false p d = ap numberOfAnswer d
+
+    go : (a : Answer) → (a ≡ Done → listed (e .writes) ≡ made) → numberOfAnswer (fenced s m (finishedAs a m cycles mark reads e) .answer) ≡ numberOfAnswer (judged s made a)
+    go Done k = rw (k refl) (through (bars s made) _ refl)
+    go (Refused x) k = refl
 
 step-number : (mem : List ℕ) (m : Machine) (s : Settings) → numberOfAnswer (stepPlan mem m s .answer) ≡ whole mem s (reached mem m)
-unfolding stepPlan
+unfolding stepPlan barred
 step-number mem m s = go (reached mem m)
   where
-    go : (a : Reached) → numberOfAnswer (planned mem m s a .answer) ≡ whole mem s a
-    go (At i r ea) = done m (cyclesOf i mem r ea) (arms (i .entry .op) (byteAt mem ea)) _ (evaluateOf (i .entry .op) s mem r ea)
+    go : (a : Reached) → numberOfAnswer (fenced s m (planned mem m s a) .answer) ≡ whole mem s a
+    go (At i r ea) = done s m (cyclesOf i mem r ea) _ (arms (i .entry .op) (byteAt mem ea)) (evaluateOf (i .entry .op) s mem r ea) (madeBy (i .entry .op) s mem r ea) (no-write-lost (i .entry .op) s mem r ea .all)
     go (NotReached x) = refl
 
 -- ---- decoding and the address
@@ -197,34 +210,41 @@ not-early n k t l h e = go (eqb n 0) refl t
     go true p t = omega (arith, eqb-true n 0 p)
     go false p t = omega (arith, leb→le 7 n t)
 
+few : (n : ℕ) → T (leb n 9 || eqb n 28) → (n ≤ 9) ⊎ (n ≡ 28)
+few n t = go (leb n 9) refl t
+  where
+    go : (b : Bool) → leb n 9 ≡ b → T (b || eqb n 28) → (n ≤ 9) ⊎ (n ≡ 28)
+    go true e k = inl (leb-true n 9 e)
+    go false e k = inr (eqb→eq n 28 k)
+
 module _ (mem : List ℕ) (s : Settings) where
   -- a number that no operation gives
   record Early (k : ℕ) : Type 0 where
     some : 0 < k
-    none : (op : Op) (r : Set) (ea : ℕ) → numberOfAnswer (evaluateOf op s mem r ea .answer) ≡ k → ⊥
+    none : (op : Op) (r : Set) (ea : ℕ) → numberWith s mem r ea op ≡ k → ⊥
 
-  most-number : (op : Op) (r : Set) (ea : ℕ) → numberOfAnswer (evaluateOf op s mem r ea .answer) ≤ 9
-  most-number op r ea = leb→le (numberOfAnswer (evaluateOf op s mem r ea .answer)) 9 (operation-number s mem r ea op .most)
+  most-number : (op : Op) (r : Set) (ea : ℕ) → (numberWith s mem r ea op ≤ 9) ⊎ (numberWith s mem r ea op ≡ 28)
+  most-number op r ea = few (numberWith s mem r ea op) (operation-number s mem r ea op .most)
 
   below : (k : ℕ) → 0 < k → k < 6 → Early k
   below k l h = record { some = l; none = λ op r ea q. not-early _ k (operation-number s mem r ea op .other) l h q }
 
-  above : (k : ℕ) → 9 < k → Early k
-  above k l = record { some = omega arith; none = λ op r ea q. omega (arith, most-number op r ea) }
+  above : (k : ℕ) → 9 < k → k < 28 → Early k
+  above k l h = record { some = omega arith; none = λ op r ea q. ⊎-elim (λ p. omega arith) (λ p. omega arith) (most-number op r ea) }
 
   early : (k : ℕ) → Early k → (a : Reached) → (whole mem s a ≡ k) ↔ (before a ≡ k)
   early k h (At i r ea) = (λ q. absurd (h .none (i .entry .op) r ea q), λ q. absurd (omega (arith, h .some)))
   early k h (NotReached x) = (λ q. q, λ q. q)
 
-  late : (k : ℕ) → 5 < k → k < 24 → (test : Op → Set → ℕ → Bool)
-      → ((op : Op) (r : Set) (ea : ℕ) → eqb (numberOfAnswer (evaluateOf op s mem r ea .answer)) k ≡ test op r ea)
+  late : (k : ℕ) → 5 < k → k ≢ 24 → (test : Op → Set → ℕ → Bool)
+      → ((op : Op) (r : Set) (ea : ℕ) → eqb (numberWith s mem r ea op) k ≡ test op r ea)
       → (a : Reached) → (before a ≤ 5) ⊎ (before a ≡ 24) → (whole mem s a ≡ k) ↔ Met a test
   late k l g test f (At i r ea) h = exact _ k (test (i .entry .op) r ea) (f (i .entry .op) r ea)
-  late k l g test f (NotReached x) h = (λ q. absurd (⊎-elim (λ p. omega arith) (λ p. omega arith) h), λ q. absurd q)
+  late k l g test f (NotReached x) h = (λ q. absurd (⊎-elim (λ p. omega arith) (λ p. g (sym q ∙ p)) h), λ q. absurd q)
 
-  no-other : (a : Reached) → (before a ≤ 5) ⊎ (before a ≡ 24) → (whole mem s a ≤ 9) ⊎ (whole mem s a ≡ 24)
-  no-other (At i r ea) h = inl (most-number (i .entry .op) r ea)
-  no-other (NotReached x) h = ⊎-elim (λ p. inl (omega arith)) (λ p. inr p) h
+  no-other : (a : Reached) → (before a ≤ 5) ⊎ (before a ≡ 24) → (whole mem s a ≤ 9) ⊎ ((whole mem s a ≡ 24) ⊎ (whole mem s a ≡ 28))
+  no-other (At i r ea) h = ⊎-elim (λ p. inl p) (λ p. inr (inr p)) (most-number (i .entry .op) r ea)
+  no-other (NotReached x) h = ⊎-elim (λ p. inl (omega arith)) (λ p. inr (inl p)) h
 
 -- ---- the laws
 
@@ -246,10 +266,11 @@ steps-refused mem m s b l = record {
   three = at 3 (below mem s 3 (omega arith) (omega arith)) (is-more mem m _ 3 (omega arith) (by-decoding mem r Opcode (not-address 3 tt) d (opcode-refused mem pc b)) c);
   four = at 4 (below mem s 4 (omega arith) (omega arith)) (is-more mem m _ 4 (omega arith) (by-four mem r d (bytes-refused mem pc l)) c);
   five = at 5 (below mem s 5 (omega arith) (omega arith)) (is-more mem m _ 5 (omega arith) (by-decoding mem r PostByte (not-address 5 tt) d (post-byte-refused PostByte tt mem pc)) c);
-  twentyFour = at 24 (above mem s 24 (omega arith)) (is-more mem m _ 24 (omega arith) (by-decoding mem r PostByte8F (not-address 24 tt) d (post-byte-refused PostByte8F tt mem pc)) c);
-  seven = through e (late mem s 7 (omega arith) (omega arith) (λ op q ea. codeRefused op mem ea) (λ op q ea. operation-number s mem q ea op .is7) a most);
-  eight = through e (late mem s 8 (omega arith) (omega arith) (λ op q ea. isSmall op q (byteAt mem ea)) (λ op q ea. operation-number s mem q ea op .is8) a most);
-  nine = through e (late mem s 9 (omega arith) (omega arith) (λ op q ea. leadsToZero op s mem q) (λ op q ea. operation-number s mem q ea op .is9) a most);
+  twentyFour = at 24 (above mem s 24 (omega arith) (omega arith)) (is-more mem m _ 24 (omega arith) (by-decoding mem r PostByte8F (not-address 24 tt) d (post-byte-refused PostByte8F tt mem pc)) c);
+  seven = through e (late mem s 7 (omega arith) (λ q. omega arith) (λ op q ea. codeRefused op mem ea) (λ op q ea. operation-number s mem q ea op .is7) a most);
+  eight = through e (late mem s 8 (omega arith) (λ q. omega arith) (λ op q ea. isSmall op q (byteAt mem ea)) (λ op q ea. operation-number s mem q ea op .is8) a most);
+  twentyEight = through e (late mem s 28 (omega arith) (λ q. omega arith) (λ op q ea. isFenced op s mem q ea) (λ op q ea. operation-number s mem q ea op .is28) a most);
+  nine = through e (late mem s 9 (omega arith) (λ q. omega arith) (λ op q ea. leadsToZero op s mem q) (λ op q ea. operation-number s mem q ea op .is9) a most);
   only = rw e (no-other mem s a most);
 }
   where

@@ -23,7 +23,7 @@ use Rattle.decode.specs.declared.instruction.Decoded.the-variants.{Instruction,
 use Rattle.operations.specs.Refusals.{codeRefused}
 use Rattle.evaluate.specs.Room.{isSmall}
 use Rattle.calls.specs.Steps.{Reached, At, NotReached, reached, stepOf}
-use Rattle.refusals.specs.Operations.{leadsToZero}
+use Rattle.refusals.specs.Operations.{isFenced, leadsToZero}
 
 -- a step is answered by the number n
 abbrev pub Answers : List ℕ → Machine → Settings → ℕ → Type 0
@@ -45,7 +45,7 @@ abbrev pub NextPast : Decoded → Type 0
 NextPast (Instruction i) = 0xFFFF < i .next
 NextPast (NotDecoded x) = ⊥
 
--- ---- 7 to 9: the tables are in Operations.antt
+-- ---- 7, 8, 28 and 9: the tables are in Operations.antt
 
 -- the operation is reached, none of the numbers above being given, and a table says yes of it, its registers and its effective address
 abbrev pub Met : Reached → (Op → Set → ℕ → Bool) → Type 0
@@ -72,10 +72,12 @@ pub record StepRefused (mem : List ℕ) (m : Machine) (s : Settings) : Type 0 wh
   pub seven : Answers mem m s 7 ↔ Met (reached mem m) (λ op r ea. codeRefused op mem ea)
   -- 8: stack pointer smaller than the bytes to push (isSmall, in evaluate/specs/Room.antt)
   pub eight : Answers mem m s 8 ↔ Met (reached mem m) (λ op r ea. isSmall op r (byteAt mem ea))
+  -- 28, after 8 and before 9: a byte would be stored outside the profile
+  pub twentyEight : Answers mem m s 28 ↔ Met (reached mem m) (λ op r ea. isFenced op s mem r ea)
   -- 9: the vector to be taken leads to a zero byte
   pub nine : Answers mem m s 9 ↔ Met (reached mem m) (λ op r ea. leadsToZero op s mem r)
   -- and no other number
-  pub only : (numberOfAnswer (stepOf mem m s .answer) ≤ 9) ⊎ Answers mem m s 24
+  pub only : (numberOfAnswer (stepOf mem m s .answer) ≤ 9) ⊎ (Answers mem m s 24 ⊎ Answers mem m s 28)
 
 -- of every memory of bytes and every machine whose PC is a word
 abbrev pub StepsRefused : Type 0

@@ -8,10 +8,9 @@ use native.Mathlib.Omega.{arith}
 use borrow.Author.Tests.{le-leb}
 use lib.Dec.{leb, leb·suc-suc, eqb·suc-suc}
 use lib.ListN.{length, getD}
-use Rattle.machine.specs.Machine.{settingsOf}
-use Rattle.machine.specs.declared.Settings.{Settings}
 use Rattle.registers.specs.declared.Flags.the-variants.{Manual}
-use Rattle.runfile.specs.Format.{Read, got, missing, andThen, room, wordIn, twoBytesAt, flagAt, spanAt, pieceAt, piecesAt, operationAt, operationNumbered, operationsAt, RunFile, afterSettings, wholly, parsed, DefaultNamed}
+use Rattle.runfile.specs.Format.{fileSettings, Read, got, missing, andThen, room, wordIn, twoBytesAt, flagAt, spanAt, pieceAt, piecesAt, operationAt, operationNumbered, operationsAt, RunFile, afterSettings, wholly, parsed, DefaultNamed}
+use Rattle.runfile.specs.declared.FileSettings.{FileSettings}
 use Rattle.runfile.proofs.Reading.{headed}
 
 -- the same, read one place later
@@ -73,7 +72,7 @@ module _ (x : ℕ) (file : List ℕ) where
       rw (operation-later at)
       (then-later (operationAt file at) _ _ λ o next. rw (operations-later n next) (then-later (operationsAt file n next) _ _ λ os end. refl))
 
-  sections-later : (s : Settings) (at : ℕ) → afterSettings (x ∷ file) s (suc at) ≡ later (afterSettings file s at)
+  sections-later : (s : FileSettings) (at : ℕ) → afterSettings (x ∷ file) s (suc at) ≡ later (afterSettings file s at)
   sections-later s at =
       rw (word-later at)
       (then-later (twoBytesAt file at) _ _ λ n from.
@@ -88,10 +87,10 @@ module _ (x : ℕ) (file : List ℕ) where
   wholly-later n missing = refl
 
   -- what the sections say
-  in-front : (s : Settings) (at : ℕ) → wholly (length (x ∷ file)) (afterSettings (x ∷ file) s (suc at)) ≡ wholly (length file) (afterSettings file s at)
+  in-front : (s : FileSettings) (at : ℕ) → wholly (length (x ∷ file)) (afterSettings (x ∷ file) s (suc at)) ≡ wholly (length file) (afterSettings file s at)
   in-front s at = rw (sections-later s at) (wholly-later (length file) (afterSettings file s at))
 
-four-in-front : (a b c d : ℕ) (sections : List ℕ) (s : Settings)
+four-in-front : (a b c d : ℕ) (sections : List ℕ) (s : FileSettings)
     → wholly (length (a ∷ b ∷ c ∷ d ∷ sections)) (afterSettings (a ∷ b ∷ c ∷ d ∷ sections) s 4) ≡ wholly (length sections) (afterSettings sections s 0)
 four-in-front a b c d sections s =
     in-front a (b ∷ c ∷ d ∷ sections) s 3 ∙ (in-front b (c ∷ d ∷ sections) s 2 ∙ (in-front c (d ∷ sections) s 1 ∙ in-front d sections s 0))
@@ -101,6 +100,6 @@ unfolding parsed flagAt
 default-named high low sections h =
     let unnamed : List ℕ = 0 ∷ 2 ∷ high ∷ low ∷ sections in
     let named : List ℕ = 0 ∷ 3 ∷ high ∷ low ∷ 1 ∷ sections in
-    let s = settingsOf (256 * high + low) Manual in
+    let s = fileSettings (256 * high + low) Manual in
     rw (le-leb (length unnamed) 32768 (omega arith), le-leb (length named) 32768 (omega arith), headed unnamed (omega arith), headed named (omega arith), le-leb 5 (length named) (omega arith))
     (four-in-front 0 2 high low sections s ∙ sym (in-front 0 (3 ∷ high ∷ low ∷ 1 ∷ sections) s 4 ∙ (four-in-front 3 high low 1 sections s)))

@@ -9,8 +9,7 @@ use native.Mathlib.Omega.{arith}
 use borrow.Author.Tests.{leb-true, leb-false, le-leb, lt-leb, not-true, not-false}
 use lib.Dec.{eqb, leb}
 use lib.ListN.{length, getD, take, drop}
-use Rattle.machine.specs.Machine.{settingsOf}
-use Rattle.runfile.specs.Format.{Read, got, missing, andThen, room, wordIn, twoBytesAt, defaultFlags, flaggedAt, settingsAt, settled, sectionsOf, spanAt, pieceAt, operationAt, operationNumbered, Piece}
+use Rattle.runfile.specs.Format.{fileSettings, Read, got, missing, andThen, room, wordIn, twoBytesAt, defaultFlags, flaggedAt, settingsAt, settled, sectionsOf, spanAt, pieceAt, operationAt, operationNumbered, Piece}
 use Rattle.runfile.specs.declared.Operation.{Operation}
 
 -- a sum that fits, and one that could wrap
@@ -50,7 +49,7 @@ word-missing file at h = rw (lt-leb (at + 2) (length file) h)
 
 module _ (file : List ℕ) where
   pub headed : 4 ≤ length file
-      → sectionsOf file ≡ settled file (cond (eqb (wordIn file 0) 2) (got (settingsOf (wordIn file 2) defaultFlags) 4) (cond (eqb (wordIn file 0) 3) (flaggedAt file (wordIn file 2) 4) missing))
+      → sectionsOf file ≡ settled file (cond (eqb (wordIn file 0) 2) (got (fileSettings (wordIn file 2) defaultFlags) 4) (cond (eqb (wordIn file 0) 3) (flaggedAt file (wordIn file 2) 4) missing))
   unfolding sectionsOf settingsAt
   headed h = rw (word-got file 0 (omega arith), word-got file 2 (omega arith))
 

@@ -7,8 +7,8 @@ use native.Mathlib.Omega.{arith}
 use borrow.Author.Tests.{eq-eqb, ne-eqb}
 use lib.ListN.{length}
 use lib.Seq.{sets}
-use Rattle.machine.specs.declared.Settings.{Settings}
 use Rattle.runfile.specs.Format.{Read, got, missing, andThen, wordIn, twoBytesAt, pieceAt, piecesAt, operationAt, operationsAt, Piece, RunFile, malformed, wholly, nextOf, piecesLaid, loaded, placed, endOf, laidOf}
+use Rattle.runfile.specs.declared.FileSettings.{FileSettings}
 use Rattle.runfile.specs.declared.Loaded.{Loaded}
 use Rattle.runfile.specs.declared.Loaded.the-variants.{Ready}
 use Rattle.runfile.specs.declared.Next.the-variants.{Is, None}
@@ -77,7 +77,7 @@ module _ (file : List ℕ) where
 
 -- ---- what follows the pieces
 
-module _ (file : List ℕ) (s : Settings) where
+module _ (file : List ℕ) (s : FileSettings) where
   abbrev said : List Piece → List Operation → RunFile
   said ps os = record { settings = s; pieces = ps; operations = os }
 

@@ -8,10 +8,9 @@ use lib.Dec.{eqb, leb}
 use lib.ListN.{length, getD, take, drop}
 use lib.Seq.{sets}
 use Rattle.answers.specs.declared.Refusal.the-variants.{Malformed}
-use Rattle.machine.specs.Machine.{settingsOf}
-use Rattle.machine.specs.declared.Settings.{Settings}
 use Rattle.registers.specs.declared.Flags.{Flags}
 use Rattle.registers.specs.declared.Flags.the-variants.{Bought, Manual}
+use Rattle.runfile.specs.declared.FileSettings.{FileSettings}
 use Rattle.runfile.specs.declared.Loaded.{Loaded}
 use Rattle.runfile.specs.declared.Loaded.the-variants.{Ready, Refused}
 use Rattle.runfile.specs.declared.Next.{Next}
@@ -42,6 +41,10 @@ twoBytesAt file at = cond (room file at 2) (got (wordIn file at) (at + 2)) missi
 
 -- ---- settings
 
+-- a file sets these two. It names no profile: a run allows all stores
+abbrev pub fileSettings : ℕ → Flags → FileSettings
+fileSettings top f = record { «ram_top» = top; flags = f }
+
 -- 0 as bought, 1 manual
 abbrev pub flagNumbered : ℕ → ℕ → Read Flags
 flagNumbered b next = cond (eqb b 0) (got Bought next) (cond (eqb b 1) (got Manual next) missing)
@@ -53,14 +56,14 @@ flagAt file at = cond (room file at 1) (flagNumbered (getD file at 0) (at + 1)) 
 abbrev pub defaultFlags : Flags
 defaultFlags = Manual
 
-abbrev pub flaggedAt : List ℕ → ℕ → ℕ → Read Settings
-flaggedAt file top at = andThen (flagAt file at) λ f next. got (settingsOf top f) next
+abbrev pub flaggedAt : List ℕ → ℕ → ℕ → Read FileSettings
+flaggedAt file top at = andThen (flagAt file at) λ f next. got (fileSettings top f) next
 
 -- count 2: ram_top; count 3: ram_top and flags
-unfoldable pub settingsAt : List ℕ → ℕ → ℕ → Read Settings
+unfoldable pub settingsAt : List ℕ → ℕ → ℕ → Read FileSettings
 settingsAt file count at =
     andThen (twoBytesAt file at) λ top next.
-    cond (eqb count 2) (got (settingsOf top defaultFlags) next)
+    cond (eqb count 2) (got (fileSettings top defaultFlags) next)
     (cond (eqb count 3) (flaggedAt file top next)
     missing)
 
@@ -108,12 +111,12 @@ operationsAt file (suc n) at =
 -- ---- the file
 
 pub record RunFile : Type 0 where
-  pub settings : Settings
+  pub settings : FileSettings
   pub pieces : List Piece
   pub operations : List Operation
 
 -- the second and the third section, each after its count
-abbrev pub afterSettings : List ℕ → Settings → ℕ → Read RunFile
+abbrev pub afterSettings : List ℕ → FileSettings → ℕ → Read RunFile
 afterSettings file s at =
     andThen (twoBytesAt file at) λ n from.
     andThen (piecesAt file n from) λ ps next.
@@ -122,7 +125,7 @@ afterSettings file s at =
     got (record { settings = s; pieces = ps; operations = os }) end
 
 -- the sections after the settings, where these could be read
-abbrev pub settled : List ℕ → Read Settings → Read RunFile
+abbrev pub settled : List ℕ → Read FileSettings → Read RunFile
 settled file r = andThen r λ s next. afterSettings file s next
 
 unfoldable pub sectionsOf : List ℕ → Read RunFile

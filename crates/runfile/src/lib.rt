@@ -2,9 +2,8 @@
 ghost use mathlib.Core.Path.{_≡_};
 ghost use Prim.Native.Nat.{_≤_};
 ghost use lib.ListN.{length, getD};
-ghost use Rattle.runfile.specs.Format.{room, wordIn, pieceAt, piecesAt, operationAt, operationsAt, flaggedAt, afterSettings, wholly, parsed, nextOf, loaded, placed, endOf, laidOf, settled};
+ghost use Rattle.runfile.specs.Format.{fileSettings, room, wordIn, pieceAt, piecesAt, operationAt, operationsAt, flaggedAt, afterSettings, wholly, parsed, nextOf, loaded, placed, endOf, laidOf, settled};
 use answers::Refusal;
-use machine::Settings;
 use registers::Flags;
 
 // The longest run file.
@@ -25,10 +24,25 @@ pub enum Next {
     None,
 }
 
+// What a file sets. An enum can hold no array, so the settings of the calls, which have a profile, are made of it later: a run allows all
+// stores.
+pub struct FileSettings {
+    pub ram_top: u16,
+    pub flags: Flags,
+}
+
+impl FileSettings {
+    fn new(ram_top: u16, flags: Flags) -> FileSettings
+        ensures { λ r. ⌜ r ≡ fileSettings «ram_top» flags ⌝ }
+    {
+        FileSettings { ram_top, flags }
+    }
+}
+
 // What a sound file sets, and where its operations start: they are its last bytes.
 pub struct Start {
     pub operations: usize,
-    pub settings: Settings,
+    pub settings: FileSettings,
 }
 
 pub enum Loaded {
@@ -148,7 +162,7 @@ fn operations_end(file: &[u8], count: u16, at: usize) -> usize
 }
 
 // Memory is written once the whole file is known to be sound.
-fn load_after(mem: &mut [u8], file: &[u8], settings: Settings, at: usize) -> Loaded
+fn load_after(mem: &mut [u8], file: &[u8], settings: FileSettings, at: usize) -> Loaded
     ensures { λ r. ⌜ (r ≡ loaded (length (now (file .entry))) (wholly (length (now (file .entry))) (afterSettings (now (file .entry)) settings at))) × (now (mem .exit) ≡ placed (wholly (length (now (file .entry))) (afterSettings (now (file .entry)) settings at)) (now (mem .entry))) ⌝ }
 {
     if !has(file, at, 2) {
@@ -179,8 +193,8 @@ fn load_flagged(mem: &mut [u8], file: &[u8], ram_top: u16) -> Loaded
         return Loaded::Refused(Refusal::Malformed);
     }
     match file[4] {
-        0 => load_after(mem, file, Settings::new(ram_top, Flags::Bought), 5),
-        1 => load_after(mem, file, Settings::new(ram_top, Flags::Manual), 5),
+        0 => load_after(mem, file, FileSettings::new(ram_top, Flags::Bought), 5),
+        1 => load_after(mem, file, FileSettings::new(ram_top, Flags::Manual), 5),
         _ => Loaded::Refused(Refusal::Malformed),
     }
 }
@@ -196,7 +210,7 @@ pub fn load(mem: &mut [u8], file: &[u8]) -> Loaded
     }
     let ram_top = word(file, 2);
     match word(file, 0) {
-        2 => load_after(mem, file, Settings::new(ram_top, Flags::Manual), 4),
+        2 => load_after(mem, file, FileSettings::new(ram_top, Flags::Manual), 4),
         3 => load_flagged(mem, file, ram_top),
         _ => Loaded::Refused(Refusal::Malformed),
     }

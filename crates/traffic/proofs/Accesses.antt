@@ -43,7 +43,8 @@ use Rattle.stack.specs.Frames.{framed}
 use Rattle.vectors.specs.Table.{addressOf, isEntire}
 use Rattle.vectors.specs.declared.table.Vector.{Vector}
 use Rattle.vectors.specs.declared.table.Vector.the-variants.{Reset}
-use Rattle.calls.specs.Plans.{refusedWith, accepted}
+use Rattle.calls.specs.Plans.{refusedWith, accepted, fenced}
+use Rattle.calls.proofs.Passing.{free-done}
 use Rattle.calls.specs.Steps.{Reached, At, NotReached, addressed, ofDecoded, decodedTo, unlessWaiting, reached, planned, stepPlan}
 use Rattle.calls.specs.Interrupts.{vectorOf, isHeldOff, taken, takenReads, afterHeldOff, takenBy, interruptPlan}
 use Rattle.calls.specs.Resets.{resetTo, resetPlan}
@@ -193,7 +194,11 @@ module _ (mem other : List ℕ) (m : Machine) (b : Bytes mem) (p : m .regs .pc <
 
   step-agrees : (s : Settings) → stepPlan mem m s .answer ≡ Done → AgreeAt mem other (readsBy (step s) mem m) → Both (step s)
   unfolding stepPlan instructionReads
-  step-agrees s d h = let (e, f) = go (reached mem m) refl d h in record { plan = e; reads = f }
+  step-agrees s d h =
+      let p = planned mem m s (reached mem m) in
+      let q : p .answer ≡ Done = sym (ap (λ (x : Plan). x .answer) (free-done s m p d)) ∙ d in
+      let (e, f) = go (reached mem m) refl q h in
+      record { plan = ap (fenced s m) e; reads = f }
     where
       go : (a : Reached) → reached mem m ≡ a → planned mem m s a .answer ≡ Done → AgreeAt mem other (reachedReads mem s (m .regs) a)
           → (planned other m s (reached other m) ≡ planned mem m s a) × (reachedReads other s (m .regs) (reached other m) ≡ reachedReads mem s (m .regs) a)

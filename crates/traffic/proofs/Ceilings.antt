@@ -10,7 +10,7 @@ use lib.ListN.{length, length-append}
 use Rattle.answers.specs.declared.Answer.{Answer}
 use Rattle.answers.specs.declared.Answer.the-variants.{Done, Refused}
 use Rattle.answers.specs.declared.Refusal.{Refusal}
-use Rattle.answers.specs.declared.Refusal.the-variants.{MemoryLength}
+use Rattle.answers.specs.declared.Refusal.the-variants.{MemoryLength, Fenced}
 use Rattle.registers.specs.ConditionCodes.{coded, flag}
 use Rattle.registers.specs.Names.{stackWord}
 use Rattle.registers.specs.RegisterSet.{wordOf}
@@ -21,6 +21,7 @@ use Rattle.memory.specs.Map.{byteAt, wordAt}
 use Rattle.memory.specs.Writes.{listed}
 use Rattle.memory.proofs.Folds.{listed-back}
 use Rattle.machine.specs.Effect.{changes}
+use Rattle.machine.specs.Fence.{bars}
 use Rattle.machine.specs.Machine.{withRegisters}
 use Rattle.machine.specs.declared.Effect.{Effect}
 use Rattle.machine.specs.declared.Machine.{Machine}
@@ -132,7 +133,11 @@ module _ (m : Machine) where
   module _ (mem : List ℕ) where
     call-none : (c : Call) → NoWrites (planOf c mem m)
     unfolding stepPlan interruptPlan resetPlan
-    call-none (step t) = planned-none mem t (reached mem m)
+    call-none (step t) = go (bars t (listed (planned mem m t (reached mem m) .writes)))
+      where
+        go : (b : Bool) → NoWrites (cond b (refusedWith m Fenced) (planned mem m t (reached mem m)))
+        go true x d = none Fenced x d
+        go false x d = planned-none mem t (reached mem m) x d
     call-none (interrupt t i) = go (eqb (length mem) 65536) (isHeldOff i m) (length (takenReads (m .wait) mem t (m .regs) (vectorOf i))) (taken (m .wait) mem t (m .regs) (vectorOf i))
       where
         go : (l k : Bool) (n : ℕ) (e : Effect) → NoWrites (cond l (cond k (accepted (withRegisters m (m .regs) (afterHeldOff (m .wait))) 0) (takenBy m n e)) (refusedWith m MemoryLength))
@@ -188,11 +193,18 @@ module _ (mem : List ℕ) (m : Machine) (s : Settings) (b : Bytes mem) (p : m .r
 
   step-within : Within (readCount (step s) mem m) (writeCount (step s) mem m)
   unfolding stepPlan readsOf finished
-  step-within = go (reached mem m) refl
+  step-within = judge (bars s (listed (planned mem m s (reached mem m) .writes)))
     where
       go : (a : Reached) → reached mem m ≡ a → Within (length (ifAccepted (planned mem m s a .answer) (reachedReads mem s (m .regs) a))) (length (listed (planned mem m s a .writes)))
       go (At i r ea) e = finished-within i r ea (came mem m i r ea e) (evaluateOf (i .entry .op) s mem r ea .answer) refl
       go (NotReached x) e = record { fourteen = lit≤ tt; seventeen = lit≤ tt }
+
+      -- a step that the fence refuses counts nothing
+      judge : (f : Bool)
+          → Within (length (ifAccepted (cond f (refusedWith m Fenced) (planned mem m s (reached mem m)) .answer) (reachedReads mem s (m .regs) (reached mem m))))
+          (length (listed (cond f (refusedWith m Fenced) (planned mem m s (reached mem m)) .writes)))
+      judge true = record { fourteen = lit≤ tt; seventeen = lit≤ tt }
+      judge false = go (reached mem m) refl
 
 pub steps-bounded : StepsBounded
 steps-bounded mem m s b p =

@@ -8,8 +8,10 @@ use lib.Dec.{eqb}
 use lib.ListN.{length}
 use Rattle.answers.specs.declared.Answer.{Answer}
 use Rattle.answers.specs.declared.Answer.the-variants.{Done, Refused}
-use Rattle.answers.specs.declared.Refusal.the-variants.{MemoryLength}
+use Rattle.answers.specs.declared.Refusal.the-variants.{MemoryLength, Fenced}
 use Rattle.memory.specs.Map.{byteAt, wordAt}
+use Rattle.memory.specs.Writes.{listed}
+use Rattle.machine.specs.Fence.{bars}
 use Rattle.machine.specs.Machine.{withRegisters}
 use Rattle.machine.specs.declared.Effect.{Effect}
 use Rattle.machine.specs.declared.Machine.{Machine}
@@ -52,7 +54,11 @@ module _ (m : Machine) where
 
     counted : (c : Call) → planOf c mem m .reads ≡ readCount c mem m
     unfolding readsOf stepPlan interruptPlan resetPlan
-    counted (step t) = as-planned t (reached mem m)
+    counted (step t) = go (bars t (listed (planned mem m t (reached mem m) .writes)))
+      where
+        go : (b : Bool) → Counts (cond b (refusedWith m Fenced) (planned mem m t (reached mem m))) (reachedReads mem t (m .regs) (reached mem m))
+        go true = refl
+        go false = as-planned t (reached mem m)
     counted (interrupt t i) = go (eqb (length mem) 65536) (isHeldOff i m)
       where
         rs : List ℕ

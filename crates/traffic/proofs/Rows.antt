@@ -6,6 +6,7 @@ use lib.ListN.{length}
 use Rattle.registers.specs.ConditionCodes.{bitAt}
 use Rattle.memory.specs.Map.{placeOf, byteAt, wordAt, valueAt, landingOf}
 use Rattle.memory.specs.Writes.{stored, twelve, added}
+use Rattle.machine.specs.Fence.{allows, barred}
 use Rattle.opcodes.specs.Manual.{entryOf}
 use Rattle.decode.specs.Decode.{located, decodedAs, decodedAt}
 use Rattle.decode.specs.Operand.{withForm, operandAt}
@@ -31,9 +32,9 @@ unfolding readsOf stepPlan reached
 step-counts mem m s l w = rw (eq-eqb (length mem) 65536 l, w)
 
 pub each-worked : EachWorked
-unfolding readsOf instructionReads bytesFrom stepPlan interruptPlan resetPlan finished reached decodedTo resolvedOf indexedAddress throughPointer decodedAt located decodedAs operandAt withForm formOf isIndirect indexOf fiveBits entryOf byteAt placeOf wordAt valueAt landingOf stored twelve added bitAt onMemory store16 framed chosen pushes pushed jumpedToSubroutine vectored waiting transferable transfer exchange
+unfolding readsOf instructionReads bytesFrom stepPlan interruptPlan resetPlan finished reached decodedTo resolvedOf indexedAddress throughPointer decodedAt located decodedAs operandAt withForm formOf isIndirect indexOf fiveBits entryOf byteAt placeOf wordAt valueAt landingOf stored allows barred twelve added bitAt onMemory store16 framed chosen pushes pushed jumpedToSubroutine vectored waiting transferable transfer exchange
 each-worked = refl
 
 pub ceilings-reached : CeilingsReached
-unfolding readsOf instructionReads bytesFrom stepPlan interruptPlan resetPlan finished reached decodedTo resolvedOf indexedAddress throughPointer decodedAt located decodedAs operandAt withForm formOf isIndirect indexOf fiveBits entryOf byteAt placeOf wordAt valueAt landingOf stored twelve added bitAt onMemory store16 framed chosen pushes pushed jumpedToSubroutine vectored waiting transferable transfer exchange
+unfolding readsOf instructionReads bytesFrom stepPlan interruptPlan resetPlan finished reached decodedTo resolvedOf indexedAddress throughPointer decodedAt located decodedAs operandAt withForm formOf isIndirect indexOf fiveBits entryOf byteAt placeOf wordAt valueAt landingOf stored allows barred twelve added bitAt onMemory store16 framed chosen pushes pushed jumpedToSubroutine vectored waiting transferable transfer exchange
 ceilings-reached = record { reads = refl; writes = refl; together = refl; interrupt = refl }

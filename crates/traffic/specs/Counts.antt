@@ -11,6 +11,7 @@ use Rattle.registers.specs.declared.Set.{Set}
 use Rattle.memory.specs.Writes.{listed}
 use Rattle.machine.specs.declared.Machine.{Machine}
 use Rattle.machine.specs.declared.Settings.{Settings}
+use Rattle.calls.specs.Plans.{fenced}
 use Rattle.calls.specs.Steps.{Reached, At, NotReached, reached, planned}
 use Rattle.calls.specs.Interrupts.{vectorOf, isHeldOff, takenReads}
 use Rattle.calls.specs.Resets.{resetReads}
@@ -52,5 +53,5 @@ countsOf c mem m = (readCount c mem m, writeCount c mem m)
 -- and of a step once an instruction is reached
 abbrev pub countsAt : List ℕ → Machine → Settings → Reached → ℕ × ℕ
 countsAt mem m s a =
-    let p = planned mem m s a in
+    let p = fenced s m (planned mem m s a) in
     (length (ifAccepted (p .answer) (reachedReads mem s (m .regs) a)), length (listed (p .writes)))

@@ -49,5 +49,5 @@ stacked r = refl
 
 pub frame-over-vector : FrameOverVector
 unfolding vectored frame
-frame-over-vector mem s r l n =
-    rw (stacked r, vector (s .«ram_top») r mem l, ne-eqb (byteAt (stored (s .«ram_top») (frame r) mem) (r .pc)) 0 n) (refl, refl)
+frame-over-vector mem s r l f n =
+    rw (stacked r, f, vector (s .«ram_top») r mem l, ne-eqb (byteAt (stored (s .«ram_top») (frame r) mem) (r .pc)) 0 n) (refl, refl)

@@ -6,13 +6,14 @@ use mathlib.Core.List.{List}
 use mathlib.Core.Path.{refl}
 use lib.Dec.{eqb, lit<}
 use Rattle.answers.specs.declared.Answer.the-variants.{Done}
-use Rattle.answers.specs.declared.Refusal.the-variants.{ZeroAtVector}
+use Rattle.answers.specs.declared.Refusal.the-variants.{Fenced, ZeroAtVector}
 use Rattle.registers.specs.declared.Set.{Set}
 use Rattle.memory.specs.Map.{byteAt, wordAt}
 use Rattle.memory.specs.Writes.{listed, stored}
 use Rattle.memory.proofs.Fits.{byte-fits, word-fits, none-fit, listed-fit, bytes-stored}
 use Rattle.memory.proofs.Twelve.{none-full}
 use Rattle.machine.specs.Effect.{stores, refuses, changes}
+use Rattle.machine.specs.Fence.{bars}
 use Rattle.machine.specs.declared.Effect.{Effect}
 use Rattle.machine.specs.declared.Settings.{Settings}
 use Rattle.machine.specs.declared.Wait.{Wait}
@@ -48,10 +49,11 @@ module _ (mem : List ℕ) (s : Settings) (r : Set) (ea : ℕ) where
       let pc = wordAt after (addressOf v) in
       let q = orCodes (frame .regs) (masksOf v) in
       once-sound r (λ g. g .registers) (frame .answer) _
+      (either-sound r (bars s (listed (frame .writes))) (refuses r Fenced) _ (refused-sound r (λ g. g .registers) Fenced)
       (either-sound r (eqb (byteAt after pc) 0) (refuses r ZeroAtVector) (stores (jumped q pc) (frame .writes)) (refused-sound r (λ g. g .registers) ZeroAtVector)
       (stored-sound r (jumped q pc) (frame .writes) (record { places = f .few })
       (λ g. jumped-fits q (or-fits (frame .regs) (f .registers g) (masksOf v) (masks-fit v)) pc (word-fits after (bytes-stored (s .«ram_top») (listed (frame .writes)) mem (g .bytes) (listed-fit (frame .writes) (f .widths g))) (addressOf v)))
-      (f .widths)))
+      (f .widths))))
 
   cwai-sound : Sound (Given mem r ea) r Cwai (waiting r (byteAt mem ea))
   unfolding waiting

@@ -8,8 +8,8 @@ use machine::Effect;
 use machine::Settings;
 use registers::Set;
 
-// After a frame; with nothing stacked it is an interrupt in CWAI. The vector is read as it is once the frame is stored. A refusal hands back
-// the registers from before the frame.
+// After a frame; with nothing stacked it is an interrupt in CWAI. The fence judges the frame; then the vector is read as it is once the frame
+// is stored. A refusal hands back the registers from before the frame.
 pub fn take_vector(
     mem: &[u8],
     settings: Settings,
@@ -26,6 +26,9 @@ pub fn take_vector(
     match answer {
         Answer::Refused(refusal) => Effect::refuses(before, refusal),
         Answer::Done => {
+            if machine::bars(settings, writes) {
+                return Effect::refuses(before, Refusal::Fenced);
+            }
             let pc = memory::read_u16_after(mem, ram_top, writes, vector.address());
             if memory::read_u8_after(mem, ram_top, writes, pc) == 0 {
                 Effect::refuses(before, Refusal::ZeroAtVector)

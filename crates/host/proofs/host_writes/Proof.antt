@@ -26,12 +26,12 @@ loop-again c =
     let t : l .i < 12 = c .before .before .loop-test .taken in
     let p = l .inv .1 .0 in
     let q = l .inv .1 .1 .0 in
-    (omega (arith, t), (p, (length-set (l .out) (l .i) (c .host-write .result) ∙ q, turn _ (l .out) (l .i) _ _ (omega (arith, t, p)) (omega (arith, t, q)) (l .inv .1 .1 .1) (c .host-write .ensures))))
+    (omega (arith, t), (p, (length-set (l .out) (l .i) (c .host-write .result) ∙ q, turn hostWrite _ (l .out) (l .i) _ _ (omega (arith, t, p)) (omega (arith, t, q)) (l .inv .1 .1 .1) (c .host-write .ensures))))
 
 returns : tie.Need-returns Inv-loop μ-loop
 returns c =
     let l = c .before .loop in
-    all-made _ (l .out) (l .i) (c .loop-test .left) (l .inv .1 .0) (l .inv .1 .1 .0) (l .inv .1 .1 .1)
+    all-made hostWrite _ (l .out) (l .i) 12 (c .loop-test .left) (l .inv .1 .0) (l .inv .1 .1 .0) (l .inv .1 .1 .1)
 
 pub host-writes-spec : {M : Type 1} → statement M
 host-writes-spec =

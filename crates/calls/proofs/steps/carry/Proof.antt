@@ -1,7 +1,10 @@
 -- Plain, or by the list of writes.
 -- Assumes nothing.
 use borrow.Author.Needs.{needs}
-use mathlib.Core.Path.{sym, _∙_}
+use mathlib.Core.Path.{sym, ap, _∙_}
+use Rattle.calls.specs.Plans.{carriedOut, memoryWith}
+use Rattle.calls.specs.declared.Plan.{Plan}
+use Rattle.calls.proofs.Passing.{plain-free}
 use Rattle.calls.proofs.steps.carry.Statement.{statement}
 use Rattle.calls.proofs.steps.carry.Tie as tie
 
@@ -9,7 +12,12 @@ carry-plain-requires : tie.Need-carry-plain-requires
 carry-plain-requires c κs = (search needs, sym (c .before .before .is-plain .ensures) ∙ c .before .if2 .taken)
 
 returns : tie.Need-returns
-returns c = c .before .before .carry-plain .ensures
+returns c =
+    let d = c .before .before .before .before in
+    let a = d .before .before .before .before .args in
+    let e = plain-free (a .machine) (a .settings) (a .mem .now) (a .decision) (sym (d .before .is-plain .ensures) ∙ d .if2 .taken) in
+    let k = c .before .before .carry-plain .ensures in
+    (k .0 ∙ sym (ap (carriedOut (a .settings)) e), k .1 ∙ sym (ap (λ (p : Plan). memoryWith (a .settings) p (a .mem .now)) e))
 
 returns-2 : tie.Need-returns-2
 returns-2 c = c .before .before .carry-list .ensures

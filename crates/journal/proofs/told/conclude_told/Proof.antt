@@ -9,6 +9,7 @@ use Rattle.memory.specs.Writes.{listed, writesOf, reported}
 use Rattle.calls.specs.Decisions.{planTold}
 use Rattle.calls.specs.declared.Plan.{Plan}
 use Rattle.calls.specs.declared.Report.{Report}
+use Rattle.calls.proofs.Passing.{plain-free}
 use Rattle.journal.specs.Record.{mostStored, recordLength}
 use Rattle.journal.specs.Recorded.{inHand, recordFor, planAnswer, recorded}
 use Rattle.journal.specs.Told.{CountsFor}
@@ -63,7 +64,8 @@ returns-3 c =
     let r = c .before .before .before .before .before .before .before .before .before .before .before .before .before .before .record-length .ensures in
     let z = record-size (a .settings) p s _ _ (k .2) r in
     let room : a .twin .bytes + length (recordFor (a .settings) p s) ≤ length (a .journal .now) = omega (arith, z, c .before .before .before .before .before .before .before .before .before .before .before .before .before .if1 .left, c .before .before .before .before .before .before .before .before .before .before .before .before .before .before .before .before .before .before .before .before .before .pre .1 .0) in
-    let w = c .before .before .before .before .carry .ensures in
+    let f = plain-free (a .twin .machine) (a .settings) (a .mem .now) (a .decision) (c .before .before .before .before .before .before .before .before .before .before .before .before .before .before .before .before .before .before .before .before .before .pre .0 .1) in
+    let w = rw f at (c .before .before .before .before .carry .ensures) in
     let d = c .before .none .ensures ∙ ap writesOf (sym (quiet-told (a .twin .machine) (a .settings) (a .mem .now) (a .decision) (c .before .before .before .before .before .before .before .before .before .before .before .before .before .before .before .before .before .before .before .before .before .pre .0 .1))) in
     let m = ap (λ (x : Report). x .machine) (w .0) in
     rw m

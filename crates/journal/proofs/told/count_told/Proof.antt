@@ -28,7 +28,7 @@ returns-5 c =
     λ m mem. (told-push m (a .settings) mem (a .decision) (c .before .before .before .pre) k .answer, omega (arith, twelve-at-most (a .decision .mask), c .bytes-of .ensures), c .bytes-of .ensures ∙ sym (count-push m (a .settings) mem (a .decision) (c .before .before .before .pre) k))
 
 returns-6 : tie.Need-returns-6
-returns-6 c = λ m mem. let a = c .before .before .args in absurd (not-rest (a .settings .«ram_top») (a .decision) (c .enum-told6 .given .1) (c .before .before .pre))
+returns-6 c = λ m mem. let a = c .before .before .args in absurd (not-rest (a .settings) (a .decision) (c .enum-told6 .given .1) (c .before .before .pre))
 
 pub count-told-spec : {M : Type 1} → statement M
 count-told-spec =

@@ -2,6 +2,7 @@
 -- Assumes nothing.
 use borrow.Author.Needs.{needs}
 use mathlib.Core.Path.{_≡_, refl, sym, ap, _∙_}
+use Rattle.calls.proofs.Passing.{plain-free}
 use Rattle.journal.proofs.told.record_decided.Statement.{statement}
 use Rattle.journal.proofs.told.record_decided.Tie as tie
 
@@ -9,7 +10,11 @@ conclude-told-requires : tie.Need-conclude-told-requires
 conclude-told-requires c κs = ((c .before .before .before .before .before .before .before .pre .0, sym (c .before .before .before .is-plain .ensures) ∙ c .before .before .if1 .taken), c .before .before .before .before .before .before .before .pre .1)
 
 returns : tie.Need-returns
-returns c = c .before .before .before .before .conclude-told .ensures
+returns c =
+    let d = c .before .before .before .before .before .before .before in
+    let a = d .before .before .before .before .before .args in
+    let e = plain-free (a .twin .machine) (a .settings) (a .mem .now) (a .decision) (sym (d .before .is-plain .ensures) ∙ d .if1 .taken) in
+    rw e (c .before .before .before .before .conclude-told .ensures)
 
 returns-2 : tie.Need-returns-2
 returns-2 c = c .before .before .before .before .record-rest .ensures

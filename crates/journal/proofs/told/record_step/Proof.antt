@@ -6,6 +6,7 @@ use mathlib.Core.Logic.{inl, inr}
 use lib.ListN.{length}
 use Rattle.memory.specs.Writes.{listed, reported}
 use Rattle.answers.specs.declared.Answer.{Answer}
+use Rattle.calls.specs.Plans.{fenced}
 use Rattle.calls.specs.Steps.{stepPlan, reached}
 use Rattle.calls.specs.declared.Plan.{Plan}
 use Rattle.journal.specs.Recorded.{inHand, planAnswer, recorded, Leaves}
@@ -18,7 +19,7 @@ returns : tie.Need-returns
 returns c =
     let a = c .before .before .before .before .before .before .before .before .before .before .before .before .before .before .args in
     let s = inHand (a .mem .now) (a .journal .now) (a .twin) in
-    let e = c .before .before .before .before .before .before .before .decide .ensures ∙ sym (running-plan (a .mem .now) (a .twin .machine) (a .settings) (c .before .before .before .before .before .before .before .before .before .before .before .before .before .before .pre .0) (c .before .before .before .before .before .before .before .before .before .enum-told .given .1)) in
+    let e = ap (fenced (a .settings) (a .twin .machine)) (c .before .before .before .before .before .before .before .decide .ensures) ∙ sym (running-plan (a .mem .now) (a .twin .machine) (a .settings) (c .before .before .before .before .before .before .before .before .before .before .before .before .before .before .pre .0) (c .before .before .before .before .before .before .before .before .before .enum-told .given .1)) in
     rw e at (c .before .before .before .before .record-decided .ensures)
 
 returns-2 : tie.Need-returns-2

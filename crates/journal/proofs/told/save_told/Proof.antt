@@ -22,10 +22,10 @@ use Rattle.journal.proofs.told.save_told.Statement.{statement}
 use Rattle.journal.proofs.told.save_told.Tie as tie
 
 add-save-below : tie.Need-add-save-below
-add-save-below c = let a = c .before .before .before .before .before .args in omega (arith, plain-byte (a .settings .«ram_top») (a .decision) (c .before .enum-told3 .given .1) (c .before .before .before .before .before .pre .0 .1) .0)
+add-save-below c = let a = c .before .before .before .before .before .args in omega (arith, plain-byte (a .settings) (a .decision) (c .before .enum-told3 .given .1) (c .before .before .before .before .before .pre .0 .1) .0)
 
 add-save-below-2 : tie.Need-add-save-below-2
-add-save-below-2 c = let a = c .before .before .before .before .before .args in omega (arith, plain-byte (a .settings .«ram_top») (a .decision) (c .before .enum-told3 .given .1) (c .before .before .before .before .before .pre .0 .1) .0)
+add-save-below-2 c = let a = c .before .before .before .before .before .args in omega (arith, plain-byte (a .settings) (a .decision) (c .before .enum-told3 .given .1) (c .before .before .before .before .before .pre .0 .1) .0)
 
 save-below-requires : tie.Need-save-below-requires
 save-below-requires c κs =
@@ -35,10 +35,10 @@ save-below-requires c κs =
     ((omega arith, omega arith), (omega arith, (omega (arith, n, room), c .before .before .before .before .before .pre .0 .0)))
 
 add-save-below-3 : tie.Need-add-save-below-3
-add-save-below-3 c = let a = c .before .before .before .before .before .args in omega (arith, plain-word (a .settings .«ram_top») (a .decision) (c .before .enum-told4 .given .1) (c .before .before .before .before .before .pre .0 .1) .0)
+add-save-below-3 c = let a = c .before .before .before .before .before .args in omega (arith, plain-word (a .settings) (a .decision) (c .before .enum-told4 .given .1) (c .before .before .before .before .before .pre .0 .1) .0)
 
 add-save-below-4 : tie.Need-add-save-below-4
-add-save-below-4 c = let a = c .before .before .before .before .before .args in omega (arith, plain-word (a .settings .«ram_top») (a .decision) (c .before .enum-told4 .given .1) (c .before .before .before .before .before .pre .0 .1) .0)
+add-save-below-4 c = let a = c .before .before .before .before .before .args in omega (arith, plain-word (a .settings) (a .decision) (c .before .enum-told4 .given .1) (c .before .before .before .before .before .pre .0 .1) .0)
 
 save-below-requires-2 : tie.Need-save-below-requires-2
 save-below-requires-2 c κs =
@@ -51,7 +51,7 @@ save-words-requires : tie.Need-save-words-requires
 save-words-requires c κs =
     let a = c .before .before .before .before .before .before .before .before .args in
     let k = c .before .before .before .before .enum-told5 .given .1 in
-    let q = plain-push (a .settings .«ram_top») (a .decision) k (c .before .before .before .before .before .before .before .before .pre .0 .1) in
+    let q = plain-push (a .settings) (a .decision) k (c .before .before .before .before .before .before .before .before .pre .0 .1) in
     let e : c .before .word2 .result ≡ wordOf (a .decision .regs) (stackWord (a .decision .own)) = c .before .word2 .ensures ∙ ap (wordOf (a .decision .regs)) (c .before .before .word .ensures) in
     let n = count-push fresh (a .settings) (a .mem .now) (a .decision) (c .before .before .before .before .before .before .before .before .pre .0 .1) k in
     let r = entries-room _ _ _ _ (c .before .before .before .before .before .before .before .before .pre .1 fresh) n in
@@ -61,7 +61,7 @@ save-bytes-requires : tie.Need-save-bytes-requires
 save-bytes-requires c κs =
     let a = c .before .before .before .before .before .before .before .before .before .before .before .before .args in
     let k = c .before .before .before .before .before .before .before .before .enum-told5 .given .1 in
-    let q = plain-push (a .settings .«ram_top») (a .decision) k (c .before .before .before .before .before .before .before .before .before .before .before .before .pre .0 .1) in
+    let q = plain-push (a .settings) (a .decision) k (c .before .before .before .before .before .before .before .before .before .before .before .before .pre .0 .1) in
     let e : c .before .before .before .before .before .word2 .result ≡ wordOf (a .decision .regs) (stackWord (a .decision .own)) = c .before .before .before .before .before .word2 .ensures ∙ ap (wordOf (a .decision .regs)) (c .before .before .before .before .before .before .word .ensures) in
     let n = count-push fresh (a .settings) (a .mem .now) (a .decision) (c .before .before .before .before .before .before .before .before .before .before .before .before .pre .0 .1) k in
     let r = entries-room _ _ _ _ (c .before .before .before .before .before .before .before .before .before .before .before .before .pre .1 fresh) n in
@@ -98,7 +98,7 @@ returns-5 : tie.Need-returns-5
 returns-5 c =
     let a = c .before .before .before .before .before .before .before .before .before .before .before .before .before .before .before .args in
     let k = c .before .before .before .before .before .before .before .before .before .before .before .enum-told5 .given .1 in
-    let q = plain-push (a .settings .«ram_top») (a .decision) k (c .before .before .before .before .before .before .before .before .before .before .before .before .before .before .before .pre .0 .1) in
+    let q = plain-push (a .settings) (a .decision) k (c .before .before .before .before .before .before .before .before .before .before .before .before .before .before .before .pre .0 .1) in
     let e : c .before .before .before .before .before .before .before .before .word2 .result ≡ wordOf (a .decision .regs) (stackWord (a .decision .own)) = c .before .before .before .before .before .before .before .before .word2 .ensures ∙ ap (wordOf (a .decision .regs)) (c .before .before .before .before .before .before .before .before .before .word .ensures) in
     λ m.
     let h : c .before .before .before .before .before .before .before .before .word2 .result ≤ a .settings .«ram_top» = rw e (q .1) in
@@ -107,7 +107,7 @@ returns-5 c =
     b ∙ (sym w ∙ whole-push (a .settings .«ram_top») (a .decision .regs) (a .mem .now) (c .before .before .before .before .before .before .before .before .word2 .result) (wordOf (a .decision .regs) (stackWord (a .decision .own))) (a .decision .mask) (a .decision .own) (a .rest .now) _ e (sym (saves-push m (a .settings) (a .mem .now) (a .decision) (c .before .before .before .before .before .before .before .before .before .before .before .before .before .before .before .pre .0 .1) k)))
 
 returns-6 : tie.Need-returns-6
-returns-6 c = λ m. let a = c .before .before .before .before .args in absurd (not-rest (a .settings .«ram_top») (a .decision) (c .enum-told6 .given .1) (c .before .before .before .before .pre .0 .1))
+returns-6 c = λ m. let a = c .before .before .before .before .args in absurd (not-rest (a .settings) (a .decision) (c .enum-told6 .given .1) (c .before .before .before .before .pre .0 .1))
 
 pub save-told-spec : {M : Type 1} → statement M
 save-told-spec =
