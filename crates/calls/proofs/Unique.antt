@@ -6,6 +6,7 @@ use Prim.Native.Nat.{ℕ}
 use Rattle.answers.proofs.Determined.{Determines}
 use Rattle.calls.proofs.decisions
 use Rattle.calls.proofs.interrupts
+use Rattle.calls.proofs.plans
 use Rattle.calls.proofs.resets
 use Rattle.calls.proofs.steps
 
@@ -36,3 +37,12 @@ plan-of κs a x y ws vs p q = (p ∙ sym q, refl)
 
 pub carry : Determines 1 steps.carry.Kinds.ps steps.carry.Kinds.r steps.carry.Reads.Post
 carry κs a x y ws vs p q = (p .0 ∙ sym (q .0), ap (λ (l : List ℕ). (l, (tt, (tt, (tt, tt))))) (p .1 ∙ sym (q .1)))
+
+pub finish : Determines 0 steps.finish.Kinds.ps steps.finish.Kinds.r steps.finish.Reads.Post
+finish κs a x y ws vs p q = (p ∙ sym q, refl)
+
+pub refused : Determines 0 plans.refused.Kinds.ps plans.refused.Kinds.r plans.refused.Reads.Post
+refused κs a x y ws vs p q = (p ∙ sym q, refl)
+
+pub carry-out : Determines 1 plans.carry_out.Kinds.ps plans.carry_out.Kinds.r plans.carry_out.Reads.Post
+carry-out κs a x y ws vs p q = (p .0 ∙ sym (q .0), ap (λ (l : List ℕ). (l, (tt, (tt, tt)))) (p .1 ∙ sym (q .1)))

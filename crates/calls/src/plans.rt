@@ -1,4 +1,4 @@
-// A call's plan, and how it is carried out. Not public: a plan is carried out where it was made.
+// A call's plan, and how it is carried out. Public for the second engine, which makes plans of its own.
 ghost use mathlib.Core.Path.{_≡_};
 ghost use Rattle.calls.specs.Plans.{refusedWith, accepted, carriedOut, memoryWith};
 use super::Plan;

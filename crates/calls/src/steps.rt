@@ -54,7 +54,8 @@ fn change(machine: Machine, cycles: u16, arms: bool, regs: Set) -> Plan
     }
 }
 
-fn finish(machine: Machine, cycles: u16, arms: bool, effect: Effect) -> Plan
+// An operation's effect as a plan: its refusal, or the machine after the instruction and what is to be written.
+pub fn finish(machine: Machine, cycles: u16, arms: bool, effect: Effect) -> Plan
     ensures { λ r. ⌜ r ≡ finished machine cycles arms effect ⌝ }
 {
     let answer = effect.answer;
