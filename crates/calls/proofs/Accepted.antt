@@ -18,10 +18,11 @@ use Rattle.machine.specs.declared.Settings.{Settings}
 use Rattle.machine.specs.declared.Wait.{Wait}
 use Rattle.machine.specs.declared.Wait.the-variants.{Running, Cwai, Sync}
 use Rattle.vectors.specs.Service.{vectored}
+use Rattle.bus.specs.Reads.{bytesFrom}
 use Rattle.calls.specs.Accepted.{WaitsRefused, MaskedStays, ResetAccepted, ResetRefusesExactly, AnyFlags}
 use Rattle.calls.specs.Plans.{refusedWith, accepted}
 use Rattle.calls.specs.Steps.{unlessWaiting, reached, planned, stepPlan}
-use Rattle.calls.specs.Interrupts.{vectorOf, isHeldOff, taken, afterHeldOff, takenBy, interruptPlan}
+use Rattle.calls.specs.Interrupts.{vectorOf, isHeldOff, taken, takenReads, afterHeldOff, takenBy, interruptPlan}
 use Rattle.calls.specs.declared.InterruptType.{InterruptType}
 use Rattle.calls.specs.Resets.{resetTo, resetPlan}
 
@@ -39,7 +40,7 @@ unfolding interruptPlan
 masked-stays mem m s i size k = rw (eq-eqb (length mem) 65536 size, k)
 
 pub reset-accepted : ResetAccepted
-unfolding resetPlan wordAt
+unfolding resetPlan wordAt bytesFrom
 reset-accepted mem m size = rw (eq-eqb (length mem) 65536 size)
 
 pub reset-refuses-exactly : ResetRefusesExactly
@@ -58,8 +59,8 @@ any-flags = record {
 }
   where
     go : (mem : List ℕ) (m : Machine) (top : ℕ) (f g : Flags) (i : InterruptType) (w : Wait)
-        → cond (eqb (length mem) 65536) (cond (isHeldOff i m) (accepted (withRegisters m (m .regs) (afterHeldOff (m .wait)))) (takenBy m (taken w mem (settingsOf top f) (m .regs) (vectorOf i)))) (refusedWith m MemoryLength)
-        ≡ cond (eqb (length mem) 65536) (cond (isHeldOff i m) (accepted (withRegisters m (m .regs) (afterHeldOff (m .wait)))) (takenBy m (taken w mem (settingsOf top g) (m .regs) (vectorOf i)))) (refusedWith m MemoryLength)
+        → cond (eqb (length mem) 65536) (cond (isHeldOff i m) (accepted (withRegisters m (m .regs) (afterHeldOff (m .wait))) 0) (takenBy m (length (takenReads w mem (settingsOf top f) (m .regs) (vectorOf i))) (taken w mem (settingsOf top f) (m .regs) (vectorOf i)))) (refusedWith m MemoryLength)
+        ≡ cond (eqb (length mem) 65536) (cond (isHeldOff i m) (accepted (withRegisters m (m .regs) (afterHeldOff (m .wait))) 0) (takenBy m (length (takenReads w mem (settingsOf top g) (m .regs) (vectorOf i))) (taken w mem (settingsOf top g) (m .regs) (vectorOf i)))) (refusedWith m MemoryLength)
     go mem m top f g i Running = refl
     go mem m top f g i Cwai = refl
     go mem m top f g i Sync = refl

@@ -7,7 +7,7 @@ use mathlib.Core.Path.{_≡_, refl, sym, ap, subst, _∙_}
 use native.Mathlib.Omega.{arith}
 use borrow.Author.Tests.{le-ltb, lt-ltb, ltb-true, leb-true}
 use lib.Dec.{leb, ltb}
-use lib.ListN.{set}
+use lib.ListN.{length, set, length-take}
 use Rattle.u8oru16.specs.declared.u8u16.the-variants.{u8, u16}
 use Rattle.answers.specs.declared.Answer.the-variants.{Done}
 use Rattle.answers.specs.declared.Refusal.the-variants.{StackTooSmall}
@@ -19,17 +19,31 @@ use Rattle.registers.specs.declared.Stack.{Stack}
 use Rattle.registers.specs.declared.Word.the-variants.{S}
 use Rattle.memory.specs.Writes.{writesOf, listed, stored, reported, valueWrites}
 use Rattle.memory.specs.declared.writes.Write.{Write}
+use Rattle.memory.specs.declared.writes.Writes.{Writes}
 use Rattle.memory.proofs.Folds.{listed-back}
 use Rattle.machine.specs.Effect.{changes, stores, refuses}
 use Rattle.machine.specs.declared.Effect.{Effect}
 use Rattle.machine.specs.declared.Machine.{Machine}
 use Rattle.machine.specs.declared.Settings.{Settings}
-use Rattle.machine.specs.declared.Wait.the-variants.{Running}
+use Rattle.machine.specs.declared.Wait.{Wait}
+use Rattle.machine.specs.declared.Wait.the-variants.{Running, Cwai, Sync}
 use Rattle.operations.specs.Branches.{jumped}
 use Rattle.stack.specs.Pushing.{chosen, registersNamed, bytesPushed, pushes, pushed, jumpedToSubroutine}
+use Rattle.stack.specs.Frames.{framed}
+use Rattle.vectors.specs.Table.{isEntire}
+use Rattle.vectors.specs.declared.table.Vector.{Vector}
 use Rattle.calls.specs.Plans.{carriedOut, memoryWith}
+use Rattle.calls.specs.Interrupts.{takenReads}
 use Rattle.calls.specs.Steps.{afterInstruction, finished}
-use Rattle.calls.specs.Decisions.{billed, effectAs, effectTold, planTold, isBelow, isPlainAs, isPlain, Decides}
+use Rattle.bus.specs.Reads.{operandTaken, instructionReads}
+use Rattle.bus.specs.Sums.{pointerCount, operandCount, fetchedCount}
+use Rattle.bus.proofs.Sums.{vector-length, reads-summed}
+use Rattle.bus.proofs.Small.{pointer-small, operations-small}
+use Rattle.opcodes.specs.declared.Mode.{Mode}
+use Rattle.opcodes.specs.declared.Op.{Op}
+use Rattle.decode.specs.declared.operand.Operand.{Operand}
+use Rattle.decode.specs.declared.instruction.Instruction.{Instruction}
+use Rattle.calls.specs.Decisions.{billed, effectAs, effectTold, planTold, metNoDevice, isBelow, isPlainAs, isPlain, Decides}
 use Rattle.calls.specs.declared.Plan.{Plan}
 use Rattle.calls.specs.declared.Report.{Report}
 use Rattle.calls.specs.declared.decisions.Decision.{Decision}
@@ -39,8 +53,8 @@ use Rattle.calls.proofs.PlainWrites.{outcome, byte-first, word-first, n
 
 -- ---- a bill does not change the effect
 
-module _ (s : Settings) (mem : List ℕ) (d : Decision) (cycles : ℕ) (arms : Bool) where
-  effect-as : (k : Kind) → effectAs k s mem (billed d cycles arms) ≡ effectAs k s mem d
+module _ (s : Settings) (mem : List ℕ) (d : Decision) (cycles reads : ℕ) (arms : Bool) where
+  effect-as : (k : Kind) → effectAs k s mem (billed d cycles reads arms) ≡ effectAs k s mem d
   effect-as Refused = refl
   effect-as Change = refl
   effect-as Byte = refl
@@ -48,13 +62,13 @@ module _ (s : Settings) (mem : List ℕ) (d : Decision) (cycles : ℕ) (arms : B
   effect-as Push = refl
   effect-as Rest = refl
 
-  pub billed-effect : effectTold s mem (billed d cycles arms) ≡ effectTold s mem d
+  pub billed-effect : effectTold s mem (billed d cycles reads arms) ≡ effectTold s mem d
   billed-effect = effect-as (d .kind)
 
 -- ---- by the kind
 
-pub plan-as : (m : Machine) (s : Settings) (mem : List ℕ) (d : Decision) {k : Kind} → d .kind ≡ k → planTold m s mem d ≡ finished m (d .cycles) (d .arms) (effectAs k s mem d)
-plan-as m s mem d e = ap (λ (k : Kind). finished m (d .cycles) (d .arms) (effectAs k s mem d)) e
+pub plan-as : (m : Machine) (s : Settings) (mem : List ℕ) (d : Decision) {k : Kind} → d .kind ≡ k → planTold m s mem d ≡ finished m (d .cycles) (d .arms) (d .reads) (effectAs k s mem d)
+plan-as m s mem d e = ap (λ (k : Kind). finished m (d .cycles) (d .arms) (d .reads) (effectAs k s mem d)) e
 
 -- ---- where it is plain
 
@@ -99,50 +113,89 @@ module _ (top : ℕ) (d : Decision) where
   not-rest e p = let q = plain-as e p in let z : _≡_ {A = ℕ} 0 1 = cc in omega arith
 
 pub as-told : (m : Machine) (s : Settings) (mem : List ℕ) (d : Decision) {k : Kind} → d .kind ≡ k
-    → (carriedOut s (finished m (d .cycles) (d .arms) (effectAs k s mem d)) ≡ carriedOut s (planTold m s mem d))
-    × (memoryWith s (finished m (d .cycles) (d .arms) (effectAs k s mem d)) mem ≡ memoryWith s (planTold m s mem d) mem)
+    → (carriedOut s (finished m (d .cycles) (d .arms) (d .reads) (effectAs k s mem d)) ≡ carriedOut s (planTold m s mem d))
+    × (memoryWith s (finished m (d .cycles) (d .arms) (d .reads) (effectAs k s mem d)) mem ≡ memoryWith s (planTold m s mem d) mem)
 as-told m s mem d e = (sym (ap (carriedOut s) (plan-as m s mem d e)), sym (ap (λ (p : Plan). memoryWith s p mem) (plan-as m s mem d e)))
 
-pub decides-plan : (m : Machine) (s : Settings) (mem : List ℕ) (d : Decision) {cycles : ℕ} {arms : Bool} {e : Effect} → Decides s mem cycles arms e d → planTold m s mem d ≡ finished m cycles arms e
-decides-plan m s mem d {cycles} {arms} {e} h =
-    ap (λ (n : ℕ). finished m n (d .arms) (effectTold s mem d)) (h .cycles)
-    ∙ (ap (λ (b : Bool). finished m cycles b (effectTold s mem d)) (h .arms) ∙ ap (λ (x : Effect). finished m cycles arms x) (h .effect))
+pub decides-plan : (m : Machine) (s : Settings) (mem : List ℕ) (d : Decision) {cycles reads : ℕ} {arms : Bool} {e : Effect} → Decides s mem cycles reads arms e d → planTold m s mem d ≡ finished m cycles arms reads e
+decides-plan m s mem d {cycles} {reads} {arms} {e} h =
+    ap (λ (n : ℕ). finished m n (d .arms) (d .reads) (effectTold s mem d)) (h .cycles)
+    ∙ (ap (λ (b : Bool). finished m cycles b (d .reads) (effectTold s mem d)) (h .arms)
+    ∙ (ap (λ (n : ℕ). finished m cycles arms n (effectTold s mem d)) (h .reads) ∙ ap (finished m cycles arms reads) (h .effect)))
+
+-- ---- what an instruction reads: its own bytes and the pointer first, then what the operation takes
+
+pub reads-told : (i : Instruction) (mem : List ℕ) (s : Settings) (was r : Set) (ea program : ℕ) → program ≡ (i .next - was .pc) + pointerCount (i .operand)
+    → program + (operandCount (i .entry .mode) (operandTaken (i .entry .op)) + fetchedCount (i .entry .op) mem r ea) ≡ length (instructionReads i mem s was r ea)
+reads-told i mem s was r ea program e = let k = reads-summed i mem s was r ea in omega arith
+
+pub operand-most : (op : Op) (mode : Mode) {n : ℕ} → n ≡ operandCount mode (operandTaken op) → n ≤ 2
+operand-most op mode e = rw e (operations-small op .operand mode)
+
+pub fetched-most : (op : Op) (mem : List ℕ) (r : Set) (ea : ℕ) {n : ℕ} → n ≡ fetchedCount op mem r ea → n ≤ 12
+fetched-most op mem r ea e = rw e (operations-small op .fetched mem r ea)
+
+pub pointer-most : (o : Operand) {n : ℕ} → n ≡ pointerCount o → n ≤ 2
+pointer-most o e = rw e (pointer-small o)
+
+-- an operation on registers fetches nothing
+pub fetches-none : (program n : ℕ) → program + n ≡ program + (n + 0)
+fetches-none program n = omega arith
+
+-- ---- a push: as many bytes as the pointer fell
+
+pub fallen : (p n top : ℕ) → p + n ≡ top → top - p ≡ n
+fallen p n top e = omega arith
+
+-- ---- how many bytes are listed
+
+pub listed-few : (w : Writes) → length (w .list) ≡ 12 → w .count < 12 → w .count ≡ length (listed w)
+listed-few w f h = simp length-take (omega arith)
+
+pub listed-most : (w : Writes) → length (w .list) ≡ 12 → 12 ≤ w .count → 12 ≡ length (listed w)
+listed-most w f h = simp length-take (omega arith)
+
+-- ---- an interrupt reads its vector and the byte that it leads to
+
+pub taken-reads : (mem : List ℕ) (s : Settings) (r : Set) (w : Wait) (v : Vector) → length (takenReads w mem s r v) ≡ 3
+taken-reads mem s r Running v = vector-length mem s (framed r (isEntire v)) v
+taken-reads mem s r Sync v = vector-length mem s (framed r (isEntire v)) v
+taken-reads mem s r Cwai v = vector-length mem s (changes r) v
 
 -- ---- writes that are stored and not reported
 
-pub record Done-plain (s : Settings) (m : Machine) (cycles : ℕ) (arms : Bool) (r : Set) (e : Effect) (mem after : List ℕ) : Type 0 where
-  pub report : carriedOut s (finished m cycles arms (changes r)) ≡ carriedOut s (finished m cycles arms e)
-  pub memory : after ≡ memoryWith s (finished m cycles arms e) mem
+pub record Done-plain (s : Settings) (m : Machine) (cycles : ℕ) (arms : Bool) (reads writes : ℕ) (r : Set) (e : Effect) (mem after : List ℕ) : Type 0 where
+  pub report : metNoDevice m cycles arms reads writes r ≡ carriedOut s (finished m cycles arms reads e)
+  pub memory : after ≡ memoryWith s (finished m cycles arms reads e) mem
 
-module _ (s : Settings) (m : Machine) (cycles : ℕ) (arms : Bool) (r : Set) where
-  abbrev left : List Write → Report
-  left devices = record { devices = writesOf devices; machine = afterInstruction m cycles arms r Running; answer = Done }
+module _ (s : Settings) (m : Machine) (cycles : ℕ) (arms : Bool) (reads : ℕ) (r : Set) where
+  abbrev left : List Write → ℕ → Report
+  left devices writes = record { devices = writesOf devices; machine = afterInstruction m cycles arms r Running; reads = reads; writes = writes; answer = Done }
 
-  whole : (ws : List Write) → carriedOut s (finished m cycles arms (stores r (writesOf ws))) ≡ left (reported (s .«ram_top») ws)
+  whole : (ws : List Write) → carriedOut s (finished m cycles arms reads (stores r (writesOf ws))) ≡ left (reported (s .«ram_top») ws) (length ws)
   unfolding finished
   whole ws = rw (listed-back ws)
 
-  none : left [] ≡ left (reported (s .«ram_top») [])
-  unfolding reported
-  none = refl
-
-  memory-whole : (ws : List Write) (mem : List ℕ) → memoryWith s (finished m cycles arms (stores r (writesOf ws))) mem ≡ stored (s .«ram_top») ws mem
+  memory-whole : (ws : List Write) (mem : List ℕ) → memoryWith s (finished m cycles arms reads (stores r (writesOf ws))) mem ≡ stored (s .«ram_top») ws mem
   unfolding finished
   memory-whole ws mem = rw (listed-back ws)
 
   pub plain-done : (ws : List Write) (mem after : List ℕ) → after ≡ stored (s .«ram_top») ws mem → reported (s .«ram_top») ws ≡ []
-      → Done-plain s m cycles arms r (stores r (writesOf ws)) mem after
+      → Done-plain s m cycles arms reads (length ws) r (stores r (writesOf ws)) mem after
   plain-done ws mem after kept quiet =
-      record { report = whole [] ∙ (sym none ∙ (ap left (sym quiet) ∙ sym (whole ws))); memory = kept ∙ sym (memory-whole ws mem) }
+      record { report = ap (λ (l : List Write). left l (length ws)) (sym quiet) ∙ sym (whole ws); memory = kept ∙ sym (memory-whole ws mem) }
 
-  by-outcome : (ws : List Write) (mem after : List ℕ) → outcome (s .«ram_top») ws mem ≡ (after, []) → Done-plain s m cycles arms r (stores r (writesOf ws)) mem after
+  by-outcome : (ws : List Write) (mem after : List ℕ) → outcome (s .«ram_top») ws mem ≡ (after, []) → Done-plain s m cycles arms reads (length ws) r (stores r (writesOf ws)) mem after
   by-outcome ws mem after e = plain-done ws mem after (sym (ap (λ (o : List ℕ × List Write). o .0) e)) (ap (λ (o : List ℕ × List Write). o .1) e)
 
-  pub byte-done : (at v : ℕ) (mem : List ℕ) → at < 0xFF00 → at ≤ s .«ram_top» → Done-plain s m cycles arms r (stores r (writesOf (valueWrites at (u8 v) false))) mem (set mem at v)
+  pub nothing-done : (mem : List ℕ) → Done-plain s m cycles arms reads 0 r (changes r) mem mem
+  nothing-done mem = by-outcome [] mem mem (nothing (s .«ram_top») mem)
+
+  pub byte-done : (at v : ℕ) (mem : List ℕ) → at < 0xFF00 → at ≤ s .«ram_top» → Done-plain s m cycles arms reads 1 r (stores r (writesOf (valueWrites at (u8 v) false))) mem (set mem at v)
   byte-done at v mem h g = by-outcome (valueWrites at (u8 v) false) mem (set mem at v) (byte-first (s .«ram_top») at v [] mem h g ∙ nothing (s .«ram_top») (set mem at v))
 
   pub word-done : (at w : ℕ) (mem : List ℕ) → at + 1 < 0xFF00 → at + 1 ≤ s .«ram_top»
-      → Done-plain s m cycles arms r (stores r (writesOf (valueWrites at (u16 w) false))) mem (set (set mem at (w / 256)) (at + 1) (w % 256))
+      → Done-plain s m cycles arms reads 2 r (stores r (writesOf (valueWrites at (u16 w) false))) mem (set (set mem at (w / 256)) (at + 1) (w % 256))
   word-done at w mem h g =
       by-outcome (valueWrites at (u16 w) false) mem (set (set mem at (w / 256)) (at + 1) (w % 256))
       (word-first (s .«ram_top») at w [] mem h g ∙ nothing (s .«ram_top») (set (set mem at (w / 256)) (at + 1) (w % 256)))

@@ -57,7 +57,7 @@ use Rattle.cycles.specs.Cycles.{extraOf, cyclesOf}
 use Rattle.cycles.proofs.Bills.{instruction-bounded}
 use Rattle.calls.specs.Plans.{refusedWith, accepted, carriedOut, memoryWith, PlanFits, NothingChanged}
 use Rattle.calls.specs.Steps.{Reached, At, NotReached, addressed, ofDecoded, decodedTo, unlessWaiting, reached, finishedAs, finished, planned, stepPlan}
-use Rattle.calls.specs.Interrupts.{vectorOf, isHeldOff, taken, afterHeldOff, ofEffect, interruptPlan}
+use Rattle.calls.specs.Interrupts.{vectorOf, isHeldOff, taken, takenReads, afterHeldOff, ofEffect, interruptPlan}
 use Rattle.calls.specs.Resets.{resetTo, resetPlan}
 use Rattle.calls.specs.Calls.{Call, step, interrupt, reset, settingsIn, planOf, RefusedCall, FewWrites, CallFits}
 use Rattle.calls.specs.Moves.{Moved, MovedBy, StepMoves, BoundedBy, StepBounded, Still, InterruptStill, ResetStill}
@@ -99,8 +99,8 @@ weaker f t = record { few = t .few; waits = t .waits; refused = t .refused; regi
 -- ---- a step
 
 -- an operation that is carried out, by the entry e
-module _ {P : Type 0} (m : Machine) (h : P → MachineFits m) (e : Entry) (cost : ℕ) (mark : Bool) (f : Effect) (r : Set) (s : Sound P r (waitAfter (e .op)) f) where
-  as-whole : (a : Answer) → (a ≡ Done → f .wait ≡ waitAfter (e .op)) → Whole P (Moved e cost mark m) m (finishedAs a m cost mark f)
+module _ {P : Type 0} (m : Machine) (h : P → MachineFits m) (e : Entry) (cost : ℕ) (mark : Bool) (reads : ℕ) (f : Effect) (r : Set) (s : Sound P r (waitAfter (e .op)) f) where
+  as-whole : (a : Answer) → (a ≡ Done → f .wait ≡ waitAfter (e .op)) → Whole P (Moved e cost mark m) m (finishedAs a m cost mark reads f)
   as-whole Done w = record {
     few = record { places = s .few };
     refused = λ x d. not-done (sym d);
@@ -110,7 +110,7 @@ module _ {P : Type 0} (m : Machine) (h : P → MachineFits m) (e : Entry) (cost 
   }
   as-whole (Refused y) w = refused-whole m h y
 
-  finished-whole : Whole P (Moved e cost mark m) m (finished m cost mark f)
+  finished-whole : Whole P (Moved e cost mark m) m (finished m cost mark reads f)
   unfolding finished
   finished-whole = as-whole (f .answer) (s .waits)
 
@@ -144,7 +144,7 @@ module _ (mem : List ℕ) (m : Machine) where
   planned-whole : (s : Settings) (a : Reached) → (Provided mem m → ReachedFits a) → Whole (Provided mem m) (MovedBy mem a m) m (planned mem m s a)
   unfolding cyclesOf
   planned-whole s (At i r ea) k =
-      finished-whole m (λ g. g .machine) (i .entry) (i .entry .cycles + extraOf i mem r ea) (arms (i .entry .op) (byteAt mem ea)) _ r
+      finished-whole m (λ g. g .machine) (i .entry) (i .entry .cycles + extraOf i mem r ea) (arms (i .entry .op) (byteAt mem ea)) _ _ r
       (weaker (λ g. record { registers = k g .0; bytes = g .bytes; address = k g .1 }) (evaluated-sound (i .entry .op) s mem r ea))
   planned-whole s (NotReached x) k = refused-whole m (λ g. g .machine) x
 
@@ -155,8 +155,8 @@ module _ (mem : List ℕ) (m : Machine) where
   -- ---- interrupts and reset
 
   -- registers, wait and mark changed and nothing written
-  accepted-whole : (r : Set) (w : Wait) (a : Bool) → (Provided mem m → Fits r) → Whole (Provided mem m) (Still a m) m (accepted (marked (withRegisters m r w) a))
-  accepted-whole r w a h = record {
+  accepted-whole : (r : Set) (w : Wait) (a : Bool) (reads : ℕ) → (Provided mem m → Fits r) → Whole (Provided mem m) (Still a m) m (accepted (marked (withRegisters m r w) a) reads)
+  accepted-whole r w a reads h = record {
     few = none-full;
     refused = λ x e. not-done (sym e);
     fits = λ g. record { registers = h g; cycles = g .machine .cycles; instructions = g .machine .instructions };
@@ -164,15 +164,15 @@ module _ (mem : List ℕ) (m : Machine) where
     moves = λ d. record { cycles = refl; instructions = refl; armed = refl };
   }
 
-  effect-whole : (e : Effect) → Sound (Provided mem m) (m .regs) Running e → (a : Answer) → Whole (Provided mem m) (Still (m .armed) m) m (ofEffect m e a)
-  effect-whole e s Done = record {
+  effect-whole : (reads : ℕ) (e : Effect) → Sound (Provided mem m) (m .regs) Running e → (a : Answer) → Whole (Provided mem m) (Still (m .armed) m) m (ofEffect m reads e a)
+  effect-whole reads e s Done = record {
     few = record { places = s .few };
     refused = λ x d. not-done (sym d);
     fits = λ g. record { registers = s .registers g; cycles = g .machine .cycles; instructions = g .machine .instructions };
     widths = s .widths;
     moves = λ d. record { cycles = refl; instructions = refl; armed = refl };
   }
-  effect-whole e s (Refused x) = refused-whole m (λ g. g .machine) x
+  effect-whole reads e s (Refused x) = refused-whole m (λ g. g .machine) x
 
   -- an interrupt has no effective address: any will do
   given : Provided mem m → Given mem (m .regs) 0
@@ -190,10 +190,13 @@ module _ (mem : List ℕ) (m : Machine) where
       e : Effect
       e = taken (m .wait) mem s (m .regs) (vectorOf i)
 
+      n : ℕ
+      n = length (takenReads (m .wait) mem s (m .regs) (vectorOf i))
+
       go : (l k : Bool)
-          → Whole (Provided mem m) (Still (m .armed) m) m (cond l (cond k (accepted (withRegisters m (m .regs) (afterHeldOff (m .wait)))) (ofEffect m e (e .answer))) (refusedWith m MemoryLength))
-      go true true = accepted-whole (m .regs) (afterHeldOff (m .wait)) (m .armed) (λ g. g .machine .registers)
-      go true false = effect-whole e (taken-sound s (vectorOf i) (m .wait)) (e .answer)
+          → Whole (Provided mem m) (Still (m .armed) m) m (cond l (cond k (accepted (withRegisters m (m .regs) (afterHeldOff (m .wait))) 0) (ofEffect m n e (e .answer))) (refusedWith m MemoryLength))
+      go true true = accepted-whole (m .regs) (afterHeldOff (m .wait)) (m .armed) 0 (λ g. g .machine .registers)
+      go true false = effect-whole n e (taken-sound s (vectorOf i) (m .wait)) (e .answer)
       go false k = refused-whole m (λ g. g .machine) MemoryLength
 
   cleared-fits : Fits afterReset
@@ -204,7 +207,7 @@ module _ (mem : List ℕ) (m : Machine) where
   reset-whole = go (eqb (length mem) 65536) (wordAt mem (addressOf Reset)) (λ g. word-fits mem (g .bytes) (addressOf Reset))
     where
       go : (l : Bool) (pc : ℕ) → (Provided mem m → pc < 65536) → Whole (Provided mem m) (Still false m) m (cond l (resetTo m pc) (refusedWith m MemoryLength))
-      go true pc h = accepted-whole (jumped afterReset pc) Running false (λ g. jumped-fits afterReset cleared-fits pc (h g))
+      go true pc h = accepted-whole (jumped afterReset pc) Running false _ (λ g. jumped-fits afterReset cleared-fits pc (h g))
       go false pc h = refused-whole m (λ g. g .machine) MemoryLength
 
 -- ---- what follows
@@ -218,6 +221,8 @@ module _ {P : Type 0} {Moves : Machine → Type 0} {m : Machine} (p : Plan) (w :
         machine = ap (λ (g : Plan). g .machine) q;
         memory = ap (λ (g : Plan). memoryWith s g mem) q ∙ ap (λ l. stored (s .«ram_top») l mem) (listed-back []);
         devices = ap (λ (g : Plan). carriedOut s g .devices) q ∙ ap (λ l. writesOf (reported (s .«ram_top») l)) (listed-back []);
+        reads = ap (λ (g : Plan). carriedOut s g .reads) q;
+        writes = ap (λ (g : Plan). carriedOut s g .writes) q ∙ ap length (listed-back []);
       }
 
   whole-fits : P → PlanFits p

@@ -1,7 +1,7 @@
 -- The two settings part in a whole step in V alone, exactly where the law of an instruction says.
 -- Assumes nothing.
 use Prim.Native.Nat.{ℕ}
-use mathlib.Core.Path.{_≡_, refl, ap}
+use mathlib.Core.Path.{_≡_, refl, sym, ap, _∙_}
 use mathlib.Core.Bool.{Bool}
 use mathlib.Core.List.{List}
 use native.Mathlib.Omega.{arith}
@@ -26,6 +26,7 @@ use Rattle.evaluate.specs.Parting.{InstructionParts, on-registers, on-memory}
 use Rattle.evaluate.proofs.Parting.{instructions-part}
 use Rattle.calls.specs.Parting.{PlansPart, PartsAt, StepsPart}
 use Rattle.calls.specs.Plans.{refusedWith}
+use Rattle.bus.proofs.Sums.{reads-summed}
 use Rattle.cycles.specs.Cycles.{cyclesOf}
 use Rattle.calls.specs.Steps.{Reached, At, NotReached, reached, finishedAs, finished, planned, stepPlan}
 use Rattle.calls.specs.declared.Plan.{Plan}
@@ -35,6 +36,7 @@ same : {p q : Plan} {Case : Type 0} → p ≡ q → (Case → ⊥) → PlansPart
 same e n = record {
   writes = ap (λ (h : Plan). h .writes) e;
   answer = ap (λ (h : Plan). h .answer) e;
+  reads = ap (λ (h : Plan). h .reads) e;
   cycles = ap (λ (h : Plan). h .machine .cycles) e;
   instructions = ap (λ (h : Plan). h .machine .instructions) e;
   wait = ap (λ (h : Plan). h .machine .wait) e;
@@ -43,13 +45,13 @@ same e n = record {
 }
 
 -- an instruction that both settings carry out, or both refuse
-module _ (m : Machine) (cycles : ℕ) (mark : Bool) (e f : Effect) {Case : Type 0} (p : EffectsPart e f Case) where
-  finished-part : (Case → e .answer ≡ Done) → PlansPart (finished m cycles mark e) (finished m cycles mark f) Case
+module _ (m : Machine) (cycles : ℕ) (mark : Bool) (n k : ℕ) (counted : n ≡ k) (e f : Effect) {Case : Type 0} (p : EffectsPart e f Case) where
+  finished-part : (Case → e .answer ≡ Done) → PlansPart (finished m cycles mark n e) (finished m cycles mark k f) Case
   unfolding finished
   finished-part d = go (e .answer) (f .answer) (p .answer) d
     where
-      go : (v w : Answer) → v ≡ w → (Case → v ≡ Done) → PlansPart (finishedAs v m cycles mark e) (finishedAs w m cycles mark f) Case
-      go Done Done q h = record { writes = p .writes; answer = refl; cycles = refl; instructions = refl; wait = p .wait; armed = refl; registers = p .registers }
+      go : (v w : Answer) → v ≡ w → (Case → v ≡ Done) → PlansPart (finishedAs v m cycles mark n e) (finishedAs w m cycles mark k f) Case
+      go Done Done q h = record { writes = p .writes; answer = refl; reads = counted; cycles = refl; instructions = refl; wait = p .wait; armed = refl; registers = p .registers }
       go Done (Refused y) q h = let z : _≡_ {A = ℕ} 0 1 = cc in absurd (omega arith)
       go (Refused x) Done q h = let z : _≡_ {A = ℕ} 0 1 = cc in absurd (omega arith)
       go (Refused x) (Refused y) q h =
@@ -68,5 +70,5 @@ unfolding stepPlan
 steps-part mem m top l h = go (reached mem m) (reached-fits mem m l h)
   where
     go : (a : Reached) → ReachedFits a → PlansPart (planned mem m (settingsOf top Bought) a) (planned mem m (settingsOf top Manual) a) (PartsAt mem a)
-    go (At i r ea) k = finished-part m (cyclesOf i mem r ea) (arms (i .entry .op) (byteAt mem ea)) _ _ (instructions-part (i .entry .op) top mem r ea (k .0 .a) (k .0 .b) (byte-fits mem l ea)) (parts-done (i .entry .op) top mem r ea)
+    go (At i r ea) k = finished-part m (cyclesOf i mem r ea) (arms (i .entry .op) (byteAt mem ea)) _ _ (reads-summed i mem (settingsOf top Bought) (m .regs) r ea ∙ sym (reads-summed i mem (settingsOf top Manual) (m .regs) r ea)) _ _ (instructions-part (i .entry .op) top mem r ea (k .0 .a) (k .0 .b) (byte-fits mem l ea)) (parts-done (i .entry .op) top mem r ea)
     go (NotReached x) k = same refl (λ c. c)

@@ -41,10 +41,11 @@ use Rattle.vectors.specs.Service.{served}
 use Rattle.vectors.specs.Table.{addressOf, isEntire}
 use Rattle.vectors.specs.declared.table.Vector.{Vector}
 use Rattle.vectors.proofs.Laws.{vectors-refuse-exactly}
+use Rattle.bus.specs.Reads.{instructionReads}
 use Rattle.cycles.specs.Cycles.{cyclesOf}
 use Rattle.calls.specs.Plans.{refusedWith, accepted}
 use Rattle.calls.specs.Steps.{Reached, At, NotReached, addressed, ofDecoded, decodedTo, unlessWaiting, reached, finishedAs, finished, planned, stepPlan}
-use Rattle.calls.specs.Interrupts.{vectorOf, isHeldOff, taken, afterHeldOff, ofEffect, interruptPlan}
+use Rattle.calls.specs.Interrupts.{vectorOf, isHeldOff, taken, takenReads, afterHeldOff, ofEffect, interruptPlan}
 use Rattle.calls.specs.Room.{smallAt, StepSmallExactly, smallFrame, smallInterrupt, InterruptSmallExactly}
 use Rattle.calls.specs.declared.InterruptType.{InterruptType}
 
@@ -86,11 +87,11 @@ reached-other mem m = go (eqb (length mem) 65536)
 
 -- ---- the operation's answer is the step's
 
-done : (m : Machine) (cycles : ℕ) (mark : Bool) (e : Effect) → isEight (finished m cycles mark e .answer) ≡ isEight (e .answer)
+done : (m : Machine) (cycles : ℕ) (mark : Bool) (reads : ℕ) (e : Effect) → isEight (finished m cycles mark reads e .answer) ≡ isEight (e .answer)
 unfolding finished
-done m cycles mark e = go (e .answer)
+done m cycles mark reads e = go (e .answer)
   where
-    go : (a : Answer) → isEight (finishedAs a m cycles mark e .answer) ≡ isEight a
+    go : (a : Answer) → isEight (finishedAs a m cycles mark reads e .answer) ≡ isEight a
     go Done = refl
     go (Refused x) = refl
 
@@ -99,14 +100,14 @@ unfolding stepPlan
 step-small-exactly mem m s = go (reached mem m) (reached-other mem m)
   where
     go : (a : Reached) → OtherReached a → isEight (planned mem m s a .answer) ≡ smallAt mem a
-    go (At i r ea) k = done m (cyclesOf i mem r ea) (arms (i .entry .op) (byteAt mem ea)) (evaluateOf (i .entry .op) s mem r ea) ∙ small-exactly (i .entry .op) s mem r ea
+    go (At i r ea) k = done m (cyclesOf i mem r ea) (arms (i .entry .op) (byteAt mem ea)) (length (instructionReads i mem s (m .regs) r ea)) (evaluateOf (i .entry .op) s mem r ea) ∙ small-exactly (i .entry .op) s mem r ea
     go (NotReached x) k = k
 
 -- ---- an interrupt
 
-answered : (m : Machine) (e : Effect) (a : Answer) → isEight (ofEffect m e a .answer) ≡ isEight a
-answered m e Done = refl
-answered m e (Refused x) = refl
+answered : (m : Machine) (reads : ℕ) (e : Effect) (a : Answer) → isEight (ofEffect m reads e a .answer) ≡ isEight a
+answered m reads e Done = refl
+answered m reads e (Refused x) = refl
 
 -- 8 for the frame, 9 or nothing after it
 no-eight : (zero : Bool) → eqb (cond zero 9 0) 8 ≡ false
@@ -149,11 +150,14 @@ interrupt-small-exactly mem m s i = go (eqb (length mem) 65536) (isHeldOff i m)
     e : Effect
     e = taken (m .wait) mem s (m .regs) (vectorOf i)
 
+    n : ℕ
+    n = length (takenReads (m .wait) mem s (m .regs) (vectorOf i))
+
     go : (b c : Bool)
-        → isEight (cond b (cond c (accepted (withRegisters m (m .regs) (afterHeldOff (m .wait)))) (ofEffect m e (e .answer))) (refusedWith m MemoryLength) .answer)
+        → isEight (cond b (cond c (accepted (withRegisters m (m .regs) (afterHeldOff (m .wait))) 0) (ofEffect m n e (e .answer))) (refusedWith m MemoryLength) .answer)
         ≡ cond b (cond c false (smallFrame (m .wait) (m .regs .s) (vectorOf i))) false
     go true true = refl
-    go true false = answered m e (e .answer) ∙ framed mem m s (vectorOf i) (m .wait)
+    go true false = answered m n e (e .answer) ∙ framed mem m s (vectorOf i) (m .wait)
     go false c = refl
 
 -- the number, where the frame does not fit

@@ -27,18 +27,18 @@ use Rattle.calls.specs.declared.InterruptType.{InterruptType}
 abbrev pub WaitsRefused : Type 0
 WaitsRefused = (mem : List ℕ) (m : Machine) (s : Settings) → length mem ≡ 65536 → m .wait ≢ Running → stepPlan mem m s ≡ refusedWith m Waiting
 
--- a masked interrupt, or an NMI before S is loaded, is answered 0: neither 8 nor 9 is judged, no register and not the mark changes, and SYNC
--- alone ends
+-- a masked interrupt, or an NMI before S is loaded, is answered 0: neither 8 nor 9 is judged, nothing is read, no register and not the mark
+-- changes, and SYNC alone ends
 abbrev pub MaskedStays : Type 0
 MaskedStays =
     (mem : List ℕ) (m : Machine) (s : Settings) (i : InterruptType) → length mem ≡ 65536 → isHeldOff i m ≡ true
-    → interruptPlan mem m s i ≡ accepted (withRegisters m (m .regs) (afterHeldOff (m .wait)))
+    → interruptPlan mem m s i ≡ accepted (withRegisters m (m .regs) (afterHeldOff (m .wait))) 0
 
--- a reset is never refused: PC is the word at FFFE, whatever it leads to, and NMI is held off again
+-- a reset is never refused: PC is the word at FFFE, whatever it leads to, NMI is held off again, and two bytes are read
 abbrev pub ResetAccepted : Type 0
 ResetAccepted =
     (mem : List ℕ) (m : Machine) → length mem ≡ 65536
-    → resetPlan mem m ≡ accepted (marked (withRegisters m (jumped afterReset (256 * byteAt mem 0xFFFE + byteAt mem 0xFFFF)) Running) false)
+    → resetPlan mem m ≡ accepted (marked (withRegisters m (jumped afterReset (256 * byteAt mem 0xFFFE + byteAt mem 0xFFFF)) Running) false) 2
 
 -- so 1 alone refuses it
 abbrev pub ResetRefusesExactly : Type 0

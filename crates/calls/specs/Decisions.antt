@@ -2,9 +2,10 @@
 -- Assumes nothing.
 use Prim.Native.Nat.{ℕ, _%_}
 use mathlib.Core.Bool.{Bool, true, false, _&&_}
-use mathlib.Core.List.{List}
+use mathlib.Core.List.{List, []}
 use mathlib.Core.Path.{_≡_}
 use lib.Dec.{leb, ltb}
+use Rattle.answers.specs.declared.Answer.the-variants.{Done}
 use Rattle.answers.specs.declared.Refusal.{Refusal}
 use Rattle.answers.specs.declared.Refusal.the-variants.{Opcode}
 use Rattle.u8oru16.specs.declared.u8u16.the-variants.{u8, u16}
@@ -18,12 +19,14 @@ use Rattle.machine.specs.Effect.{changes, stores, refuses}
 use Rattle.machine.specs.declared.Effect.{Effect}
 use Rattle.machine.specs.declared.Machine.{Machine}
 use Rattle.machine.specs.declared.Settings.{Settings}
+use Rattle.machine.specs.declared.Wait.the-variants.{Running}
 use Rattle.opcodes.specs.declared.MemoryOp.{MemoryOp}
 use Rattle.opcodes.specs.declared.MemoryOp.the-variants.{Sync}
 use Rattle.stack.specs.Pushing.{pushed}
 use Rattle.evaluate.specs.Evaluate.{memoryOf}
-use Rattle.calls.specs.Steps.{finished}
+use Rattle.calls.specs.Steps.{afterInstruction, finished}
 use Rattle.calls.specs.declared.Plan.{Plan}
+use Rattle.calls.specs.declared.Report.{Report}
 use Rattle.calls.specs.declared.decisions.Decision.{Decision}
 use Rattle.calls.specs.declared.decisions.Kind.{Kind}
 use Rattle.calls.specs.declared.decisions.Kind.the-variants.{Refused, Change, Byte, Word, Push, Rest}
@@ -32,24 +35,24 @@ use Rattle.calls.specs.declared.decisions.Kind.the-variants.{Refused, Ch
 
 abbrev pub told : Kind → Set → ℕ → ℕ → Decision
 told kind r at value =
-    record { regs = r; cycles = 0; at = at; value = value; mask = 0; arms = false; own = S; refusal = Opcode; op = Sync; kind = kind }
+    record { regs = r; cycles = 0; reads = 0; at = at; value = value; mask = 0; arms = false; own = S; refusal = Opcode; op = Sync; kind = kind }
 
 abbrev pub refusalTold : Refusal → Set → Decision
 refusalTold x r =
-    record { regs = r; cycles = 0; at = 0; value = 0; mask = 0; arms = false; own = S; refusal = x; op = Sync; kind = Refused }
+    record { regs = r; cycles = 0; reads = 0; at = 0; value = 0; mask = 0; arms = false; own = S; refusal = x; op = Sync; kind = Refused }
 
 abbrev pub pushTold : Set → Stack → ℕ → Decision
 pushTold r own mask =
-    record { regs = r; cycles = 0; at = 0; value = 0; mask = mask; arms = false; own = own; refusal = Opcode; op = Sync; kind = Push }
+    record { regs = r; cycles = 0; reads = 0; at = 0; value = 0; mask = mask; arms = false; own = own; refusal = Opcode; op = Sync; kind = Push }
 
 abbrev pub leftOver : MemoryOp → Set → ℕ → Decision
 leftOver op r ea =
-    record { regs = r; cycles = 0; at = ea; value = 0; mask = 0; arms = false; own = S; refusal = Opcode; op = op; kind = Rest }
+    record { regs = r; cycles = 0; reads = 0; at = ea; value = 0; mask = 0; arms = false; own = S; refusal = Opcode; op = op; kind = Rest }
 
--- the same with what it costs, and whether it arms NMI
-abbrev pub billed : Decision → ℕ → Bool → Decision
-billed d cycles arms =
-    record { regs = d .regs; cycles = cycles; at = d .at; value = d .value; mask = d .mask; arms = arms; own = d .own; refusal = d .refusal; op = d .op; kind = d .kind }
+-- the same with what it costs and reads, and whether it arms NMI
+abbrev pub billed : Decision → ℕ → ℕ → Bool → Decision
+billed d cycles reads arms =
+    record { regs = d .regs; cycles = cycles; reads = reads; at = d .at; value = d .value; mask = d .mask; arms = arms; own = d .own; refusal = d .refusal; op = d .op; kind = d .kind }
 
 -- ---- what they stand for
 
@@ -65,7 +68,12 @@ abbrev pub effectTold : Settings → List ℕ → Decision → Effect
 effectTold s mem d = effectAs (d .kind) s mem d
 
 abbrev pub planTold : Machine → Settings → List ℕ → Decision → Plan
-planTold m s mem d = finished m (d .cycles) (d .arms) (effectTold s mem d)
+planTold m s mem d = finished m (d .cycles) (d .arms) (d .reads) (effectTold s mem d)
+
+-- what is reported where so many bytes were written and none of them to a device
+abbrev pub metNoDevice : Machine → ℕ → Bool → ℕ → ℕ → Set → Report
+metNoDevice m cycles arms reads writes r =
+    record { devices = writesOf []; machine = afterInstruction m cycles arms r Running; reads = reads; writes = writes; answer = Done }
 
 -- ---- where it lies
 
@@ -90,7 +98,8 @@ isPlain top d = isPlainAs (d .kind) top d
 
 -- ---- the statement of the operation
 
-pub record Decides (s : Settings) (mem : List ℕ) (n : ℕ) (b : Bool) (e : Effect) (d : Decision) : Type 0 where
+pub record Decides (s : Settings) (mem : List ℕ) (n k : ℕ) (b : Bool) (e : Effect) (d : Decision) : Type 0 where
   pub effect : effectTold s mem d ≡ e
   pub cycles : d .cycles ≡ n
+  pub reads : d .reads ≡ k
   pub arms : d .arms ≡ b

@@ -22,6 +22,7 @@ use Rattle.machine.specs.declared.Wait.the-variants.{Running, Cwai, Sync}
 use Rattle.vectors.specs.Service.{vectored, served}
 use Rattle.vectors.specs.declared.table.Vector.{Vector}
 use Rattle.vectors.specs.declared.table.Vector.the-variants.{Irq as IRQ, Firq as FIRQ, Nmi as NMI}
+use Rattle.bus.specs.Reads.{vectorReads, servedReads}
 use Rattle.calls.specs.Plans.{refusedWith, accepted, carriedOut, memoryWith}
 use Rattle.calls.specs.declared.InterruptType.{InterruptType}
 use Rattle.calls.specs.declared.InterruptType.the-variants.{Irq, Firq, Nmi}
@@ -45,25 +46,31 @@ taken Running mem s r v = served mem s r v
 taken Sync mem s r v = served mem s r v
 taken Cwai mem s r v = vectored mem s r (changes r) v
 
+-- the addresses that it reads: the vector, and the byte that it leads to
+abbrev pub takenReads : Wait → List ℕ → Settings → Set → Vector → List ℕ
+takenReads Running mem s r v = servedReads mem s r v
+takenReads Sync mem s r v = servedReads mem s r v
+takenReads Cwai mem s r v = vectorReads mem s (changes r) v
+
 -- one that is held off ends SYNC and nothing else
 abbrev pub afterHeldOff : Wait → Wait
 afterHeldOff Running = Running
 afterHeldOff Cwai = Cwai
 afterHeldOff Sync = Running
 
-abbrev pub ofEffect : Machine → Effect → Answer → Plan
-ofEffect m e Done = record { writes = e .writes; machine = withRegisters m (e .regs) Running; answer = Done }
-ofEffect m e (Refused x) = refusedWith m x
+abbrev pub ofEffect : Machine → ℕ → Effect → Answer → Plan
+ofEffect m reads e Done = record { writes = e .writes; machine = withRegisters m (e .regs) Running; reads = reads; answer = Done }
+ofEffect m reads e (Refused x) = refusedWith m x
 
-abbrev pub takenBy : Machine → Effect → Plan
-takenBy m e = ofEffect m e (e .answer)
+abbrev pub takenBy : Machine → ℕ → Effect → Plan
+takenBy m reads e = ofEffect m reads e (e .answer)
 
--- 1 unless memory has 65,536 bytes; then, unless it is held off, 8 and 9 as they are met
+-- 1 unless memory has 65,536 bytes; then, unless it is held off and reads nothing, 8 and 9 as they are met
 unfoldable pub interruptPlan : List ℕ → Machine → Settings → InterruptType → Plan
 interruptPlan mem m s i =
     cond (eqb (length mem) 65536)
-    (cond (isHeldOff i m) (accepted (withRegisters m (m .regs) (afterHeldOff (m .wait))))
-    (takenBy m (taken (m .wait) mem s (m .regs) (vectorOf i))))
+    (cond (isHeldOff i m) (accepted (withRegisters m (m .regs) (afterHeldOff (m .wait))) 0)
+    (takenBy m (length (takenReads (m .wait) mem s (m .regs) (vectorOf i))) (taken (m .wait) mem s (m .regs) (vectorOf i))))
     (refusedWith m MemoryLength)
 
 -- the interrupt carried out

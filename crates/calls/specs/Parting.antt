@@ -14,10 +14,11 @@ use Rattle.evaluate.specs.Parting.{InstructionParts}
 use Rattle.calls.specs.Steps.{Reached, At, NotReached, reached, stepPlan}
 use Rattle.calls.specs.declared.Plan.{Plan}
 
--- two plans that write the same bytes, answer alike and leave the same machine but for V, which differs exactly in the case named
+-- two plans that write the same bytes, read as many, answer alike and leave the same machine but for V, which differs exactly in the case named
 pub record PlansPart (p q : Plan) (Case : Type 0) : Type 0 where
   pub writes : p .writes ≡ q .writes
   pub answer : p .answer ≡ q .answer
+  pub reads : p .reads ≡ q .reads
   pub cycles : p .machine .cycles ≡ q .machine .cycles
   pub instructions : p .machine .instructions ≡ q .machine .instructions
   pub wait : p .machine .wait ≡ q .machine .wait

@@ -16,12 +16,17 @@ use Rattle.machine.specs.declared.Wait.the-variants.{Running}
 use Rattle.operations.specs.Branches.{jumped}
 use Rattle.vectors.specs.Table.{addressOf}
 use Rattle.vectors.specs.declared.table.Vector.the-variants.{Reset}
+use Rattle.bus.specs.Reads.{bytesFrom}
 use Rattle.calls.specs.Plans.{refusedWith, accepted, carriedOut, memoryWith}
 use Rattle.calls.specs.declared.Plan.{Plan}
 use Rattle.calls.specs.declared.Report.{Report}
 
+-- the addresses that it reads: the vector's two
+abbrev pub resetReads : List ℕ
+resetReads = bytesFrom (addressOf Reset) 2
+
 abbrev pub resetTo : Machine → ℕ → Plan
-resetTo m pc = accepted (marked (withRegisters m (jumped afterReset pc) Running) false)
+resetTo m pc = accepted (marked (withRegisters m (jumped afterReset pc) Running) false) (length resetReads)
 
 unfoldable pub resetPlan : List ℕ → Machine → Plan
 resetPlan mem m = cond (eqb (length mem) 65536) (resetTo m (wordAt mem (addressOf Reset))) (refusedWith m MemoryLength)

@@ -23,6 +23,7 @@ use Rattle.decode.specs.declared.instruction.Instruction.{Instruction}
 use Rattle.addressing.specs.Address.{resolvedOf}
 use Rattle.addressing.specs.declared.Resolved.{Resolved}
 use Rattle.addressing.specs.declared.Resolved.the-variants.{At as Addressed, Refused as NoAddress}
+use Rattle.bus.specs.Reads.{instructionReads}
 use Rattle.evaluate.specs.Arming.{arms}
 use Rattle.evaluate.specs.Evaluate.{evaluateOf}
 use Rattle.cycles.specs.Cycles.{cyclesOf}
@@ -72,15 +73,21 @@ afterInstruction m cycles a r w =
       armed = m .armed || a;
     }
 
-abbrev pub finishedAs : Answer → Machine → ℕ → Bool → Effect → Plan
-finishedAs Done m cycles a e = record { writes = e .writes; machine = afterInstruction m cycles a (e .regs) (e .wait); answer = Done }
-finishedAs (Refused x) m cycles a e = refusedWith m x
+abbrev pub finishedAs : Answer → Machine → ℕ → Bool → ℕ → Effect → Plan
+finishedAs Done m cycles a reads e =
+    record { writes = e .writes; machine = afterInstruction m cycles a (e .regs) (e .wait); reads = reads; answer = Done }
+finishedAs (Refused x) m cycles a reads e = refusedWith m x
 
-unfoldable pub finished : Machine → ℕ → Bool → Effect → Plan
-finished m cycles a e = finishedAs (e .answer) m cycles a e
+unfoldable pub finished : Machine → ℕ → Bool → ℕ → Effect → Plan
+finished m cycles a reads e = finishedAs (e .answer) m cycles a reads e
 
 abbrev pub operated : List ℕ → Machine → Settings → Instruction → Set → ℕ → Plan
-operated mem m s i r ea = finished m (cyclesOf i mem r ea) (arms (i .entry .op) (byteAt mem ea)) (evaluateOf (i .entry .op) s mem r ea)
+operated mem m s i r ea =
+    finished m
+    (cyclesOf i mem r ea)
+    (arms (i .entry .op) (byteAt mem ea))
+    (length (instructionReads i mem s (m .regs) r ea))
+    (evaluateOf (i .entry .op) s mem r ea)
 
 abbrev pub planned : List ℕ → Machine → Settings → Reached → Plan
 planned mem m s (At i r ea) = operated mem m s i r ea

@@ -1,16 +1,23 @@
 // What an instruction does, told by a small value: a list of twelve writes is made for the few that need one (docs/PERFORMANCE.md).
 ghost use mathlib.Core.Path.{_≡_};
-ghost use Prim.Native.Nat.{_+_, _<_};
+ghost use Prim.Native.Nat.{_+_, _<_, _≤_};
 ghost use Rattle.decode.specs.declared.instruction.Decoded.the-variants.{Instruction as Decodes};
 ghost use Rattle.evaluate.specs.Arming.{arms};
 ghost use Rattle.evaluate.specs.Evaluate.{evaluateOf, memoryOf};
 ghost use Rattle.memory.specs.Map.{byteAt};
+ghost use Rattle.bus.specs.Reads.{operandTaken};
+ghost use Rattle.bus.specs.Sums.{operandCount, fetchedCount};
 ghost use Rattle.cycles.specs.Cycles.{operationExtra};
 ghost use Rattle.calls.specs.Steps.{ofDecoded, decodedTo, planned};
 ghost use Rattle.opcodes.specs.declared.MemoryOp.the-variants.{OnMemory, Store8, Store16, Bsr};
 ghost use Rattle.calls.specs.Decisions.{told, refusalTold, pushTold, leftOver, billed, effectTold, planTold, isBelow, isWordBelow, isPlain, Decides};
 use addressing::Resolved;
 use answers::Refusal;
+use bus::memory_count;
+use bus::memory_takes;
+use bus::operand_count;
+use bus::pointer_count;
+use bus::registers_take;
 use cycles::cost;
 use cycles::memory_extra;
 use cycles::operand_extra;
@@ -47,6 +54,7 @@ pub struct Decision {
     pub at: u16,
     pub value: u16,
     pub mask: u8,
+    pub reads: u8,
     pub arms: bool,
     pub own: Stack,
     pub refusal: Refusal,
@@ -63,6 +71,7 @@ fn tell(kind: Kind, regs: Set, at: u16, value: u16) -> Decision
         at,
         value,
         mask: 0,
+        reads: 0,
         arms: false,
         own: Stack::S,
         refusal: Refusal::Opcode,
@@ -80,6 +89,7 @@ fn refuse(refusal: Refusal, regs: Set) -> Decision
         at: 0,
         value: 0,
         mask: 0,
+        reads: 0,
         arms: false,
         own: Stack::S,
         refusal,
@@ -97,6 +107,7 @@ fn tell_push(regs: Set, own: Stack, mask: u8) -> Decision
         at: 0,
         value: 0,
         mask,
+        reads: 0,
         arms: false,
         own,
         refusal: Refusal::Opcode,
@@ -114,6 +125,7 @@ fn leave(op: MemoryOp, regs: Set, ea: u16) -> Decision
         at: ea,
         value: 0,
         mask: 0,
+        reads: 0,
         arms: false,
         own: Stack::S,
         refusal: Refusal::Opcode,
@@ -233,9 +245,9 @@ fn decide_memory(op: MemoryOp, settings: Settings, mem: &[u8], regs: Set, ea: u1
     }
 }
 
-// The whole value anew, not two fields of it: then the compiler keeps each field by itself.
-fn bill(decision: Decision, cycles: u16, arms: bool) -> Decision
-    ensures { λ r. ⌜ r ≡ billed decision cycles arms ⌝ }
+// The whole value anew, not three fields of it: then the compiler keeps each field by itself.
+fn bill(decision: Decision, cycles: u16, reads: u8, arms: bool) -> Decision
+    ensures { λ r. ⌜ r ≡ billed decision cycles reads arms ⌝ }
 {
     let own = decision.own;
     let refusal = decision.refusal;
@@ -248,6 +260,7 @@ fn bill(decision: Decision, cycles: u16, arms: bool) -> Decision
         at: decision.at,
         value: decision.value,
         mask: decision.mask,
+        reads,
         arms,
         own,
         refusal,
@@ -256,9 +269,18 @@ fn bill(decision: Decision, cycles: u16, arms: bool) -> Decision
     }
 }
 
-// The operation. `extra` is the operand's, known before the address is found.
-fn operate(mem: &[u8], settings: Settings, entry: Entry, extra: u8, regs: Set, ea: u16) -> Decision
-    ensures { λ r. ⌜ Decides settings (now (mem .entry)) (entry .cycles + (extra + operationExtra (entry .op) (entry .mode) (now (mem .entry)) regs ea)) (arms (entry .op) (byteAt (now (mem .entry)) ea)) (evaluateOf (entry .op) settings (now (mem .entry)) regs ea) r ⌝ }
+// The operation. `extra` is the operand's, and `program` the bytes read so far: both are known before the address is found.
+fn operate(
+    mem: &[u8],
+    settings: Settings,
+    entry: Entry,
+    extra: u8,
+    program: u8,
+    regs: Set,
+    ea: u16,
+) -> Decision
+    requires { ⌜ program ≤ 7 ⌝ }
+    ensures { λ r. ⌜ Decides settings (now (mem .entry)) (entry .cycles + (extra + operationExtra (entry .op) (entry .mode) (now (mem .entry)) regs ea)) (program + (operandCount (entry .mode) (operandTaken (entry .op)) + fetchedCount (entry .op) (now (mem .entry)) regs ea)) (arms (entry .op) (byteAt (now (mem .entry)) ea)) (evaluateOf (entry .op) settings (now (mem .entry)) regs ea) r ⌝ }
 {
     let op = entry.op;
     let mode = entry.mode;
@@ -266,32 +288,44 @@ fn operate(mem: &[u8], settings: Settings, entry: Entry, extra: u8, regs: Set, e
     match op {
         Op::Registers(on) => {
             let cycles = cost(entry.cycles, extra, registers_extra(on, mode, regs.cc));
+            let reads = program + operand_count(mode, registers_take(on));
             let arms = evaluate::registers_arm(on, mem, ea);
             match operations::change(on, flags, mem, regs, ea) {
-                Changed::After(after) => bill(tell(Kind::Change, after, 0, 0), cycles, arms),
-                Changed::Refused(refusal) => bill(refuse(refusal, regs), cycles, arms),
+                Changed::After(after) => bill(tell(Kind::Change, after, 0, 0), cycles, reads, arms),
+                Changed::Refused(refusal) => bill(refuse(refusal, regs), cycles, reads, arms),
             }
         }
         Op::Memory(on) => {
             let cycles = cost(entry.cycles, extra, memory_extra(on, mem, regs, ea));
+            let operand = operand_count(mode, memory_takes(on));
+            let reads = program + (operand + memory_count(on, mem, regs, ea));
             let arms = evaluate::memory_arms(on, mem, ea);
-            bill(decide_memory(on, settings, mem, regs, ea), cycles, arms)
+            bill(
+                decide_memory(on, settings, mem, regs, ea),
+                cycles,
+                reads,
+                arms,
+            )
         }
     }
 }
 
+// An instruction has at most five bytes.
 fn execute(mem: &[u8], machine: Machine, settings: Settings, instruction: Instruction) -> Decision
+    requires { ⌜ (machine .regs .pc ≤ instruction .next) × (instruction .next ≤ machine .regs .pc + 5) ⌝ }
     ensures { λ r. ⌜ planTold machine settings (now (mem .entry)) r ≡ planned (now (mem .entry)) machine settings (ofDecoded (now (mem .entry)) (machine .regs) (Decodes instruction)) ⌝ }
 {
     let entry = instruction.entry;
     let operand = instruction.operand;
-    let extra = operand_extra(operand);
     let regs = machine.regs;
+    let extra = operand_extra(operand);
+    let own = (instruction.next - regs.pc as u32) as u8;
+    let program = own + pointer_count(operand);
     match addressing::resolve(mem, machine.regs, operand, instruction.next) {
         Resolved::Refused(refusal) => refuse(refusal, regs),
         Resolved::At(found) => {
             let after = found.regs;
-            operate(mem, settings, entry, extra, after, found.ea)
+            operate(mem, settings, entry, extra, program, after, found.ea)
         }
     }
 }

@@ -60,8 +60,8 @@ fn after_held_off(wait: Wait) -> Wait
     }
 }
 
-fn finish(machine: Machine, effect: Effect) -> Plan
-    ensures { λ r. ⌜ r ≡ ofEffect machine effect (effect .answer) ⌝ }
+fn finish(machine: Machine, reads: u8, effect: Effect) -> Plan
+    ensures { λ r. ⌜ r ≡ ofEffect machine reads effect (effect .answer) ⌝ }
 {
     let answer = effect.answer;
     let writes = effect.writes;
@@ -71,6 +71,7 @@ fn finish(machine: Machine, effect: Effect) -> Plan
         Answer::Done => Plan {
             writes,
             machine: machine.with_registers(regs, Wait::Running),
+            reads,
             answer,
         },
     }
@@ -91,9 +92,14 @@ pub fn plan_interrupt(
     let regs = machine.regs;
     let wait = machine.wait;
     if is_held_off(which, machine) {
-        accept(machine.with_registers(regs, after_held_off(wait)))
+        accept(machine.with_registers(regs, after_held_off(wait)), 0)
     } else {
-        finish(machine, take(mem, settings, wait, regs, vector_of(which)))
+        // The vector's two bytes and the one that it leads to.
+        finish(
+            machine,
+            3,
+            take(mem, settings, wait, regs, vector_of(which)),
+        )
     }
 }
 

@@ -27,17 +27,20 @@ pub use steps::plan_of;
 pub use steps::plan_step;
 pub use steps::step;
 
-// What a call will do: the bytes to write, the machine after it, and its answer.
+// What a call will do: the bytes to write, the machine after it, how many bytes it reads, and its answer.
 pub struct Plan {
     pub writes: Writes,
     pub machine: Machine,
+    pub reads: u8,
     pub answer: Answer,
 }
 
-// What a call did: the device writes that it reports, the machine after it, and its answer.
+// What a call did: the device writes that it reports, the machine after it, how many bytes it read and wrote, and its answer.
 pub struct Report {
     pub devices: Writes,
     pub machine: Machine,
+    pub reads: u8,
+    pub writes: u8,
     pub answer: Answer,
 }
 

@@ -1,5 +1,7 @@
 // A call's plan, and how it is carried out. Public for the second engine, which makes plans of its own.
 ghost use mathlib.Core.Path.{_≡_};
+ghost use lib.ListN.{length};
+ghost use Rattle.memory.specs.Writes.{listed};
 ghost use Rattle.calls.specs.Plans.{refusedWith, accepted, carriedOut, memoryWith};
 use super::Plan;
 use super::Report;
@@ -16,19 +18,29 @@ pub fn refused(machine: Machine, refusal: Refusal) -> Plan
     Plan {
         writes: Writes::none(),
         machine,
+        reads: 0,
         answer: Answer::Refused(refusal),
     }
 }
 
 // The machine changes, and nothing is written.
-pub fn accept(machine: Machine) -> Plan
-    ensures { λ r. ⌜ r ≡ accepted machine ⌝ }
+pub fn accept(machine: Machine, reads: u8) -> Plan
+    ensures { λ r. ⌜ r ≡ accepted machine reads ⌝ }
 {
     Plan {
         writes: Writes::none(),
         machine,
+        reads,
         answer: Answer::Done,
     }
+}
+
+// At most twelve.
+fn how_many(writes: Writes) -> u8
+    ensures { λ r. ⌜ r ≡ length (listed writes) ⌝ }
+{
+    let count = writes.count;
+    if count < 12 { count as u8 } else { 12 }
 }
 
 pub fn carry_out(mem: &mut [u8], settings: Settings, plan: Plan) -> Report
@@ -41,6 +53,8 @@ pub fn carry_out(mem: &mut [u8], settings: Settings, plan: Plan) -> Report
     Report {
         devices,
         machine,
+        reads: plan.reads,
+        writes: how_many(writes),
         answer,
     }
 }

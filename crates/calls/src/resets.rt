@@ -21,7 +21,7 @@ pub fn plan_reset(mem: &[u8], machine: Machine) -> Plan
     }
     let pc = memory::read_u16(mem, Vector::Reset.address());
     let regs = operations::jump(Set::reset(), pc);
-    accept(machine.with_registers(regs, Wait::Running).marked(false))
+    accept(machine.with_registers(regs, Wait::Running).marked(false), 2)
 }
 
 pub fn reset(mem: &mut [u8], machine: Machine, settings: Settings) -> Report

@@ -9,7 +9,7 @@ ghost use Rattle.machine.specs.Effect.{changes};
 ghost use Rattle.stack.specs.Pushing.{bytesPushed, pushed};
 ghost use Rattle.calls.specs.Plans.{refusedWith, carriedOut, memoryWith};
 ghost use Rattle.calls.specs.Steps.{afterInstruction, finished, decodedTo, planned, stepPlan, stepOf, memoryAfterStep};
-ghost use Rattle.calls.specs.Decisions.{planTold, isPlain};
+ghost use Rattle.calls.specs.Decisions.{planTold, metNoDevice, isPlain};
 use super::Plan;
 use super::Report;
 use super::decisions::Decision;
@@ -44,19 +44,20 @@ fn advance(machine: Machine, cycles: u16, arms: bool, regs: Set, wait: Wait) -> 
 }
 
 // An instruction that changes registers alone: no list of writes is carried along for it.
-fn change(machine: Machine, cycles: u16, arms: bool, regs: Set) -> Plan
-    ensures { λ r. ⌜ r ≡ finished machine cycles arms (changes regs) ⌝ }
+fn change(machine: Machine, cycles: u16, arms: bool, reads: u8, regs: Set) -> Plan
+    ensures { λ r. ⌜ r ≡ finished machine cycles arms reads (changes regs) ⌝ }
 {
     Plan {
         writes: Writes::none(),
         machine: advance(machine, cycles, arms, regs, Wait::Running),
+        reads,
         answer: Answer::Done,
     }
 }
 
 // An operation's effect as a plan: its refusal, or the machine after the instruction and what is to be written.
-pub fn finish(machine: Machine, cycles: u16, arms: bool, effect: Effect) -> Plan
-    ensures { λ r. ⌜ r ≡ finished machine cycles arms effect ⌝ }
+pub fn finish(machine: Machine, cycles: u16, arms: bool, reads: u8, effect: Effect) -> Plan
+    ensures { λ r. ⌜ r ≡ finished machine cycles arms reads effect ⌝ }
 {
     let answer = effect.answer;
     let writes = effect.writes;
@@ -67,6 +68,7 @@ pub fn finish(machine: Machine, cycles: u16, arms: bool, effect: Effect) -> Plan
         Answer::Done => Plan {
             writes,
             machine: advance(machine, cycles, arms, regs, wait),
+            reads,
             answer,
         },
     }
@@ -79,6 +81,7 @@ pub fn plan_of(mem: &[u8], machine: Machine, settings: Settings, decision: Decis
     let kind = decision.kind;
     let cycles = decision.cycles;
     let arms = decision.arms;
+    let reads = decision.reads;
     let regs = decision.regs;
     let at = decision.at;
     match kind {
@@ -86,7 +89,7 @@ pub fn plan_of(mem: &[u8], machine: Machine, settings: Settings, decision: Decis
             let refusal = decision.refusal;
             refused(machine, refusal)
         }
-        Kind::Change => change(machine, cycles, arms, regs),
+        Kind::Change => change(machine, cycles, arms, reads, regs),
         Kind::Byte => {
             let one = Write {
                 at,
@@ -94,21 +97,21 @@ pub fn plan_of(mem: &[u8], machine: Machine, settings: Settings, decision: Decis
                 system: false,
             };
             let writes = Writes::none().add(one);
-            finish(machine, cycles, arms, Effect::stores(regs, writes))
+            finish(machine, cycles, arms, reads, Effect::stores(regs, writes))
         }
         Kind::Word => {
             let writes = Writes::none().add_word(at, decision.value, false);
-            finish(machine, cycles, arms, Effect::stores(regs, writes))
+            finish(machine, cycles, arms, reads, Effect::stores(regs, writes))
         }
         Kind::Push => {
             let own = decision.own;
             let effect = stack::push(regs, own, decision.mask, false);
-            finish(machine, cycles, arms, effect)
+            finish(machine, cycles, arms, reads, effect)
         }
         Kind::Rest => {
             let op = decision.op;
             let effect = evaluate::evaluate_memory(op, settings, mem, regs, at);
-            finish(machine, cycles, arms, effect)
+            finish(machine, cycles, arms, reads, effect)
         }
     }
 }
@@ -137,12 +140,14 @@ pub fn plan_step(mem: &[u8], machine: Machine, settings: Settings) -> Plan
 }
 
 // A step that is done, whose writes, if it has some, met no device.
-fn did(machine: Machine, cycles: u16, arms: bool, regs: Set) -> Report
-    ensures { λ r. ⌜ ((s : Settings) → r ≡ carriedOut s (finished machine cycles arms (changes regs))) ⌝ }
+fn did(machine: Machine, cycles: u16, arms: bool, reads: u8, writes: u8, regs: Set) -> Report
+    ensures { λ r. ⌜ r ≡ metNoDevice machine cycles arms reads writes regs ⌝ }
 {
     Report {
         devices: Writes::none(),
         machine: advance(machine, cycles, arms, regs, Wait::Running),
+        reads,
+        writes,
         answer: Answer::Done,
     }
 }
@@ -153,6 +158,8 @@ fn refuse(machine: Machine, refusal: Refusal) -> Report
     Report {
         devices: Writes::none(),
         machine,
+        reads: 0,
+        writes: 0,
         answer: Answer::Refused(refusal),
     }
 }
@@ -163,16 +170,27 @@ fn carry_push(
     machine: Machine,
     cycles: u16,
     arms: bool,
+    reads: u8,
     regs: Set,
     own: Stack,
     mask: u8,
 ) -> Report
     requires { ⌜ (length (now mem) ≡ 65536) × ((wordOf regs (stackWord own) ≤ 0xFF00) × (bytesPushed mask ≤ wordOf regs (stackWord own))) ⌝ }
-    ensures { λ r. ⌜ ((s : Settings) → wordOf regs (stackWord own) ≤ s .«ram_top» → (r ≡ carriedOut s (finished machine cycles arms (pushed regs own mask false))) × (now (mem .exit) ≡ memoryWith s (finished machine cycles arms (pushed regs own mask false)) (now (mem .entry)))) ⌝ }
+    ensures { λ r. ⌜ ((s : Settings) → wordOf regs (stackWord own) ≤ s .«ram_top» → (r ≡ carriedOut s (finished machine cycles arms reads (pushed regs own mask false))) × (now (mem .exit) ≡ memoryWith s (finished machine cycles arms reads (pushed regs own mask false)) (now (mem .entry)))) ⌝ }
 {
     let word = own.word();
-    let pointer = plain::push(mem, regs, own, regs.word(word), mask);
-    did(machine, cycles, arms, regs.with_word(word, pointer))
+    let top = regs.word(word);
+    let pointer = plain::push(mem, regs, own, top, mask);
+    // As many bytes as the pointer fell.
+    let writes = (top - pointer) as u8;
+    did(
+        machine,
+        cycles,
+        arms,
+        reads,
+        writes,
+        regs.with_word(word, pointer),
+    )
 }
 
 // Where all is plain, nothing but the stores is to be done.
@@ -183,6 +201,7 @@ fn carry_plain(mem: &mut [u8], machine: Machine, settings: Settings, decision: D
     let kind = decision.kind;
     let cycles = decision.cycles;
     let arms = decision.arms;
+    let reads = decision.reads;
     let regs = decision.regs;
     let at = decision.at;
     match kind {
@@ -190,20 +209,20 @@ fn carry_plain(mem: &mut [u8], machine: Machine, settings: Settings, decision: D
             let refusal = decision.refusal;
             refuse(machine, refusal)
         }
-        Kind::Change => did(machine, cycles, arms, regs),
+        Kind::Change => did(machine, cycles, arms, reads, 0, regs),
         Kind::Byte => {
             plain::put_byte(mem, at, (decision.value % 256) as u8);
-            did(machine, cycles, arms, regs)
+            did(machine, cycles, arms, reads, 1, regs)
         }
         Kind::Word => {
             plain::put_word(mem, at, decision.value);
-            did(machine, cycles, arms, regs)
+            did(machine, cycles, arms, reads, 2, regs)
         }
         Kind::Push => {
             let own = decision.own;
-            carry_push(mem, machine, cycles, arms, regs, own, decision.mask)
+            carry_push(mem, machine, cycles, arms, reads, regs, own, decision.mask)
         }
-        Kind::Rest => did(machine, cycles, arms, regs),
+        Kind::Rest => did(machine, cycles, arms, reads, 0, regs),
     }
 }
 

@@ -1,5 +1,8 @@
 // What a step costs beyond the figure that the opcode's fields give. What an operand costs is the first engine's: there is no flag in it.
 ghost use mathlib.Core.Path.{_≡_};
+ghost use Rattle.registers.specs.ConditionCodes.{coded, flag};
+ghost use Rattle.registers.specs.declared.CCBit.the-variants.{E};
+ghost use Rattle.memory.specs.Map.{byteAt};
 ghost use Rattle.cycles.specs.Cycles.{branchExtra, registersExtra, returnExtra, memoryExtra, operationExtra};
 use opcodes::Cond;
 use opcodes::MemoryOp;
@@ -32,14 +35,21 @@ fn on_registers(op: RegisterOp, mode: Mode, cc: CCBits) -> u8
     }
 }
 
-// E, the digit of weight 128, says that the whole frame is on the stack: RTI then pulls nine bytes more.
-fn whole_frame(mem: &[u8], regs: Set) -> u8
-    ensures { λ r. ⌜ r ≡ returnExtra (now (mem .entry)) regs ⌝ }
+// E, the digit of weight 128 of the CC on the stack, says that the whole frame is there, and not CC and PC alone.
+pub fn is_whole_frame(mem: &[u8], regs: Set) -> bool
+    ensures { λ r. ⌜ r ≡ flag E (coded (byteAt (now (mem .entry)) (regs .s))) ⌝ }
 {
     let cc = CCBits {
         reg: memory::read_u8(mem, regs.s),
     };
-    if whole::is_set(cc, CCBit::E) { 9 } else { 0 }
+    whole::is_set(cc, CCBit::E)
+}
+
+// RTI of a whole frame pulls nine bytes more.
+fn whole_frame(mem: &[u8], regs: Set) -> u8
+    ensures { λ r. ⌜ r ≡ returnExtra (now (mem .entry)) regs ⌝ }
+{
+    if is_whole_frame(mem, regs) { 9 } else { 0 }
 }
 
 // A push or a pull costs one for each byte that its post-byte names.

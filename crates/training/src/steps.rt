@@ -1,10 +1,12 @@
 // One step of the second engine. What it will do is found first, as a plan, and then done: a refusal has nothing to take back.
 ghost use mathlib.Core.Path.{_≡_};
+ghost use Prim.Native.Nat.{_+_, _≤_};
 ghost use Rattle.memory.specs.Map.{byteAt};
 ghost use Rattle.evaluate.specs.Arming.{arms};
 ghost use Rattle.decode.specs.declared.instruction.Decoded.the-variants.{Instruction as Decodes};
 ghost use Rattle.calls.specs.Steps.{ofDecoded, decodedTo, operated, planned, stepPlan, stepOf, memoryAfterStep};
 use super::costs::operation_extra;
+use super::counts::count_reads;
 use super::decoding::decode;
 use addressing::Resolved;
 use answers::Refusal;
@@ -33,7 +35,8 @@ fn arms(op: Op, mem: &[u8], ea: u16) -> bool
     }
 }
 
-// The operation: what it costs, whether it lets NMI in, what it does. `regs` have PC at the next instruction, `ea` is the effective address.
+// The operation: what it costs, whether it lets NMI in, how many bytes are read, what it does. `regs` have PC at the next instruction, `ea` is
+// the effective address.
 fn operate(
     mem: &[u8],
     machine: Machine,
@@ -42,6 +45,7 @@ fn operate(
     regs: Set,
     ea: u16,
 ) -> Plan
+    requires { ⌜ (machine .regs .pc ≤ instruction .next) × (instruction .next ≤ machine .regs .pc + 5) ⌝ }
     ensures { λ r. ⌜ r ≡ operated (now (mem .entry)) machine settings instruction regs ea ⌝ }
 {
     let entry = instruction.entry;
@@ -51,12 +55,14 @@ fn operate(
     let extra = operation_extra(op, mode, mem, regs, ea);
     let cycles = cost(entry.cycles, operand_extra(operand), extra);
     let armed = arms(op, mem, ea);
+    let reads = count_reads(mem, instruction, machine.regs, regs, ea);
     let effect = effects::evaluate(op, settings, mem, regs, ea);
-    finish(machine, cycles, armed, effect)
+    finish(machine, cycles, armed, reads, effect)
 }
 
 // The effective address, and then the operation.
 fn execute(mem: &[u8], machine: Machine, settings: Settings, instruction: Instruction) -> Plan
+    requires { ⌜ (machine .regs .pc ≤ instruction .next) × (instruction .next ≤ machine .regs .pc + 5) ⌝ }
     ensures { λ r. ⌜ r ≡ planned (now (mem .entry)) machine settings (ofDecoded (now (mem .entry)) (machine .regs) (Decodes instruction)) ⌝ }
 {
     let operand = instruction.operand;

@@ -1,6 +1,7 @@
 -- 1, then the vector.
 -- Assumes nothing.
 use borrow.Author.Tests.{eq-eqb, ne-eqb}
+use Rattle.bus.specs.Reads.{bytesFrom}
 use Rattle.calls.specs.Resets.{resetPlan}
 use borrow.Author.Needs.{needs}
 use Rattle.calls.proofs.resets.plan_reset.Statement.{statement}
@@ -11,7 +12,7 @@ unfolding resetPlan
 returns c = rw (c .refused .ensures, ne-eqb _ 65536 (c .before .if1 .taken))
 
 returns-2 : tie.Need-returns-2
-unfolding resetPlan
+unfolding resetPlan bytesFrom
 returns-2 c =
     rw (
       c .accept .ensures,

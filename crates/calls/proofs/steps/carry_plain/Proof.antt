@@ -4,10 +4,9 @@ use borrow.Author.Needs.{needs}
 use native.Mathlib.Omega.{arith}
 use Prim.Native.Nat.{ℕ, _%_}
 use mathlib.Core.Path.{_≡_, sym, ap, _∙_}
-use lib.ListN.{set}
 use Rattle.memory.specs.Writes.{stored}
 use Rattle.calls.specs.Steps.{finished}
-use Rattle.calls.proofs.Decided.{as-told, plain-byte, plain-word, plain-push, not-rest, byte-done, word-done}
+use Rattle.calls.proofs.Decided.{as-told, plain-byte, plain-word, plain-push, not-rest, nothing-done, byte-done, word-done}
 use Rattle.calls.proofs.steps.carry_plain.Statement.{statement}
 use Rattle.calls.proofs.steps.carry_plain.Tie as tie
 
@@ -34,13 +33,13 @@ returns c =
     (c .refuse .ensures (a .settings) ∙ t .0, t .1)
 
 returns-2 : tie.Need-returns-2
-unfolding finished stored
 returns-2 c =
     let a = c .before .before .before .before .before .args in
     let d = a .decision in
     let e = c .before .enum-told2 .given .1 in
     let t = as-told (a .machine) (a .settings) (a .mem .now) d e in
-    (c .did .ensures (a .settings) ∙ t .0, t .1)
+    let k = nothing-done (a .settings) (a .machine) (d .cycles) (d .arms) (d .reads) (d .regs) (a .mem .now) in
+    (c .did .ensures ∙ (k .report ∙ t .0), k .memory ∙ t .1)
 
 returns-3 : tie.Need-returns-3
 returns-3 c =
@@ -49,8 +48,8 @@ returns-3 c =
     let e = c .before .before .before .before .before .before .enum-told3 .given .1 in
     let t = as-told (a .machine) (a .settings) (a .mem .now) d e in
     let q = plain-byte (a .settings .«ram_top») d e (c .before .before .before .before .before .before .before .before .before .before .pre .1) in
-    let k = byte-done (a .settings) (a .machine) (d .cycles) (d .arms) (d .regs) (d .at) (d .value % 256) (a .mem .now) (q .0) (q .1) in
-    (c .did2 .ensures (a .settings) ∙ (k .report ∙ t .0), c .before .before .before .put-byte .ensures ∙ (k .memory ∙ t .1))
+    let k = byte-done (a .settings) (a .machine) (d .cycles) (d .arms) (d .reads) (d .regs) (d .at) (d .value % 256) (a .mem .now) (q .0) (q .1) in
+    (c .did2 .ensures ∙ (k .report ∙ t .0), c .before .before .before .put-byte .ensures ∙ (k .memory ∙ t .1))
 
 returns-4 : tie.Need-returns-4
 returns-4 c =
@@ -59,8 +58,8 @@ returns-4 c =
     let e = c .before .before .before .before .before .enum-told4 .given .1 in
     let t = as-told (a .machine) (a .settings) (a .mem .now) d e in
     let q = plain-word (a .settings .«ram_top») d e (c .before .before .before .before .before .before .before .before .before .pre .1) in
-    let k = word-done (a .settings) (a .machine) (d .cycles) (d .arms) (d .regs) (d .at) (d .value) (a .mem .now) (q .0) (q .1) in
-    (c .did3 .ensures (a .settings) ∙ (k .report ∙ t .0), c .before .before .before .put-word .ensures ∙ (k .memory ∙ t .1))
+    let k = word-done (a .settings) (a .machine) (d .cycles) (d .arms) (d .reads) (d .regs) (d .at) (d .value) (a .mem .now) (q .0) (q .1) in
+    (c .did3 .ensures ∙ (k .report ∙ t .0), c .before .before .before .put-word .ensures ∙ (k .memory ∙ t .1))
 
 returns-5 : tie.Need-returns-5
 returns-5 c =

@@ -1,14 +1,11 @@
 -- Nothing is reported.
 -- Assumes nothing.
 use borrow.Author.Needs.{needs}
-use Rattle.memory.specs.Writes.{reported}
-use Rattle.calls.specs.Steps.{finished}
 use Rattle.calls.proofs.steps.did.Statement.{statement}
 use Rattle.calls.proofs.steps.did.Tie as tie
 
 returns : tie.Need-returns
-unfolding finished reported
-returns c = λ s. rw (c .advance .ensures, c .before .none .ensures)
+returns c = rw (c .advance .ensures, c .before .none .ensures)
 
 pub did-spec : {M : Type 1} → statement M
 did-spec =

@@ -32,7 +32,7 @@ returns-3 c =
     let a = c .before .before .before .before .before .before .before .before .before .args in
     let d = a .decision in
     let t = plan-as (a .machine) (a .settings) (a .mem .now) d (c .before .before .before .before .before .enum-told3 .given .1) in
-    let g : finished (a .machine) (d .cycles) (d .arms) (c .before .stores .result) ≡ finished (a .machine) (d .cycles) (d .arms) (effectAs Byte (a .settings) (a .mem .now) d) =
+    let g : finished (a .machine) (d .cycles) (d .arms) (d .reads) (c .before .stores .result) ≡ finished (a .machine) (d .cycles) (d .arms) (d .reads) (effectAs Byte (a .settings) (a .mem .now) d) =
     rw (c .before .stores .ensures, c .before .before .add .ensures, c .before .before .before .none .ensures, one-write) in
     c .finish .ensures ∙ (g ∙ sym t)
 
@@ -41,7 +41,7 @@ returns-4 c =
     let a = c .before .before .before .before .before .before .before .before .args in
     let d = a .decision in
     let t = plan-as (a .machine) (a .settings) (a .mem .now) d (c .before .before .before .before .enum-told4 .given .1) in
-    let g : finished (a .machine) (d .cycles) (d .arms) (c .before .stores2 .result) ≡ finished (a .machine) (d .cycles) (d .arms) (effectAs Word (a .settings) (a .mem .now) d) =
+    let g : finished (a .machine) (d .cycles) (d .arms) (d .reads) (c .before .stores2 .result) ≡ finished (a .machine) (d .cycles) (d .arms) (d .reads) (effectAs Word (a .settings) (a .mem .now) d) =
     rw (c .before .stores2 .ensures, c .before .before .add-word .ensures, c .before .before .before .none2 .ensures, two-writes) in
     c .finish2 .ensures ∙ (g ∙ sym t)
 
@@ -50,14 +50,14 @@ returns-5 c =
     let a = c .before .before .before .before .before .before .args in
     let d = a .decision in
     let t = plan-as (a .machine) (a .settings) (a .mem .now) d (c .before .before .enum-told5 .given .1) in
-    c .finish3 .ensures ∙ (ap (finished (a .machine) (d .cycles) (d .arms)) (c .before .push .ensures) ∙ sym t)
+    c .finish3 .ensures ∙ (ap (finished (a .machine) (d .cycles) (d .arms) (d .reads)) (c .before .push .ensures) ∙ sym t)
 
 returns-6 : tie.Need-returns-6
 returns-6 c =
     let a = c .before .before .before .before .before .before .args in
     let d = a .decision in
     let t = plan-as (a .machine) (a .settings) (a .mem .now) d (c .before .before .enum-told6 .given .1) in
-    c .finish4 .ensures ∙ (ap (finished (a .machine) (d .cycles) (d .arms)) (c .before .evaluate-memory .ensures) ∙ sym t)
+    c .finish4 .ensures ∙ (ap (finished (a .machine) (d .cycles) (d .arms) (d .reads)) (c .before .evaluate-memory .ensures) ∙ sym t)
 
 pub plan-of-spec : {M : Type 1} → statement M
 plan-of-spec =
