@@ -1,4 +1,4 @@
-// A call's plan, and how it is carried out. Public for the second engine, which makes plans of its own.
+// A call's plan, and how it is carried out. Public for the recorded calls, and for another engine that makes plans of its own.
 ghost use mathlib.Core.Path.{_≡_};
 ghost use lib.ListN.{length};
 ghost use Rattle.memory.specs.Writes.{listed};

@@ -83,7 +83,7 @@ generated = record { forward = forwards; back = Undoing; forget = Dropping }
 
 -- a call that leaves so ended so
 ends : (e f : Ended) → Leaves (returned e) (e .state .memory) (e .state .journal) f → e ≡ f
-ends e f l = λ i. record { answer = l .result i .answer; state = record { twin = l .result i .twin; memory = l .memory-is i; journal = l .journal-is i }; devices = l .result i .devices }
+ends e f l = λ i. record { answer = l .result i .answer; state = record { twin = l .result i .twin; memory = l .memory-is i; journal = l .journal-is i }; devices = l .result i .devices; reads = l .result i .reads; writes = l .result i .writes }
 
 -- what contracts must tell: how a call ends, and that its arguments fit
 pub record Tells (C : Contracts {0}) : Type 0 where

@@ -234,26 +234,26 @@ drop-barred s past v k h = rw (le-leb (s .twin .bytes) (length (s .journal)) (ke
 
 -- ---- a refused call changes nothing
 
-stays : (a : Answer) (s new : State) (ds : List Write) → a ≢ Done → Unchanged s (ending a s new ds)
-stays Done s new ds h = absurd (h refl)
-stays (Refused x) s new ds h = record { state = refl; devices = refl }
+stays : (a : Answer) (s new : State) (ds : List Write) (n k : ℕ) → a ≢ Done → Unchanged s (ending a s new ds n k)
+stays Done s new ds n k h = absurd (h refl)
+stays (Refused x) s new ds n k h = record { state = refl; devices = refl; reads = refl; writes = refl }
 
-answered : (a : Answer) (s new : State) (ds : List Write) → ending a s new ds .answer ≡ a
-answered Done s new ds = refl
-answered (Refused x) s new ds = refl
+answered : (a : Answer) (s new : State) (ds : List Write) (n k : ℕ) → ending a s new ds n k .answer ≡ a
+answered Done s new ds n k = refl
+answered (Refused x) s new ds n k = refl
 
 undo-answer : (s : State) → undone s .answer ≡ undoAnswer s
 unfolding undone
-undo-answer s = answered (undoAnswer s) s (restored s) []
+undo-answer s = answered (undoAnswer s) s (restored s) [] 0 0
 
 drop-answer : (k : ℕ) (s : State) → dropped k s .answer ≡ dropAnswer k s
 unfolding dropped
-drop-answer k s = answered (dropAnswer k s) s (shortened k s) []
+drop-answer k s = answered (dropAnswer k s) s (shortened k s) [] 0 0
 
 -- ---- the invariant goes on
 
 pop-kept : (a : Answer) (s new : State) (ds : List Write) (past : List Snap) → a ≢ Done → Kept s past
-    → Kept (ending a s new ds .state) (pop (ending a s new ds .answer) past)
+    → Kept (ending a s new ds 0 0 .state) (pop (ending a s new ds 0 0 .answer) past)
 pop-kept Done s new ds past h v = absurd (h refl)
 pop-kept (Refused x) s new ds past h v = v
 
@@ -266,7 +266,7 @@ pub drop-kept : (k : ℕ) (s : State) (past : List Snap) → Kept s past → Kep
 unfolding dropped
 drop-kept k s past v = go (decLt (length past) k)
   where
-    go : Dec (length past < k) → Kept (ending (dropAnswer k s) s (shortened k s) [] .state) (lose k (ending (dropAnswer k s) s (shortened k s) [] .answer) past)
+    go : Dec (length past < k) → Kept (ending (dropAnswer k s) s (shortened k s) [] 0 0 .state) (lose k (ending (dropAnswer k s) s (shortened k s) [] 0 0 .answer) past)
     go (yes q) = rw (drop-barred s past v k q) v
     go (no q) = let h : k ≤ length past = omega arith in rw (drop-taken s past v k h) (shortened-kept s past v k h)
 
@@ -283,24 +283,24 @@ host-kept s past a b w v = record {
 
 -- ---- widths stay
 
-ending-typed : (a : Answer) (s new : State) (ds : List Write) → (a ≡ Done → Typed new) → Typed s → Typed (ending a s new ds .state)
-ending-typed Done s new ds h w = h refl
-ending-typed (Refused x) s new ds h w = w
+ending-typed : (a : Answer) (s new : State) (ds : List Write) (n k : ℕ) → (a ≡ Done → Typed new) → Typed s → Typed (ending a s new ds n k .state)
+ending-typed Done s new ds n k h w = h refl
+ending-typed (Refused x) s new ds n k h w = w
 
 undo-typed : (s : State) (past : List Snap) → Kept s past → Typed s → Typed (undone s .state)
 unfolding undone
-undo-typed s [] v w = ending-typed (undoAnswer s) s (restored s) [] (λ e. absurd (undo-barred s v e)) w
-undo-typed s (t ∷ ss) v w = ending-typed (undoAnswer s) s (restored s) [] (λ e. restored-typed s t ss v w) w
+undo-typed s [] v w = ending-typed (undoAnswer s) s (restored s) [] 0 0 (λ e. absurd (undo-barred s v e)) w
+undo-typed s (t ∷ ss) v w = ending-typed (undoAnswer s) s (restored s) [] 0 0 (λ e. restored-typed s t ss v w) w
 
 drop-typed : (k : ℕ) (s : State) → Typed s → Typed (dropped k s .state)
 unfolding dropped shortened
-drop-typed k s w = ending-typed (dropAnswer k s) s (shortened k s) [] (λ e. record { machine = w .machine; memory = w .memory }) w
+drop-typed k s w = ending-typed (dropAnswer k s) s (shortened k s) [] 0 0 (λ e. record { machine = w .machine; memory = w .memory }) w
 
 -- ---- what undo, view and drop do
 
 brings : (s : State) (past : List Snap) → Kept s past → BringsBack s past (undone s)
 unfolding undone restored
-brings s [] v = (answered (undoAnswer s) s (restored s) [] ∙ undo-empty s v, stays (undoAnswer s) s (restored s) [] (undo-barred s v) .state)
+brings s [] v = (answered (undoAnswer s) s (restored s) [] 0 0 ∙ undo-empty s v, stays (undoAnswer s) s (restored s) [] 0 0 (undo-barred s v) .state)
 brings s (t ∷ ts) v = rw (undo-taken s t ts v) (record {
   accepted = refl;
   machine = machine-is s t ts v;
@@ -411,7 +411,7 @@ module _ (c : Call) (s : State) (w : Typed s) where
   pub forward-typed : Typed (call c s .state)
   unfolding called
   forward-typed =
-      ending-typed (callAnswer (settingsIn c) plan s) s (recorded (settingsIn c) plan s) (reported (settingsIn c .«ram_top») (listed (plan .writes)))
+      ending-typed (callAnswer (settingsIn c) plan s) s (recorded (settingsIn c) plan s) (reported (settingsIn c .«ram_top») (listed (plan .writes))) (plan .reads) (length (listed (plan .writes)))
       (λ e. recorded-typed (settingsIn c) s plan (few-writes c (s .memory) (s .twin .machine)) fit w) w
 
 -- ---- an accepted call's record, at any state
@@ -493,7 +493,7 @@ no-empty : (r : List ℕ) → recordLength 0 ≤ length r → r ≢ []
 no-empty r h e = let z : length r ≡ 0 = ap length e in omega arith
 
 view-by : (a b c : Bool) (r : List ℕ) (s new : State) → (a ≡ true → c ≡ true → r ≢ [])
-    → (cond (a && (b && c)) r [] ≡ []) ↔ (ending (need a JournalLength (need b NoRecord (need c JournalLength Done))) s new [] .answer ≢ Done)
+    → (cond (a && (b && c)) r [] ≡ []) ↔ (ending (need a JournalLength (need b NoRecord (need c JournalLength Done))) s new [] 0 0 .answer ≢ Done)
 view-by true true true r s new h = ((λ e. absurd (h refl refl e)), (λ n. absurd (n refl)))
 view-by true true false r s new h = ((λ e. not-refused), (λ n. refl))
 view-by true false c r s new h = ((λ e. not-refused), (λ n. refl))
@@ -510,9 +510,9 @@ view-undo s size =
 
 -- ---- the journal's length
 
-ending-length : (a : Answer) (s new : State) (ds : List Write) → length (new .journal) ≡ length (s .journal) → length (ending a s new ds .state .journal) ≡ length (s .journal)
-ending-length Done s new ds h = h
-ending-length (Refused x) s new ds h = refl
+ending-length : (a : Answer) (s new : State) (ds : List Write) (n k : ℕ) → length (new .journal) ≡ length (s .journal) → length (ending a s new ds n k .state .journal) ≡ length (s .journal)
+ending-length Done s new ds n k h = h
+ending-length (Refused x) s new ds n k h = refl
 
 recorded-length : (set : Settings) (f : Plan) (s : State) → length (recorded set f s .journal) ≡ length (s .journal)
 unfolding recorded
@@ -560,9 +560,9 @@ unfolding next called undone dropped
 next-length (forward c) w =
     let f = planOf c (w .now .memory) (w .now .twin .machine) in
     let t = settingsIn c in
-    ending-length (callAnswer t f (w .now)) (w .now) (recorded t f (w .now)) (reported (t .«ram_top») (listed (f .writes))) (recorded-length t f (w .now))
-next-length back w = ending-length (undoAnswer (w .now)) (w .now) (restored (w .now)) [] (restored-length (w .now))
-next-length (forget k) w = ending-length (dropAnswer k (w .now)) (w .now) (shortened k (w .now)) [] (shortened-length k (w .now))
+    ending-length (callAnswer t f (w .now)) (w .now) (recorded t f (w .now)) (reported (t .«ram_top») (listed (f .writes))) (f .reads) (length (listed (f .writes))) (recorded-length t f (w .now))
+next-length back w = ending-length (undoAnswer (w .now)) (w .now) (restored (w .now)) [] 0 0 (restored-length (w .now))
+next-length (forget k) w = ending-length (dropAnswer k (w .now)) (w .now) (shortened k (w .now)) [] 0 0 (shortened-length k (w .now))
 next-length (host a b) w = refl
 
 run-length : (es : List Event) (w : World) → length (run es w .now .journal) ≡ length (w .now .journal)
@@ -582,15 +582,15 @@ called-stays c s h =
     let t = settingsIn c in
     let a = callAnswer t f s in
     let ds = reported (t .«ram_top») (listed (f .writes)) in
-    stays a s (recorded t f s) ds (λ e. h (answered a s (recorded t f s) ds ∙ e))
+    stays a s (recorded t f s) ds (f .reads) (length (listed (f .writes))) (λ e. h (answered a s (recorded t f s) ds (f .reads) (length (listed (f .writes))) ∙ e))
 
 pub undone-stays : (s : State) → undone s .answer ≢ Done → Unchanged s (undone s)
 unfolding undone
-undone-stays s h = stays (undoAnswer s) s (restored s) [] (λ e. h (undo-answer s ∙ e))
+undone-stays s h = stays (undoAnswer s) s (restored s) [] 0 0 (λ e. h (undo-answer s ∙ e))
 
 pub dropped-stays : (k : ℕ) (s : State) → dropped k s .answer ≢ Done → Unchanged s (dropped k s)
 unfolding dropped
-dropped-stays k s h = stays (dropAnswer k s) s (shortened k s) [] (λ e. h (drop-answer k s ∙ e))
+dropped-stays k s h = stays (dropAnswer k s) s (shortened k s) [] 0 0 (λ e. h (drop-answer k s ∙ e))
 
 pub demand-3 : Demand3
 demand-3 = record {

@@ -170,6 +170,8 @@ pub record Appends (c : Call) (s : State) (o : Ended) : Type 0 where
 pub record Unchanged (s : State) (o : Ended) : Type 0 where
   pub state : o .state ≡ s
   pub devices : o .devices ≡ writesOf []
+  pub reads : o .reads ≡ 0
+  pub writes : o .writes ≡ 0
 
 -- From any machine that fits its widths, any memory of bytes and any journal, after any sequence
 pub record Demand3 : Type 0 where

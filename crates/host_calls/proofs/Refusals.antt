@@ -27,21 +27,21 @@ not-done : {A : Type 0} {x : Refusal} → Refused x ≡ Done → A
 not-done e = let z : _≡_ {A = ℕ} 0 1 = cc in absurd (omega arith)
 
 -- an end that is refused
-ended : (a : Answer) (s new : State) (ws : List Write) (x : Refusal) → ending a s new ws .answer ≡ Refused x → ending a s new ws .state ≡ s
-ended Done s new ws x e = not-done (sym e)
-ended (Refused y) s new ws x e = refl
+ended : (a : Answer) (s new : State) (ws : List Write) (n k : ℕ) (x : Refusal) → ending a s new ws n k .answer ≡ Refused x → ending a s new ws n k .state ≡ s
+ended Done s new ws n k x e = not-done (sym e)
+ended (Refused y) s new ws n k x e = refl
 
 called-keeps : (t : Settings) (p : Plan) (s : State) (x : Refusal) → called t p s .answer ≡ Refused x → called t p s .state ≡ s
 unfolding called
-called-keeps t p s x e = ended (callAnswer t p s) s (recorded t p s) _ x e
+called-keeps t p s x e = ended (callAnswer t p s) s (recorded t p s) _ _ _ x e
 
 undone-keeps : Keeps undone
 unfolding undone
-undone-keeps s x e = ended (undoAnswer s) s (restored s) [] x e
+undone-keeps s x e = ended (undoAnswer s) s (restored s) [] 0 0 x e
 
 dropped-keeps : (k : ℕ) → Keeps (dropped k)
 unfolding dropped
-dropped-keeps k s x e = ended (dropAnswer k s) s (shortened k s) [] x e
+dropped-keeps k s x e = ended (dropAnswer k s) s (shortened k s) [] 0 0 x e
 
 pub calls-keep : CallsKeep
 calls-keep =

@@ -27,7 +27,7 @@ use Rattle.calls.specs.Calls.{planOf}
 use Rattle.calls.specs.Steps.{unlessWaiting, decodedTo, planned, reached, stepPlan}
 use Rattle.calls.specs.declared.Plan.{Plan}
 use Rattle.journal.specs.Record.{waitAt, markAt, countOf, entriesOf, readEntries, isRecord, mostStored, entriesAt, recordLength}
-use Rattle.journal.specs.Recorded.{State, inHand, ending, Leaves, need, unless, mostRecords, admitted, savedFor, recordFor, planAnswer, callAnswer, recorded, concluded, called, call, outsideOf}
+use Rattle.journal.specs.Recorded.{State, inHand, ending, turnedDown, Leaves, need, unless, mostRecords, admitted, savedFor, recordFor, planAnswer, callAnswer, recorded, concluded, called, call, outsideOf}
 use Rattle.journal.specs.Undos.{lastByte, newestAt, soundAt, newestOf, newestFrom, undoAnswer, putBack, restored, undone}
 use Rattle.journal.specs.declared.recorded.Outside.{Outside}
 use Rattle.journal.specs.declared.recorded.Outside.the-variants.{Interrupt as InterruptFrom, Reset as ResetFrom}
@@ -44,9 +44,9 @@ and-false true = refl
 and-false false = refl
 
 -- a refusal
-pub refused-leaves : (a : Answer) (s new : State) (ds : List Write) (x : Refusal) (r : Outcome) → a ≡ Refused x
-    → r ≡ record { devices = writesOf []; twin = s .twin; answer = Refused x } → Leaves r (s .memory) (s .journal) (ending a s new ds)
-refused-leaves a s new ds x r e p = rw e (record { result = p; memory-is = refl; journal-is = refl })
+pub refused-leaves : (a : Answer) (s new : State) (ds : List Write) (reads writes : ℕ) (x : Refusal) (r : Outcome) → a ≡ Refused x
+    → r ≡ turnedDown (s .twin) x → Leaves r (s .memory) (s .journal) (ending a s new ds reads writes)
+refused-leaves a s new ds reads writes x r e p = rw e (record { result = p; memory-is = refl; journal-is = refl })
 
 -- ---- before a recorded call
 
@@ -114,17 +114,17 @@ module _ (t : Settings) (f : Plan) (s : State) where
   plan-fits e h = plan-by e (le-leb (s .twin .bytes + length (recordFor t f s)) (length (s .journal)) h)
 
   -- the record, the writes and the counts
-  pub recorded-leaves : (d : Writes) (mem j : List ℕ) (size : ℕ) (a : Answer) → planAnswer t f s ≡ Done → a ≡ Done → size ≡ length (recordFor t f s)
-      → d ≡ writesOf (reported (t .«ram_top») (listed (f .writes))) → mem ≡ stored (t .«ram_top») (listed (f .writes)) (s .memory)
+  pub recorded-leaves : (d : Writes) (n w : ℕ) (mem j : List ℕ) (size : ℕ) (a : Answer) → planAnswer t f s ≡ Done → a ≡ Done → size ≡ length (recordFor t f s)
+      → d ≡ writesOf (reported (t .«ram_top») (listed (f .writes))) → n ≡ f .reads → w ≡ length (listed (f .writes)) → mem ≡ stored (t .«ram_top») (listed (f .writes)) (s .memory)
       → j ≡ sets (s .journal) (s .twin .bytes) (recordFor t f s)
-      → Leaves (record { devices = d; twin = record { machine = f .machine; records = s .twin .records + 1; bytes = s .twin .bytes + size }; answer = a }) mem j (concluded (planAnswer t f s) t f s)
+      → Leaves (record { devices = d; twin = record { machine = f .machine; records = s .twin .records + 1; bytes = s .twin .bytes + size }; reads = n; writes = w; answer = a }) mem j (concluded (planAnswer t f s) t f s)
   unfolding recorded
-  recorded-leaves d mem j size a e ea k p q w = rw (e, ea) (record { result = rw (p, k); memory-is = q; journal-is = w })
+  recorded-leaves d n w mem j size a e ea k p en ew q l = rw (e, ea) (record { result = rw (p, k, en, ew); memory-is = q; journal-is = l })
 
   pub called-refused : (x : Refusal) (r : Outcome) → admitted (length (s .memory)) (length (s .journal)) (s .twin .records) (s .twin .bytes) ≡ Refused x
-      → r ≡ record { devices = writesOf []; twin = s .twin; answer = Refused x } → Leaves r (s .memory) (s .journal) (called t f s)
+      → r ≡ turnedDown (s .twin) x → Leaves r (s .memory) (s .journal) (called t f s)
   unfolding called
-  called-refused x r e p = refused-leaves (callAnswer t f s) s (recorded t f s) (reported (t .«ram_top») (listed (f .writes))) x r (rw e) p
+  called-refused x r e p = refused-leaves (callAnswer t f s) s (recorded t f s) (reported (t .«ram_top») (listed (f .writes))) (f .reads) (length (listed (f .writes))) x r (rw e) p
 
   pub called-done : (r : Outcome) (mem j : List ℕ) → admitted (length (s .memory)) (length (s .journal)) (s .twin .records) (s .twin .bytes) ≡ Done
       → Leaves r mem j (concluded (planAnswer t f s) t f s) → Leaves r mem j (called t f s)
@@ -276,9 +276,9 @@ module _ (j : List ℕ) (bytes : ℕ) (fits : bytes ≤ length j) where
 
 module _ (s : State) where
   pub undo-refused : (x : Refusal) (r : Outcome) → undoAnswer s ≡ Refused x
-      → r ≡ record { devices = writesOf []; twin = s .twin; answer = Refused x } → Leaves r (s .memory) (s .journal) (undone s)
+      → r ≡ turnedDown (s .twin) x → Leaves r (s .memory) (s .journal) (undone s)
   unfolding undone
-  undo-refused x r e p = refused-leaves (undoAnswer s) s (restored s) [] x r e p
+  undo-refused x r e p = refused-leaves (undoAnswer s) s (restored s) [] 0 0 x r e p
 
   pub undo-1 : (length (s .memory) ≡ 65536 → ⊥) → undoAnswer s ≡ Refused MemoryLength
   unfolding undoAnswer
@@ -305,7 +305,7 @@ module _ (s : State) where
 
         pub undo-done : (r after : List ℕ) (m : Machine) (d : Writes) → Newest (s .journal) (s .twin .bytes) r → m ≡ machineOf r
             → after ≡ putBack (s .memory) (readEntries (countOf r) (drop entriesAt r)) → d ≡ writesOf []
-            → Leaves (record { devices = d; twin = record { machine = m; records = s .twin .records - 1; bytes = s .twin .bytes - length r }; answer = Done }) after (s .journal) (undone s)
+            → Leaves (record { devices = d; twin = record { machine = m; records = s .twin .records - 1; bytes = s .twin .bytes - length r }; reads = 0; writes = 0; answer = Done }) after (s .journal) (undone s)
         unfolding undone restored entriesOf
         undo-done r after m d n p q w =
             rw (undo-0 (n .sound), ← (n .is), p, q, w)

@@ -191,7 +191,7 @@ module _ (m : Machine) (s : Settings) (mem : List ℕ) (d : Decision) where
     told-push e =
         let b = plain-push (s .«ram_top») d e h in
         let pointer = wordOf (d .regs) (stackWord (d .own)) in
-        let p = plan-as m s mem d e ∙ ap (finished m (d .cycles) (d .arms)) (pushed-as (d .regs) (d .own) (d .mask) (b .2)) in
+        let p = plan-as m s mem d e ∙ ap (finished m (d .cycles) (d .arms) (d .reads)) (pushed-as (d .regs) (d .own) (d .mask) (b .2)) in
         let n = named-size (d .mask) (d .own) in
         let room = b .2 in
         record {

@@ -17,7 +17,7 @@ use Rattle.answers.specs.declared.Refusal.the-variants.{JournalLength, TooFewRe
 use Rattle.memory.specs.Writes.{writesOf}
 use Rattle.memory.specs.declared.writes.Writes.{Writes}
 use Rattle.journal.specs.Record.{countAt, entriesAt, mostStored, recordLength}
-use Rattle.journal.specs.Recorded.{State, Leaves}
+use Rattle.journal.specs.Recorded.{State, turnedDown, Leaves}
 use Rattle.journal.specs.Drops.{reach, passable, walks, walkOf, dropAnswer, moved, shortened, dropped}
 use Rattle.journal.specs.declared.Outcome.{Outcome}
 use Rattle.journal.specs.declared.drops.Walked.{Walked}
@@ -141,9 +141,9 @@ move-more j at i h =
 
 module _ (k : ℕ) (s : State) where
   pub drop-refused : (x : Refusal) (r : Outcome) → dropAnswer k s ≡ Refused x
-      → r ≡ record { devices = writesOf []; twin = s .twin; answer = Refused x } → Leaves r (s .memory) (s .journal) (dropped k s)
+      → r ≡ turnedDown (s .twin) x → Leaves r (s .memory) (s .journal) (dropped k s)
   unfolding dropped
-  drop-refused x r e p = refused-leaves (dropAnswer k s) s (shortened k s) [] x r e p
+  drop-refused x r e p = refused-leaves (dropAnswer k s) s (shortened k s) [] 0 0 x r e p
 
   pub drop-12 : length (s .journal) < s .twin .bytes → dropAnswer k s ≡ Refused JournalLength
   unfolding dropAnswer
@@ -162,7 +162,7 @@ module _ (k : ℕ) (s : State) where
 
       pub drop-done : (at : ℕ) (after : List ℕ) (d : Writes) → At at ≡ walkOf (s .journal) (s .twin .bytes) k
           → after ≡ sets (s .journal) 0 (take (s .twin .bytes - at) (drop at (s .journal))) → d ≡ writesOf []
-          → Leaves (record { devices = d; twin = record { machine = s .twin .machine; records = s .twin .records - k; bytes = s .twin .bytes - at }; answer = Done }) (s .memory) after (dropped k s)
+          → Leaves (record { devices = d; twin = record { machine = s .twin .machine; records = s .twin .records - k; bytes = s .twin .bytes - at }; reads = 0; writes = 0; answer = Done }) (s .memory) after (dropped k s)
       unfolding dropped dropAnswer shortened moved
       drop-done at after d e m w =
           rw (

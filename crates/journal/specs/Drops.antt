@@ -57,4 +57,4 @@ shortened k s =
     }
 
 unfoldable pub dropped : ℕ → State → Ended
-dropped k s = ending (dropAnswer k s) s (shortened k s) []
+dropped k s = ending (dropAnswer k s) s (shortened k s) [] 0 0

@@ -49,20 +49,26 @@ pub record Typed (s : State) : Type 0 where
   pub machine : MachineFits (s .twin .machine)
   pub memory : Bytes (s .memory)
 
--- How a call ends: its answer, what is in hand afterwards, and the device writes that it reports
+-- How a call ends: its answer, what is in hand afterwards, the device writes that it reports, and how many bytes of memory it read and wrote
 pub record Ended : Type 0 where
   pub answer : Answer
   pub state : State
   pub devices : Writes
+  pub reads : ℕ
+  pub writes : ℕ
 
--- a refused call leaves what it had in hand and reports nothing
-abbrev pub ending : Answer → State → State → List Write → Ended
-ending Done now new devices = record { answer = Done; state = new; devices = writesOf devices }
-ending (Refused x) now new devices = record { answer = Refused x; state = now; devices = writesOf [] }
+-- a refused call leaves what it had in hand, reports nothing and counts nothing
+abbrev pub ending : Answer → State → State → List Write → ℕ → ℕ → Ended
+ending Done now new devices reads writes = record { answer = Done; state = new; devices = writesOf devices; reads = reads; writes = writes }
+ending (Refused x) now new devices reads writes = record { answer = Refused x; state = now; devices = writesOf []; reads = 0; writes = 0 }
 
 -- what the code returns of an end; `Leaves` says that a result, a memory and a journal are those of the end e
 abbrev pub returned : Ended → Outcome
-returned e = record { devices = e .devices; twin = e .state .twin; answer = e .answer }
+returned e = record { devices = e .devices; twin = e .state .twin; reads = e .reads; writes = e .writes; answer = e .answer }
+
+-- what a refused call returns
+abbrev pub turnedDown : Twin → Refusal → Outcome
+turnedDown t x = record { devices = writesOf []; twin = t; reads = 0; writes = 0; answer = Refused x }
 
 pub record Leaves (r : Outcome) (memory journal : List ℕ) (e : Ended) : Type 0 where
   pub result : r ≡ returned e
@@ -127,9 +133,9 @@ recorded t p s =
       journal = sets (s .journal) (s .twin .bytes) (recordFor t p s);
     }
 
--- how a call with this plan ends, by its answer
+-- how a call with this plan ends, by its answer; the bytes of the journal are not counted
 abbrev pub concluded : Answer → Settings → Plan → State → Ended
-concluded a t p s = ending a s (recorded t p s) (reported (t .«ram_top») (listed (p .writes)))
+concluded a t p s = ending a s (recorded t p s) (reported (t .«ram_top») (listed (p .writes))) (p .reads) (length (listed (p .writes)))
 
 unfoldable pub called : Settings → Plan → State → Ended
 called t p s = concluded (callAnswer t p s) t p s

@@ -68,4 +68,4 @@ restored s =
     }
 
 unfoldable pub undone : State → Ended
-undone s = ending (undoAnswer s) s (restored s) []
+undone s = ending (undoAnswer s) s (restored s) [] 0 0

@@ -85,6 +85,8 @@ pub fn drop(journal: &mut [u8], twin: Twin, k: usize) -> Outcome
                     records: records - k,
                     bytes: left,
                 },
+                reads: 0,
+                writes: 0,
                 answer: Answer::Done,
             }
         }

@@ -46,10 +46,12 @@ pub struct Twin {
     pub bytes: usize,
 }
 
-// What a call returns: the device writes that it reports, the machine and the counts after it, its answer.
+// What a call returns: the device writes that it reports, the machine and the counts after it, how many bytes it read and wrote, its answer.
 pub struct Outcome {
     pub devices: Writes,
     pub twin: Twin,
+    pub reads: u8,
+    pub writes: u8,
     pub answer: Answer,
 }
 

@@ -6,12 +6,12 @@ ghost use mathlib.Core.List.{List, [], _++_};
 ghost use lib.ListN.{length, drop};
 ghost use lib.Seq.{sets};
 ghost use Rattle.memory.specs.Map.{landingOf};
-ghost use Rattle.memory.specs.Writes.{listed, writesOf};
+ghost use Rattle.memory.specs.Writes.{listed};
 ghost use Rattle.machine.specs.Record.{header, headerLength};
 ghost use Rattle.calls.specs.Calls.{planOf};
 ghost use Rattle.journal.specs.Record.{mostStored, entryLength, entriesAt, recordLength, entries, encode};
 ghost use Rattle.memory.specs.declared.Landing.the-variants.{Stored};
-ghost use Rattle.journal.specs.Recorded.{inHand, Typed, Leaves, mostRecords, savedAt, savedFor, admitted, planAnswer, concluded, called, callOf};
+ghost use Rattle.journal.specs.Recorded.{inHand, Typed, turnedDown, Leaves, mostRecords, savedAt, savedFor, admitted, planAnswer, concluded, called, callOf};
 ghost use Rattle.journal.specs.Recorded.{call as callEnds, interrupted, wasReset, outsideOf};
 use super::COUNT;
 use super::CallType;
@@ -35,11 +35,13 @@ use memory::Write;
 use memory::Writes;
 
 pub fn refused(twin: Twin, refusal: Refusal) -> Outcome
-    ensures { λ r. ⌜ r ≡ record { devices = writesOf []; twin = twin; answer = Answer.Refused refusal } ⌝ }
+    ensures { λ r. ⌜ r ≡ turnedDown twin refusal ⌝ }
 {
     Outcome {
         devices: Writes::none(),
         twin,
+        reads: 0,
+        writes: 0,
         answer: Answer::Refused(refusal),
     }
 }
@@ -198,7 +200,6 @@ pub fn conclude(
             let end = bytes + size;
             let records = twin.records + 1;
             let before = twin.machine;
-            let machine = plan.machine;
             write_record(
                 &mut journal[bytes..],
                 mem,
@@ -207,7 +208,9 @@ pub fn conclude(
                 writes,
                 n,
             );
-            let devices = memory::store_all(mem, settings.ram_top, writes);
+            let report = calls::carry_out(mem, settings, plan);
+            let devices = report.devices;
+            let machine = report.machine;
             Outcome {
                 devices,
                 twin: Twin {
@@ -215,6 +218,8 @@ pub fn conclude(
                     records,
                     bytes: end,
                 },
+                reads: report.reads,
+                writes: report.writes,
                 answer,
             }
         }

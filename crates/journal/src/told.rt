@@ -186,6 +186,8 @@ fn conclude_told(
                     records,
                     bytes: end,
                 },
+                reads: report.reads,
+                writes: report.writes,
                 answer: Answer::Done,
             }
         }

@@ -108,6 +108,8 @@ pub fn undo(mem: &mut [u8], journal: &[u8], twin: Twin) -> Outcome
             records: records - 1,
             bytes: bytes - size,
         },
+        reads: 0,
+        writes: 0,
         answer: Answer::Done,
     }
 }

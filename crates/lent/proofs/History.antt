@@ -46,7 +46,7 @@ plain-demand = demand-of plain (record { forward = λ c s e m. m; back = λ s e 
 
 -- a call that leaves so ended so
 ends : (e f : Ended) → LeavesTwin (reportOf e) (e .state .twin) (e .state .memory) (e .state .journal) f → e ≡ f
-ends e f l = λ i. record { answer = l .result i .answer; state = record { twin = l .twin-is i; memory = l .memory-is i; journal = l .journal-is i }; devices = l .result i .devices }
+ends e f l = λ i. record { answer = l .result i .answer; state = record { twin = l .twin-is i; memory = l .memory-is i; journal = l .journal-is i }; devices = l .result i .devices; reads = l .result i .reads; writes = l .result i .writes }
 
 module _ {M : Type 1} (𝓤 : URA M) (H : Heap 𝓤) (A : Atoms 𝓤) (mem : Memory → SProp 𝓤) (run : Routine → Fun 𝓤) where
   pub record Steps (t : Settings) (s : State) (e : Ended) : Type 1 where

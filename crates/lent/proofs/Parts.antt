@@ -21,7 +21,7 @@ use Rattle.lent.proofs.Returned.Laws as S′
 
 -- what a recorded call returned, as report and twin
 abbrev pub parts : Outcome → Returned
-parts o = record { reported = record { devices = o .devices; answer = o .answer }; twin = o .twin }
+parts o = record { reported = record { devices = o .devices; reads = o .reads; writes = o .writes; answer = o .answer }; twin = o .twin }
 
 pub parted : (o : Outcome) (us vs : List ℕ) (e : Ended) → Leaves o us vs e → Returns (parts o) us vs e
 parted o us vs e p = record { result = ap parts (p .result); memory-is = p .memory-is; journal-is = p .journal-is }

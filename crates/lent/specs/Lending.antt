@@ -8,9 +8,9 @@ use Rattle.journal.specs.declared.Twin.{Twin}
 use Rattle.lent.specs.declared.Reported.{Reported}
 use Rattle.lent.specs.declared.Returned.{Returned}
 
--- the device writes and the answer
+-- the device writes, the two counts and the answer
 abbrev pub reportOf : Ended → Reported
-reportOf e = record { devices = e .devices; answer = e .answer }
+reportOf e = record { devices = e .devices; reads = e .reads; writes = e .writes; answer = e .answer }
 
 -- A call on values: the report and the twin come back together
 pub record Returns (r : Returned) (memory journal : List ℕ) (e : Ended) : Type 0 where

@@ -8,9 +8,11 @@ use journal::Twin;
 use machine::Settings;
 use memory::Writes;
 
-// What a call returns once the twin is written back: the device writes that it reports, and its answer.
+// What a call returns once the twin is written back: the device writes that it reports, how many bytes it read and wrote, and its answer.
 pub struct Reported {
     pub devices: Writes,
+    pub reads: u8,
+    pub writes: u8,
     pub answer: Answer,
 }
 
@@ -28,7 +30,12 @@ fn step_value(twin: Twin, mem: &mut [u8], journal: &mut [u8], settings: Settings
     let answer = outcome.answer;
     let next = outcome.twin;
     Returned {
-        reported: Reported { devices, answer },
+        reported: Reported {
+            devices,
+            reads: outcome.reads,
+            writes: outcome.writes,
+            answer,
+        },
         twin: next,
     }
 }
@@ -41,7 +48,12 @@ fn undo_value(twin: Twin, mem: &mut [u8], journal: &[u8]) -> Returned
     let answer = outcome.answer;
     let before = outcome.twin;
     Returned {
-        reported: Reported { devices, answer },
+        reported: Reported {
+            devices,
+            reads: outcome.reads,
+            writes: outcome.writes,
+            answer,
+        },
         twin: before,
     }
 }

@@ -27,16 +27,16 @@ use Rattle.runs.proofs.Running.{Alike, alike-then, resumed, Neat, goes-
 
 -- ---- the recorded step
 
-quiet-ending : (a : Answer) (s new : State) (ds : List Write) → ltb 0 (ending a s new ds .devices .count) ≡ false → ending a s new ds .devices ≡ writesOf []
-quiet-ending Done s new [] h = refl
-quiet-ending Done s new (d ∷ ds) h = let z : length (d ∷ ds) ≤ 0 = ltb-false 0 (length (d ∷ ds)) h in absurd (omega arith)
-quiet-ending (Refused x) s new ds h = refl
+quiet-ending : (a : Answer) (s new : State) (ds : List Write) (n k : ℕ) → ltb 0 (ending a s new ds n k .devices .count) ≡ false → ending a s new ds n k .devices ≡ writesOf []
+quiet-ending Done s new [] n k h = refl
+quiet-ending Done s new (d ∷ ds) n k h = let z : length (d ∷ ds) ≤ 0 = ltb-false 0 (length (d ∷ ds)) h in absurd (omega arith)
+quiet-ending (Refused x) s new ds n k h = refl
 
 pub neat : (t : Settings) → Neat (stepped t)
 unfolding called
 neat t s h =
     let p = planOf (step t) (s .memory) (s .twin .machine) in
-    quiet-ending (callAnswer t p s) s (recorded t p s) (reported (t .«ram_top») (listed (p .writes))) h
+    quiet-ending (callAnswer t p s) s (recorded t p s) (reported (t .«ram_top») (listed (p .writes))) (p .reads) (length (listed (p .writes))) h
 
 -- ---- the loop of the code
 

@@ -51,10 +51,10 @@ tested stop o =
 
 -- the bytes that a step reports to have read and written
 abbrev pub readsIn : Outcome → ℕ
-readsIn o = 0
+readsIn o = o .reads
 
 abbrev pub writesIn : Outcome → ℕ
-writesIn o = 0
+writesIn o = o .writes
 
 -- how a run ends: why, how its last step ended, and all bytes that its steps read and wrote
 pub record RunEnded : Type 0 where
@@ -63,9 +63,9 @@ pub record RunEnded : Type 0 where
   pub reads : ℕ
   pub writes : ℕ
 
--- where no step was made: nothing is refused or reported
+-- where no step was made: nothing is refused, reported or counted
 abbrev pub unmade : State → Ended
-unmade s = record { answer = Done; state = s; devices = writesOf [] }
+unmade s = record { answer = Done; state = s; devices = writesOf []; reads = 0; writes = 0 }
 
 abbrev pub endsBy : Reason → Ended → RunEnded
 endsBy reason e = record { reason = reason; last = e; reads = 0; writes = 0 }

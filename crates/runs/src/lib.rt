@@ -115,14 +115,14 @@ fn test(last: Outcome, stop: Stop) -> Verdict
 fn reads_in(last: Outcome) -> u64
     ensures { λ r. ⌜ r ≡ readsIn last ⌝ }
 {
-    0
+    last.reads as u64
 }
 
 // The bytes that it reports to have written.
 fn writes_in(last: Outcome) -> u64
     ensures { λ r. ⌜ r ≡ writesIn last ⌝ }
 {
-    0
+    last.writes as u64
 }
 
 fn ended(

@@ -34,7 +34,7 @@ returns c =
     let p = planTold (a .twin .machine) (a .settings) (a .mem .now) (a .decision) in
     let k = rw (c .before .before .before .before .n .given .1) at (c .before .before .before .before .before .before .count-told .ensures (a .twin .machine) (a .mem .now)) in
     let z = record-size (a .settings) p s _ _ (k .2) (c .before .before .record-length .ensures) in
-    refused-leaves (planAnswer (a .settings) p s) s (recorded (a .settings) p s) (reported (a .settings .«ram_top») (listed (p .writes))) _ (c .refused2 .result)
+    refused-leaves (planAnswer (a .settings) p s) s (recorded (a .settings) p s) (reported (a .settings .«ram_top») (listed (p .writes))) (p .reads) (length (listed (p .writes))) _ (c .refused2 .result)
     (plan-full (a .settings) p s (k .0) (omega (arith, z, c .before .if1 .taken))) (c .refused2 .ensures)
 
 write-told-requires : tie.Need-write-told-requires
@@ -50,7 +50,7 @@ returns-2 c =
     let s = inHand (a .mem .now) (a .journal .now) (a .twin) in
     let p = planTold (a .twin .machine) (a .settings) (a .mem .now) (a .decision) in
     let k = rw (c .before .before .refusal .given .1) at (c .before .before .before .before .count-told .ensures (a .twin .machine) (a .mem .now)) in
-    refused-leaves (planAnswer (a .settings) p s) s (recorded (a .settings) p s) (reported (a .settings .«ram_top») (listed (p .writes))) _ (c .refused .result)
+    refused-leaves (planAnswer (a .settings) p s) s (recorded (a .settings) p s) (reported (a .settings .«ram_top») (listed (p .writes))) (p .reads) (length (listed (p .writes))) _ (c .refused .result)
     (plan-refused (a .settings) p s _ k) (c .refused .ensures)
 
 returns-3 : tie.Need-returns-3
@@ -67,8 +67,8 @@ returns-3 c =
     let d = c .before .none .ensures ∙ ap writesOf (sym (quiet-told (a .twin .machine) (a .settings) (a .mem .now) (a .decision) (c .before .before .before .before .before .before .before .before .before .before .before .before .before .before .before .before .before .before .before .before .before .pre .0 .1))) in
     let m = ap (λ (x : Report). x .machine) (w .0) in
     rw m
-    (recorded-leaves (a .settings) p s _ _ _ _ _
-    (plan-fits (a .settings) p s (k .0) room) refl z d (w .1)
+    (recorded-leaves (a .settings) p s _ _ _ _ _ _ _
+    (plan-fits (a .settings) p s (k .0) room) refl z d (ap (λ (x : Report). x .reads) (w .0)) (ap (λ (x : Report). x .writes) (w .0)) (w .1)
     (placed (a .twin .bytes) (recordLength (c .before .before .before .before .before .before .before .before .before .before .before .before .before .before .before .before .n .given .0 .0)) (recordFor (a .settings) p s) (a .journal .now) (c .before .before .before .before .before .before .before .before .write-told .last .0) (sym r ∙ z) (omega (arith, r, z, room)) (c .before .before .before .before .before .before .before .before .write-told .ensures (a .twin .machine))))
 
 pub conclude-told-spec : {M : Type 1} → statement M
