@@ -8,5 +8,5 @@ pub fetched-spec : {M : Type 1} → statement M
 fetched-spec =
     tie.close
     (tie.spec (search needs) (search needs) (search needs)
-    (λ c. rw (c .before .op .given .1))
-    (λ c. rw (c .pulled .ensures, c .before .before .op2 .given .1)))
+    (λ c. rw (c .enum-told .given .1))
+    (λ c. rw (c .pulled .ensures, c .before .before .op .given .1)))

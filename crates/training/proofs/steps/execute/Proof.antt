@@ -5,7 +5,7 @@ use Rattle.training.proofs.steps.execute.Statement.{statement}
 use Rattle.training.proofs.steps.execute.Tie as tie
 
 operate-requires : tie.Need-operate-requires
-operate-requires c κs = c .before .before .before .before .before .before .before .pre
+operate-requires c κs = c .before .before .before .before .before .before .pre
 
 pub execute-spec : {M : Type 1} → statement M
 execute-spec =

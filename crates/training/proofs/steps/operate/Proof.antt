@@ -6,7 +6,7 @@ use Rattle.training.proofs.steps.operate.Statement.{statement}
 use Rattle.training.proofs.steps.operate.Tie as tie
 
 count-reads-requires : tie.Need-count-reads-requires
-count-reads-requires c κs = c .before .before .before .before .before .pre
+count-reads-requires c κs = c .before .before .before .before .before .before .pre
 
 returns : tie.Need-returns
 unfolding cyclesOf
@@ -14,7 +14,7 @@ returns c =
     rw (
       c .finish .ensures,
       c .before .evaluate .ensures,
-      c .before .before .count-reads .ensures (c .before .before .before .before .before .before .before .args .settings),
+      c .before .before .count-reads .ensures (c .before .before .before .before .before .before .before .before .before .args .settings),
       c .before .before .before .arms .ensures,
       c .before .before .before .before .cost .ensures,
       c .before .before .before .before .before .operand-extra .ensures,
