@@ -109,7 +109,7 @@ typedef struct doorhawser_outcome {               /* 128 bytes */
     doorhawser_twin twin;                         /* after the call; as given where it is refused */
     doorhawser_write devices[DOORHAWSER_DEVICES]; /* writes to FF00-FF3F and FFC0-FFDF, in order: `count`, then zeros */
     uint64_t count;
-    uint64_t reads, writes; /* 0: room for the bytes that a call reads and writes */
+    uint64_t reads, writes; /* the bytes of memory that the call read and wrote; 0 where it is refused, and of undo and drop */
     uint64_t answer;
 } doorhawser_outcome;
 
@@ -119,7 +119,7 @@ typedef struct doorhawser_ran { /* 136 bytes */
 } doorhawser_ran;
 
 typedef struct doorhawser_stopped { /* 144 bytes */
-    doorhawser_outcome outcome;     /* the twin after the run, the device writes of its last step; the answer is 0, and so are reads and writes yet */
+    doorhawser_outcome outcome;     /* the twin after the run, the device writes of its last step, all bytes that its steps read and wrote; the answer is 0 */
     uint64_t reason;                /* why the run ended; 0 with answer 64 */
     uint64_t number;                /* the answer of the step that was refused; 0 with every other reason */
 } doorhawser_stopped;

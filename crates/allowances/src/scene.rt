@@ -78,6 +78,8 @@ fn undo_all(mem: &mut [u8], journal: &[u8], twin: Twin) -> Shown {
     let mut last = Outcome {
         devices: Writes::none(),
         twin,
+        reads: 0,
+        writes: 0,
         answer: Answer::Done,
     };
     let mut undos: u64 = 0;

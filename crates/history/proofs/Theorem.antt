@@ -482,7 +482,7 @@ unfolding called
 appends c s e =
     let f = planOf c (s .memory) (s .twin .machine) in
     let t = settingsIn c in
-    let d : callAnswer t f s ≡ Done = sym (answered (callAnswer t f s) s (recorded t f s) (reported (t .«ram_top») (listed (f .writes)))) ∙ e in
+    let d : callAnswer t f s ≡ Done = sym (answered (callAnswer t f s) s (recorded t f s) (reported (t .«ram_top») (listed (f .writes))) (f .reads) (length (listed (f .writes)))) ∙ e in
     let few = few-writes c (s .memory) (s .twin .machine) in
     let k = call-taken t f s d in
     rw d (record { earlier = earlier-stay t s f few k; newest = view-own t s f few k; later = later-stay t s f few k })

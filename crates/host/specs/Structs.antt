@@ -77,14 +77,14 @@ hostOutcome o =
       twin = hostTwin (o .twin);
       devices = map hostWrite (o .devices .list);
       count = o .devices .count;
-      reads = 0;
-      writes = 0;
+      reads = o .reads;
+      writes = o .writes;
       answer = numberOfAnswer (o .answer);
     }
 
--- a call that is not recorded keeps both counts
+-- a call that is not recorded keeps both counts of the journal
 abbrev pub keeping : HostTwin → Report → Outcome
-keeping t r = record { devices = r .devices; twin = record { machine = r .machine; records = t .records; bytes = t .bytes }; answer = r .answer }
+keeping t r = record { devices = r .devices; twin = record { machine = r .machine; records = t .records; bytes = t .bytes }; reads = r .reads; writes = r .writes; answer = r .answer }
 
 -- where the numbers name nothing: the twin as it was given, no device write, and the host's own number
 unfoldable pub unnamed : HostTwin → HostOutcome

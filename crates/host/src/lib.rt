@@ -60,7 +60,7 @@ pub struct HostWrite {
 }
 
 // What a call returns: the twin after it, the device writes that it reports, of which the first `count` are, and its number.
-// `reads` and `writes` are 0.
+// `reads` and `writes` are the bytes of memory that the call read and wrote.
 #[repr(C)]
 pub struct HostOutcome {
     pub twin: HostTwin,
@@ -262,13 +262,13 @@ pub fn outcome_of(o: Outcome) -> HostOutcome
         twin: host_twin(twin),
         devices: host_writes(devices),
         count: devices.count,
-        reads: 0,
-        writes: 0,
+        reads: o.reads as u64,
+        writes: o.writes as u64,
         answer: answer.number() as u64,
     }
 }
 
-// A call that is not recorded keeps both counts.
+// A call that is not recorded keeps both counts of the journal.
 pub fn report_of(t: HostTwin, report: Report) -> HostOutcome
     ensures { λ r. ⌜ r ≡ hostOutcome (keeping t report) ⌝ }
 {
@@ -282,6 +282,8 @@ pub fn report_of(t: HostTwin, report: Report) -> HostOutcome
             records: t.records,
             bytes: t.bytes,
         },
+        reads: report.reads,
+        writes: report.writes,
         answer,
     })
 }

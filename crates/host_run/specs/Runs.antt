@@ -27,7 +27,7 @@ goesOn r = isDone (r .answer) && eqb (r .devices .count) 0
 
 -- before the first step
 abbrev pub before : Machine → Report
-before m = record { devices = writesOf []; machine = m; answer = Done }
+before m = record { devices = writesOf []; machine = m; reads = 0; writes = 0; answer = Done }
 
 -- the last step, the steps allowed less those that were carried out, and memory
 pub record Running : Type 0 where

@@ -54,6 +54,8 @@ fn run(mem: &mut [u8], machine: Machine, settings: Settings, count: u64) -> Ran
     let mut last = Report {
         devices: Writes::none(),
         machine,
+        reads: 0,
+        writes: 0,
         answer: Answer::Done,
     };
     let mut left = count;

@@ -47,9 +47,12 @@ fn stopped(ran: RunOutcome) -> HostStopped
     let twin = ran.twin;
     let answer = ran.answer;
     let reason = ran.reason;
+    // The sums of a run are wider than a call's counts.
     let mut outcome = host::outcome_of(Outcome {
         devices,
         twin,
+        reads: 0,
+        writes: 0,
         answer,
     });
     outcome.reads = ran.reads;

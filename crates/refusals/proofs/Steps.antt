@@ -58,11 +58,11 @@ abbrev whole : List ℕ → Settings → Reached → ℕ
 whole mem s (At i r ea) = numberOfAnswer (evaluateOf (i .entry .op) s mem r ea .answer)
 whole mem s (NotReached x) = numberOf x
 
-done : (m : Machine) (cycles : ℕ) (mark : Bool) (e : Effect) → numberOfAnswer (finished m cycles mark e .answer) ≡ numberOfAnswer (e .answer)
+done : (m : Machine) (cycles : ℕ) (mark : Bool) (reads : ℕ) (e : Effect) → numberOfAnswer (finished m cycles mark reads e .answer) ≡ numberOfAnswer (e .answer)
 unfolding finished
-done m cycles mark e = go (e .answer)
+done m cycles mark reads e = go (e .answer)
   where
-    go : (a : Answer) → numberOfAnswer (finishedAs a m cycles mark e .answer) ≡ numberOfAnswer a
+    go : (a : Answer) → numberOfAnswer (finishedAs a m cycles mark reads e .answer) ≡ numberOfAnswer a
     go Done = refl
     go (Refused x) = refl
 
@@ -71,7 +71,7 @@ unfolding stepPlan
 step-number mem m s = go (reached mem m)
   where
     go : (a : Reached) → numberOfAnswer (planned mem m s a .answer) ≡ whole mem s a
-    go (At i r ea) = done m (cyclesOf i mem r ea) (arms (i .entry .op) (byteAt mem ea)) (evaluateOf (i .entry .op) s mem r ea)
+    go (At i r ea) = done m (cyclesOf i mem r ea) (arms (i .entry .op) (byteAt mem ea)) _ (evaluateOf (i .entry .op) s mem r ea)
     go (NotReached x) = refl
 
 -- ---- decoding and the address

@@ -49,6 +49,8 @@ fn run(mem: &mut Memory, line: &Line) -> Report {
     let before = Report {
         devices: Writes::none(),
         machine: start::machine(line, 6, CODE),
+        reads: 0,
+        writes: 0,
         answer: Answer::Done,
     };
     let first = act(mem, before, settings, line[65]);

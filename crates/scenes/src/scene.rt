@@ -49,6 +49,8 @@ fn started(line: &Line) -> Outcome {
     Outcome {
         devices: Writes::none(),
         twin: twin(line),
+        reads: 0,
+        writes: 0,
         answer: Answer::Done,
     }
 }

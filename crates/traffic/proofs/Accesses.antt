@@ -45,13 +45,13 @@ use Rattle.vectors.specs.declared.table.Vector.{Vector}
 use Rattle.vectors.specs.declared.table.Vector.the-variants.{Reset}
 use Rattle.calls.specs.Plans.{refusedWith, accepted}
 use Rattle.calls.specs.Steps.{Reached, At, NotReached, addressed, ofDecoded, decodedTo, unlessWaiting, reached, planned, stepPlan}
-use Rattle.calls.specs.Interrupts.{vectorOf, isHeldOff, taken, afterHeldOff, takenBy, interruptPlan}
+use Rattle.calls.specs.Interrupts.{vectorOf, isHeldOff, taken, takenReads, afterHeldOff, takenBy, interruptPlan}
 use Rattle.calls.specs.Resets.{resetTo, resetPlan}
 use Rattle.calls.specs.Calls.{Call, step, interrupt, reset, planOf}
 use Rattle.calls.specs.declared.InterruptType.{InterruptType}
 use Rattle.calls.specs.declared.Plan.{Plan}
 use Rattle.bus.specs.Reads.{programReads, pointerReads, operandTaken, operandReads, fetchedBy, instructionReads, bytesFrom}
-use Rattle.traffic.specs.Counts.{reachedReads, takenReads, readsBy, readsOf}
+use Rattle.traffic.specs.Counts.{reachedReads, readsBy, readsOf}
 use Rattle.traffic.specs.Laws.{AgreeAt, CountsMeanAccesses}
 use Rattle.traffic.proofs.Agreement.{Same, agree-left, agree-right, agree-within, within-agree, word-agrees}
 use Rattle.traffic.proofs.Decoding.{decode-agrees, resolve-agrees}
@@ -208,7 +208,7 @@ module _ (mem other : List ℕ) (m : Machine) (b : Bytes mem) (p : m .regs .pc <
           let k3 = agree-right mem other po (op ++ fe) k2 in
           let o = operation i r ea c k1 s (agree-left mem other op fe k3) (agree-right mem other op fe k3) in
           let z = same-reached i r ea c k1 (agree-left mem other po (op ++ fe) k2) in
-          (rw (z, cycles-agree mem other s r ea i o, o .arming, o .effect), rw (z, o .fetched))
+          (rw (z, cycles-agree mem other s r ea i o, o .arming, o .effect, o .fetched), rw (z, o .fetched))
       go (NotReached x) e q k = not-done q
 
   -- ---- interrupts and reset
@@ -231,15 +231,15 @@ module _ (mem other : List ℕ) (m : Machine) (b : Bytes mem) (p : m .regs .pc <
       record { plan = rw (eq-eqb (length other) 65536 l) e; reads = f }
     where
       go : (t : Bool) → eqb (length mem) 65536 ≡ t → (u : Bool)
-          → cond t (cond u (accepted (withRegisters m (m .regs) (afterHeldOff (m .wait)))) (takenBy m (taken (m .wait) mem s (m .regs) (vectorOf i)))) (refusedWith m MemoryLength) .answer ≡ Done
+          → cond t (cond u (accepted (withRegisters m (m .regs) (afterHeldOff (m .wait))) 0) (takenBy m (length (takenReads (m .wait) mem s (m .regs) (vectorOf i))) (taken (m .wait) mem s (m .regs) (vectorOf i)))) (refusedWith m MemoryLength) .answer ≡ Done
           → AgreeAt mem other (cond u [] (takenReads (m .wait) mem s (m .regs) (vectorOf i)))
-          → (cond u (accepted (withRegisters m (m .regs) (afterHeldOff (m .wait)))) (takenBy m (taken (m .wait) other s (m .regs) (vectorOf i)))
-          ≡ cond t (cond u (accepted (withRegisters m (m .regs) (afterHeldOff (m .wait)))) (takenBy m (taken (m .wait) mem s (m .regs) (vectorOf i)))) (refusedWith m MemoryLength))
+          → (cond u (accepted (withRegisters m (m .regs) (afterHeldOff (m .wait))) 0) (takenBy m (length (takenReads (m .wait) other s (m .regs) (vectorOf i))) (taken (m .wait) other s (m .regs) (vectorOf i)))
+          ≡ cond t (cond u (accepted (withRegisters m (m .regs) (afterHeldOff (m .wait))) 0) (takenBy m (length (takenReads (m .wait) mem s (m .regs) (vectorOf i))) (taken (m .wait) mem s (m .regs) (vectorOf i)))) (refusedWith m MemoryLength))
           × (cond u [] (takenReads (m .wait) other s (m .regs) (vectorOf i)) ≡ cond u [] (takenReads (m .wait) mem s (m .regs) (vectorOf i)))
       go true e true q k = (refl, refl)
       go true e false q k =
           let z = eqb-true (length mem) 65536 e in
-          (ap (takenBy m) (taken-agrees z s (vectorOf i) (m .wait) k), taken-reads-agree z s (vectorOf i) (m .wait) k)
+          (rw (taken-agrees z s (vectorOf i) (m .wait) k, taken-reads-agree z s (vectorOf i) (m .wait) k), taken-reads-agree z s (vectorOf i) (m .wait) k)
       go false e u q k = not-done q
 
   reset-agrees : (s : Settings) → resetPlan mem m .answer ≡ Done → AgreeAt mem other (readsBy (reset s) mem m) → Both (reset s)

@@ -25,8 +25,6 @@ use Rattle.machine.specs.Machine.{withRegisters}
 use Rattle.machine.specs.declared.Effect.{Effect}
 use Rattle.machine.specs.declared.Machine.{Machine}
 use Rattle.machine.specs.declared.Settings.{Settings}
-use Rattle.machine.specs.declared.Wait.{Wait}
-use Rattle.machine.specs.declared.Wait.the-variants.{Running, Cwai as InCwai, Sync as InSync}
 use Rattle.opcodes.specs.declared.MemoryOp.the-variants.{OnMemory, Store8, Store16, Bsr, Jsr, Rts, Rti, Swi, Cwai, Sync, Push, Pull}
 use Rattle.opcodes.specs.declared.Op.{Op}
 use Rattle.opcodes.specs.declared.Op.the-variants.{Registers, Memory}
@@ -44,14 +42,15 @@ use Rattle.evaluate.proofs.Writes.{no-write-lost}
 use Rattle.cycles.specs.Cycles.{cyclesOf}
 use Rattle.calls.specs.Plans.{refusedWith, accepted}
 use Rattle.calls.specs.Steps.{Reached, At, NotReached, reached, finishedAs, finished, planned, stepPlan}
-use Rattle.calls.specs.Interrupts.{vectorOf, isHeldOff, taken, afterHeldOff, ofEffect, takenBy, interruptPlan}
+use Rattle.calls.specs.Interrupts.{vectorOf, isHeldOff, taken, afterHeldOff, ofEffect, takenBy, takenReads, interruptPlan}
 use Rattle.calls.specs.Resets.{resetTo, resetPlan}
 use Rattle.calls.specs.Calls.{Call, step, interrupt, reset, planOf}
 use Rattle.calls.specs.declared.InterruptType.{InterruptType}
 use Rattle.calls.specs.declared.Plan.{Plan}
 use Rattle.calls.proofs.Laws.{few-writes}
+use Rattle.calls.proofs.Decided.{taken-reads}
 use Rattle.bus.specs.Reads.{programReads, pointerReads, operandTaken, operandReads, fetchedBy, instructionReads}
-use Rattle.traffic.specs.Counts.{reachedReads, takenReads, ifAccepted, readsOf, readCount, writeCount}
+use Rattle.traffic.specs.Counts.{reachedReads, ifAccepted, readsOf, readCount, writeCount}
 use Rattle.traffic.specs.Laws.{StepsBounded, InterruptsBounded, RefusedCounts}
 use Rattle.traffic.proofs.Accesses.{Came, came, known}
 use Rattle.bus.proofs.Sums.{vector-length}
@@ -116,30 +115,30 @@ module _ (m : Machine) where
   none : (y : Refusal) → NoWrites (refusedWith m y)
   none y x e = ap length (listed-back [])
 
-  finished-none : (cycles : ℕ) (armed : Bool) (e : Effect) (a : Answer) → NoWrites (finishedAs a m cycles armed e)
-  finished-none cycles armed e Done x d = not-refused d
-  finished-none cycles armed e (Refused y) x d = none y x d
+  finished-none : (cycles : ℕ) (armed : Bool) (reads : ℕ) (e : Effect) (a : Answer) → NoWrites (finishedAs a m cycles armed reads e)
+  finished-none cycles armed reads e Done x d = not-refused d
+  finished-none cycles armed reads e (Refused y) x d = none y x d
 
-  taken-none : (e : Effect) (a : Answer) → NoWrites (ofEffect m e a)
-  taken-none e Done x d = not-refused d
-  taken-none e (Refused y) x d = none y x d
+  taken-none : (reads : ℕ) (e : Effect) (a : Answer) → NoWrites (ofEffect m reads e a)
+  taken-none reads e Done x d = not-refused d
+  taken-none reads e (Refused y) x d = none y x d
 
   module _ (mem : List ℕ) (s : Settings) where
     planned-none : (a : Reached) → NoWrites (planned mem m s a)
     unfolding finished
-    planned-none (At i r ea) = finished-none (cyclesOf i mem r ea) (arms (i .entry .op) (byteAt mem ea)) (evaluateOf (i .entry .op) s mem r ea) (evaluateOf (i .entry .op) s mem r ea .answer)
+    planned-none (At i r ea) = finished-none (cyclesOf i mem r ea) (arms (i .entry .op) (byteAt mem ea)) _ (evaluateOf (i .entry .op) s mem r ea) (evaluateOf (i .entry .op) s mem r ea .answer)
     planned-none (NotReached y) = none y
 
   module _ (mem : List ℕ) where
     call-none : (c : Call) → NoWrites (planOf c mem m)
     unfolding stepPlan interruptPlan resetPlan
     call-none (step t) = planned-none mem t (reached mem m)
-    call-none (interrupt t i) = go (eqb (length mem) 65536) (isHeldOff i m) (taken (m .wait) mem t (m .regs) (vectorOf i))
+    call-none (interrupt t i) = go (eqb (length mem) 65536) (isHeldOff i m) (length (takenReads (m .wait) mem t (m .regs) (vectorOf i))) (taken (m .wait) mem t (m .regs) (vectorOf i))
       where
-        go : (l k : Bool) (e : Effect) → NoWrites (cond l (cond k (accepted (withRegisters m (m .regs) (afterHeldOff (m .wait)))) (takenBy m e)) (refusedWith m MemoryLength))
-        go true true e x d = not-refused d
-        go true false e x d = taken-none e (e .answer) x d
-        go false k e x d = none MemoryLength x d
+        go : (l k : Bool) (n : ℕ) (e : Effect) → NoWrites (cond l (cond k (accepted (withRegisters m (m .regs) (afterHeldOff (m .wait))) 0) (takenBy m n e)) (refusedWith m MemoryLength))
+        go true true n e x d = not-refused d
+        go true false n e x d = taken-none n e (e .answer) x d
+        go false k n e x d = none MemoryLength x d
     call-none (reset t) = go (eqb (length mem) 65536) (wordAt mem (addressOf Reset))
       where
         go : (l : Bool) (pc : ℕ) → NoWrites (cond l (resetTo m pc) (refusedWith m MemoryLength))
@@ -178,8 +177,8 @@ module _ (mem : List ℕ) (m : Machine) (s : Settings) (b : Bytes mem) (p : m .r
       )
 
   finished-within : (i : Instruction) (r : Set) (ea : ℕ) → Came mem m i r ea → (a : Answer) → evaluateOf (i .entry .op) s mem r ea .answer ≡ a
-      → Within (length (ifAccepted (finishedAs a m (cyclesOf i mem r ea) (arms (i .entry .op) (byteAt mem ea)) (evaluateOf (i .entry .op) s mem r ea) .answer) (instructionReads i mem s (m .regs) r ea)))
-      (length (listed (finishedAs a m (cyclesOf i mem r ea) (arms (i .entry .op) (byteAt mem ea)) (evaluateOf (i .entry .op) s mem r ea) .writes)))
+      → Within (length (ifAccepted (finishedAs a m (cyclesOf i mem r ea) (arms (i .entry .op) (byteAt mem ea)) (length (instructionReads i mem s (m .regs) r ea)) (evaluateOf (i .entry .op) s mem r ea) .answer) (instructionReads i mem s (m .regs) r ea)))
+      (length (listed (finishedAs a m (cyclesOf i mem r ea) (arms (i .entry .op) (byteAt mem ea)) (length (instructionReads i mem s (m .regs) r ea)) (evaluateOf (i .entry .op) s mem r ea) .writes)))
   finished-within i r ea c Done d =
       let k = known mem (m .regs .pc) i b p (c .decoded) .entry in
       let n = reads-most i r ea c in
@@ -203,18 +202,13 @@ steps-bounded mem m s b p =
 -- ---- an interrupt
 
 module _ (mem : List ℕ) (m : Machine) (s : Settings) where
-  taken-reads : (w : Wait) (v : Vector) → length (takenReads w mem s (m .regs) v) ≡ 3
-  taken-reads Running v = vector-length mem s (framed (m .regs) (isEntire v)) v
-  taken-reads InSync v = vector-length mem s (framed (m .regs) (isEntire v)) v
-  taken-reads InCwai v = vector-length mem s (changes (m .regs)) v
-
   interrupt-within : (i : InterruptType) → readCount (interrupt s i) mem m ≤ 3
   unfolding readsOf
   interrupt-within i = go (interruptPlan mem m s i .answer) (isHeldOff i m)
     where
       go : (a : Answer) (k : Bool) → length (ifAccepted a (cond k [] (takenReads (m .wait) mem s (m .regs) (vectorOf i)))) ≤ 3
       go Done true = lit≤ tt
-      go Done false = omega (arith, taken-reads (m .wait) (vectorOf i))
+      go Done false = omega (arith, taken-reads mem s (m .regs) (m .wait) (vectorOf i))
       go (Refused x) k = lit≤ tt
 
 pub interrupts-bounded : InterruptsBounded

@@ -9,35 +9,24 @@ use Rattle.answers.specs.declared.Answer.{Answer}
 use Rattle.answers.specs.declared.Answer.the-variants.{Done, Refused}
 use Rattle.registers.specs.declared.Set.{Set}
 use Rattle.memory.specs.Writes.{listed}
-use Rattle.machine.specs.Effect.{changes}
 use Rattle.machine.specs.declared.Machine.{Machine}
 use Rattle.machine.specs.declared.Settings.{Settings}
-use Rattle.machine.specs.declared.Wait.{Wait}
-use Rattle.machine.specs.declared.Wait.the-variants.{Running, Cwai, Sync}
-use Rattle.vectors.specs.Table.{addressOf}
-use Rattle.vectors.specs.declared.table.Vector.{Vector}
-use Rattle.vectors.specs.declared.table.Vector.the-variants.{Reset}
 use Rattle.calls.specs.Steps.{Reached, At, NotReached, reached, planned}
-use Rattle.calls.specs.Interrupts.{vectorOf, isHeldOff}
+use Rattle.calls.specs.Interrupts.{vectorOf, isHeldOff, takenReads}
+use Rattle.calls.specs.Resets.{resetReads}
 use Rattle.calls.specs.Calls.{Call, step, interrupt, reset, planOf}
-use Rattle.bus.specs.Reads.{bytesFrom, vectorReads, servedReads, instructionReads}
+use Rattle.bus.specs.Reads.{instructionReads}
 
 -- a step: the instruction that was reached; r are the registers before it
 abbrev pub reachedReads : List ℕ → Settings → Set → Reached → List ℕ
 reachedReads mem s r (At i q ea) = instructionReads i mem s r q ea
 reachedReads mem s r (NotReached x) = []
 
--- an interrupt that is served. In CWAI nothing is stacked again
-abbrev pub takenReads : Wait → List ℕ → Settings → Set → Vector → List ℕ
-takenReads Running mem s r v = servedReads mem s r v
-takenReads Sync mem s r v = servedReads mem s r v
-takenReads Cwai mem s r v = vectorReads mem s (changes r) v
-
 -- what a call reads if it is accepted. An interrupt that is held off reads nothing, a reset its vector
 abbrev pub readsBy : Call → List ℕ → Machine → List ℕ
 readsBy (step t) mem m = reachedReads mem t (m .regs) (reached mem m)
 readsBy (interrupt t i) mem m = cond (isHeldOff i m) [] (takenReads (m .wait) mem t (m .regs) (vectorOf i))
-readsBy (reset t) mem m = bytesFrom (addressOf Reset) 2
+readsBy (reset t) mem m = resetReads
 
 abbrev pub ifAccepted : Answer → List ℕ → List ℕ
 ifAccepted Done reads = reads

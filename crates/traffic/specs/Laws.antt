@@ -12,9 +12,20 @@ use Rattle.machine.specs.declared.Machine.{Machine}
 use Rattle.machine.specs.declared.Settings.{Settings}
 use Rattle.machine.specs.declared.Wait.the-variants.{Running}
 use Rattle.calls.specs.Steps.{decodedTo}
-use Rattle.calls.specs.Calls.{Call, step, interrupt, planOf}
+use Rattle.calls.specs.Plans.{carriedOut}
+use Rattle.calls.specs.Calls.{Call, step, interrupt, settingsIn, planOf}
 use Rattle.calls.specs.declared.InterruptType.{InterruptType}
 use Rattle.traffic.specs.Counts.{readsOf, readCount, writeCount, countsOf, countsAt}
+
+-- ---- what is reported
+
+-- a call reports as many reads as it has addresses, and as many writes as its list has
+pub record Reported (c : Call) (mem : List ℕ) (m : Machine) : Type 0 where
+  pub reads : carriedOut (settingsIn c) (planOf c mem m) .reads ≡ readCount c mem m
+  pub writes : carriedOut (settingsIn c) (planOf c mem m) .writes ≡ writeCount c mem m
+
+abbrev pub CountsReported : Type 0
+CountsReported = (c : Call) (mem : List ℕ) (m : Machine) → Reported c mem m
 
 -- ---- counts mean accesses
 
