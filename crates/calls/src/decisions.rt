@@ -5,8 +5,8 @@ ghost use Rattle.decode.specs.declared.instruction.Decoded.the-variants.{Instru
 ghost use Rattle.evaluate.specs.Arming.{arms};
 ghost use Rattle.evaluate.specs.Evaluate.{evaluateOf, memoryOf};
 ghost use Rattle.memory.specs.Map.{byteAt};
-ghost use Rattle.bus.specs.Reads.{operandTaken};
-ghost use Rattle.bus.specs.Sums.{operandCount, fetchedCount};
+ghost use Rattle.bus.specs.Reads.{registersTake, memoryTakes, operandTaken};
+ghost use Rattle.bus.specs.Sums.{operandCount, memoryCount, fetchedCount};
 ghost use Rattle.cycles.specs.Cycles.{operationExtra};
 ghost use Rattle.calls.specs.Steps.{ofDecoded, decodedTo, planned};
 ghost use Rattle.opcodes.specs.declared.MemoryOp.the-variants.{OnMemory, Store8, Store16, Bsr};
@@ -29,7 +29,9 @@ use machine::Settings;
 use opcodes::Acc;
 use opcodes::Entry;
 use opcodes::MemoryOp;
+use opcodes::Mode;
 use opcodes::Op;
+use opcodes::RegisterOp;
 use opcodes::Unary;
 use operations::Changed;
 use registers::Set;
@@ -269,7 +271,24 @@ fn bill(decision: Decision, cycles: u16, reads: u8, arms: bool) -> Decision
     }
 }
 
-// The operation. `extra` is the operand's, and `program` the bytes read so far: both are known before the address is found.
+// What an instruction reads: `program` are its own bytes and the pointer's.
+fn registers_reads(program: u8, mode: Mode, on: RegisterOp) -> u8
+    requires { ⌜ program ≤ 7 ⌝ }
+    ensures { λ r. ⌜ r ≡ program + operandCount mode (registersTake on) ⌝ }
+{
+    program + operand_count(mode, registers_take(on))
+}
+
+fn memory_reads(program: u8, mode: Mode, on: MemoryOp, mem: &[u8], regs: Set, ea: u16) -> u8
+    requires { ⌜ program ≤ 7 ⌝ }
+    ensures { λ r. ⌜ r ≡ program + (operandCount mode (memoryTakes on) + memoryCount on (now (mem .entry)) regs ea) ⌝ }
+{
+    let operand = operand_count(mode, memory_takes(on));
+    program + (operand + memory_count(on, mem, regs, ea))
+}
+
+// The operation. `extra` is the operand's, and `program` the bytes read so far: both are known before the address is found. What it reads is
+// counted last: counted before the operation it would be kept in memory meanwhile (docs/PERFORMANCE.md).
 fn operate(
     mem: &[u8],
     settings: Settings,
@@ -288,24 +307,24 @@ fn operate(
     match op {
         Op::Registers(on) => {
             let cycles = cost(entry.cycles, extra, registers_extra(on, mode, regs.cc));
-            let reads = program + operand_count(mode, registers_take(on));
             let arms = evaluate::registers_arm(on, mem, ea);
             match operations::change(on, flags, mem, regs, ea) {
-                Changed::After(after) => bill(tell(Kind::Change, after, 0, 0), cycles, reads, arms),
-                Changed::Refused(refusal) => bill(refuse(refusal, regs), cycles, reads, arms),
+                Changed::After(after) => {
+                    let reads = registers_reads(program, mode, on);
+                    bill(tell(Kind::Change, after, 0, 0), cycles, reads, arms)
+                }
+                Changed::Refused(refusal) => {
+                    let reads = registers_reads(program, mode, on);
+                    bill(refuse(refusal, regs), cycles, reads, arms)
+                }
             }
         }
         Op::Memory(on) => {
             let cycles = cost(entry.cycles, extra, memory_extra(on, mem, regs, ea));
-            let operand = operand_count(mode, memory_takes(on));
-            let reads = program + (operand + memory_count(on, mem, regs, ea));
             let arms = evaluate::memory_arms(on, mem, ea);
-            bill(
-                decide_memory(on, settings, mem, regs, ea),
-                cycles,
-                reads,
-                arms,
-            )
+            let decision = decide_memory(on, settings, mem, regs, ea);
+            let reads = memory_reads(program, mode, on, mem, regs, ea);
+            bill(decision, cycles, reads, arms)
         }
     }
 }

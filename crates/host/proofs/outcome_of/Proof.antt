@@ -7,9 +7,9 @@ use Rattle.host.proofs.outcome_of.Tie as tie
 
 returns : tie.Need-returns
 unfolding hostOutcome
-returns c = rw (c .before .before .host-twin .ensures, c .before .host-writes .ensures, c .number .ensures)
+returns c = rw (c .before .before .before .before .host-twin .ensures, c .before .before .before .host-writes .ensures, c .number .ensures)
 
 pub outcome-of-spec : {M : Type 1} → statement M
 outcome-of-spec =
     tie.close
-    (tie.spec (search needs) (search needs) (search needs) (search needs) returns)
+    (tie.spec (search needs) (search needs) (search needs) (search needs) (search needs) (search needs) returns)
