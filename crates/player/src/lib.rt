@@ -11,6 +11,7 @@ use answers::Refusal;
 pub use boots::boot;
 use machine::Machine;
 pub use plays::play;
+pub use plays::play_second;
 
 const MEMORY: usize = 0x10000;
 

@@ -69,11 +69,19 @@ fn act(
     twin: Twin,
     settings: Settings,
     operation: Operation,
+    second: bool,
 ) -> Shown
     ensures { λ r. ⌜ LeavesShown r (now (mem .exit)) (now (journal .exit)) (acted settings operation (inHand (now (mem .entry)) (now (journal .entry)) twin)) ⌝ }
 {
     match wanted_by(operation) {
-        Wanted::Call(which) => shown_of(journal::call(mem, journal, twin, settings, which)),
+        Wanted::Call(which) => shown_of(training::call_on(
+            mem,
+            journal,
+            twin,
+            settings,
+            which,
+            second,
+        )),
         Wanted::Undo => shown_of(journal::undo(mem, journal, twin)),
     }
 }
@@ -87,7 +95,14 @@ fn run_settings(given: FileSettings) -> Settings
 }
 
 // Plays the operations of a sound file in order, and returns the length of the text.
-fn play_all(out: &mut [u8], file: &[u8], mem: &mut [u8], journal: &mut [u8], from: Start) -> usize
+fn play_all(
+    out: &mut [u8],
+    file: &[u8],
+    mem: &mut [u8],
+    journal: &mut [u8],
+    from: Start,
+    second: bool,
+) -> usize
     requires { ⌜ Loaded.Ready from ≡ loaded (length (now file)) (parsed (now file)) ⌝ }
     ensures { λ r. ⌜ (r ≡ length (played (parsed (now (file .entry))) (inHand (now (mem .entry)) (now (journal .entry)) freshTwin))) × (now (out .exit) ≡ sets (now (out .entry)) 0 (played (parsed (now (file .entry))) (inHand (now (mem .entry)) (now (journal .entry)) freshTwin))) ⌝ }
 {
@@ -100,7 +115,7 @@ fn play_all(out: &mut [u8], file: &[u8], mem: &mut [u8], journal: &mut [u8], fro
         match runfile::operation_at(file, at) {
             Next::None => return used,
             Next::Is(operation) => {
-                let outcome = act(mem, journal, twin, settings, operation);
+                let outcome = act(mem, journal, twin, settings, operation, second);
                 twin = outcome.twin;
                 let answer = outcome.answer;
                 let machine = twin.machine;
@@ -112,8 +127,7 @@ fn play_all(out: &mut [u8], file: &[u8], mem: &mut [u8], journal: &mut [u8], fro
     used
 }
 
-// Writes what the run program prints at the front of `out`, and returns its length.
-pub fn play(file: &[u8], out: &mut [u8]) -> usize
+fn play_on(file: &[u8], out: &mut [u8], second: bool) -> usize
     ensures { λ r. ⌜ (r ≡ length (printed (now (file .entry)))) × (now (out .exit) ≡ sets (now (out .entry)) 0 (printed (now (file .entry)))) ⌝ }
 {
     let mut mem = zeroed_memory();
@@ -121,7 +135,21 @@ pub fn play(file: &[u8], out: &mut [u8]) -> usize
         Loaded::Refused(refusal) => put_refusal(out, refusal),
         Loaded::Ready(from) => {
             let mut journal = empty_journal();
-            play_all(out, file, &mut mem, &mut journal, from)
+            play_all(out, file, &mut mem, &mut journal, from, second)
         }
     }
+}
+
+// Writes what the run program prints at the front of `out`, and returns its length.
+pub fn play(file: &[u8], out: &mut [u8]) -> usize
+    ensures { λ r. ⌜ (r ≡ length (printed (now (file .entry)))) × (now (out .exit) ≡ sets (now (out .entry)) 0 (printed (now (file .entry)))) ⌝ }
+{
+    play_on(file, out, false)
+}
+
+// The same, on the second engine.
+pub fn play_second(file: &[u8], out: &mut [u8]) -> usize
+    ensures { λ r. ⌜ (r ≡ length (printed (now (file .entry)))) × (now (out .exit) ≡ sets (now (out .entry)) 0 (printed (now (file .entry)))) ⌝ }
+{
+    play_on(file, out, true)
 }

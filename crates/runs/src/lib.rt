@@ -146,15 +146,16 @@ fn ended(
     }
 }
 
-// The step is called at this one place, so that it is compiled in. A run whose allowance is used up has no device write to report: it would
-// have ended with it.
-pub fn run(
+// The step is called at this one place, so that it is compiled in: a program has the loop of one engine. A run whose allowance is used up has
+// no device write to report: it would have ended with it.
+fn run_on(
     mem: &mut [u8],
     journal: &mut [u8],
     twin: Twin,
     settings: Settings,
     allowance: u64,
     stop: Stop,
+    second: bool,
 ) -> RunOutcome
     ensures { λ r. ⌜ RunLeaves r (now (mem .exit)) (now (journal .exit)) (ran settings stop allowance (inHand (now (mem .entry)) (now (journal .entry)) twin)) ⌝ }
     ensures { λ _. ⌜ Typed (inHand (now (mem .entry)) (now (journal .entry)) twin) ⌝ }
@@ -164,7 +165,7 @@ pub fn run(
     let mut writes: u64 = 0;
     let mut left = allowance;
     while 0 < left {
-        let last = journal::step(mem, journal, current, settings);
+        let last = training::step_on(mem, journal, current, settings, second);
         reads = std::num::wrapping_add_u64(reads, reads_in(last));
         writes = std::num::wrapping_add_u64(writes, writes_in(last));
         match test(last, stop) {
@@ -188,4 +189,33 @@ pub fn run(
         reads,
         writes,
     )
+}
+
+pub fn run(
+    mem: &mut [u8],
+    journal: &mut [u8],
+    twin: Twin,
+    settings: Settings,
+    allowance: u64,
+    stop: Stop,
+) -> RunOutcome
+    ensures { λ r. ⌜ RunLeaves r (now (mem .exit)) (now (journal .exit)) (ran settings stop allowance (inHand (now (mem .entry)) (now (journal .entry)) twin)) ⌝ }
+    ensures { λ _. ⌜ Typed (inHand (now (mem .entry)) (now (journal .entry)) twin) ⌝ }
+{
+    run_on(mem, journal, twin, settings, allowance, stop, false)
+}
+
+// The same on the second engine.
+pub fn run_second(
+    mem: &mut [u8],
+    journal: &mut [u8],
+    twin: Twin,
+    settings: Settings,
+    allowance: u64,
+    stop: Stop,
+) -> RunOutcome
+    ensures { λ r. ⌜ RunLeaves r (now (mem .exit)) (now (journal .exit)) (ran settings stop allowance (inHand (now (mem .entry)) (now (journal .entry)) twin)) ⌝ }
+    ensures { λ _. ⌜ Typed (inHand (now (mem .entry)) (now (journal .entry)) twin) ⌝ }
+{
+    run_on(mem, journal, twin, settings, allowance, stop, true)
 }

@@ -15,12 +15,12 @@ returns c =
     (a .operation)
     (inHand (a .mem .now) (a .journal .now) (a .twin))
     (w .result)
-    (c .before .before .before .before .before .call .result)
+    (c .before .before .before .before .before .call-on .result)
     _
     _
     _
     (w .ensures)
-    (rw (c .before .before .before .before .before .before .before .before .before .which .given .1) (c .before .before .before .before .before .call .ensures .0))
+    (rw (c .before .before .before .before .before .before .before .before .before .which .given .1) (c .before .before .before .before .before .call-on .ensures .0))
     (c .shown-of .ensures)
 
 returns-2 : tie.Need-returns-2

@@ -13,7 +13,7 @@ use Rattle.player.proofs.plays.play_all.Statement.{statement}
 use Rattle.player.proofs.plays.play_all.Tie as tie
 
 abbrev Inv-loop : tie.InvT-loop
-Inv-loop out₀ file mem₀ journal₀ settings twin₀ used₀ at₀ out mem journal twin used at =
+Inv-loop out₀ file mem₀ journal₀ second settings twin₀ used₀ at₀ out mem journal twin used at =
     ((at₀ ≤ at) × (at ≤ length file))
     × (Sofar settings (operationsIn (parsed file)) (inHand mem₀ journal₀ freshTwin) out₀ (at - at₀) used out (inHand mem journal twin)
     × ((length out ≡ length out₀)
@@ -21,7 +21,7 @@ Inv-loop out₀ file mem₀ journal₀ settings twin₀ used₀ at₀ out mem jo
     × (length journal ≡ length journal₀))))
 
 abbrev μ-loop : tie.MeasureT-loop
-μ-loop out₀ file mem₀ journal₀ settings twin₀ used₀ at₀ out mem journal twin used at = length file - at
+μ-loop out₀ file mem₀ journal₀ second settings twin₀ used₀ at₀ out mem journal twin used at = length file - at
 
 loop-holds : tie.Need-loop-holds Inv-loop μ-loop
 loop-holds c =
