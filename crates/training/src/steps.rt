@@ -13,6 +13,7 @@ use answers::Refusal;
 use calls::Plan;
 use calls::Report;
 use calls::carry_out;
+use calls::fence;
 use calls::finish;
 use calls::refused;
 use cycles::cost;
@@ -86,7 +87,7 @@ fn plan_running(mem: &[u8], machine: Machine, settings: Settings) -> Plan
     }
 }
 
-// What a step will do: 1 by the memory's length, 2 while waiting, then as the instruction meets them.
+// What a step will do: 1 by the memory's length, 2 while waiting, then as the instruction meets them; the fence judges last.
 pub fn plan_step(mem: &[u8], machine: Machine, settings: Settings) -> Plan
     ensures { λ r. ⌜ r ≡ stepPlan (now (mem .entry)) machine settings ⌝ }
 {
@@ -95,7 +96,7 @@ pub fn plan_step(mem: &[u8], machine: Machine, settings: Settings) -> Plan
     }
     let wait = machine.wait;
     match wait {
-        Wait::Running => plan_running(mem, machine, settings),
+        Wait::Running => fence(settings, machine, plan_running(mem, machine, settings)),
         Wait::Cwai => refused(machine, Refusal::Waiting),
         Wait::Sync => refused(machine, Refusal::Waiting),
     }
