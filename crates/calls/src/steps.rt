@@ -271,12 +271,36 @@ pub fn carry(mem: &mut [u8], machine: Machine, settings: Settings, decision: Dec
     report
 }
 
+// The same for a step that is not recorded. The list's way is called at two places here, and so is not compiled in: the rest is small enough to
+// be compiled into the loop that makes the steps (docs/PERFORMANCE.md).
+fn carry_unrecorded(
+    mem: &mut [u8],
+    machine: Machine,
+    settings: Settings,
+    decision: Decision,
+) -> Report
+    ensures { λ r. ⌜ (r ≡ carriedOut settings (fenced settings machine (planTold machine settings (now (mem .entry)) decision))) × (now (mem .exit) ≡ memoryWith settings (fenced settings machine (planTold machine settings (now (mem .entry)) decision)) (now (mem .entry))) ⌝ }
+{
+    if mem.len() == 65536 {
+        if is_plain(decision, settings) {
+            return carry_plain(mem, machine, settings, decision);
+        }
+        let m = machine;
+        let s = settings;
+        let d = decision;
+        let listed = carry_list(mem, m, s, d);
+        return listed;
+    }
+    let report = carry_list(mem, machine, settings, decision);
+    report
+}
+
 // A machine that is running.
 fn step_running(mem: &mut [u8], machine: Machine, settings: Settings) -> Report
     ensures { λ r. ⌜ (r ≡ carriedOut settings (fenced settings machine (planned (now (mem .entry)) machine settings (decodedTo (now (mem .entry)) (machine .regs))))) × (now (mem .exit) ≡ memoryWith settings (fenced settings machine (planned (now (mem .entry)) machine settings (decodedTo (now (mem .entry)) (machine .regs)))) (now (mem .entry))) ⌝ }
 {
     let decision = decide(mem, machine, settings);
-    carry(mem, machine, settings, decision)
+    carry_unrecorded(mem, machine, settings, decision)
 }
 
 pub fn step(mem: &mut [u8], machine: Machine, settings: Settings) -> Report

@@ -11,7 +11,7 @@ returns : tie.Need-returns
 returns c =
     let a = c .before .before .before .before .before .before .before .args in
     let e = ap (fenced (a .settings) (a .machine)) (c .before .before .before .before .decide .ensures) in
-    (c .before .before .carry .ensures .0 ∙ ap (carriedOut (a .settings)) e, c .before .before .carry .ensures .1 ∙ ap (λ (p : Plan). memoryWith (a .settings) p (a .mem .now)) e)
+    (c .before .before .carry-unrecorded .ensures .0 ∙ ap (carriedOut (a .settings)) e, c .before .before .carry-unrecorded .ensures .1 ∙ ap (λ (p : Plan). memoryWith (a .settings) p (a .mem .now)) e)
 
 pub step-running-spec : {M : Type 1} → statement M
 step-running-spec =
