@@ -62,7 +62,8 @@ pub fn settings(line: &Line, second: bool) -> Settings {
     } else {
         Flags::Manual
     };
-    let profile = profile_at(line, PROFILES + 72 * second as usize);
+    let at = if second { PROFILES + 72 } else { PROFILES };
+    let profile = profile_at(line, at);
     Settings::fenced(word_at(line, 41), flags, profile)
 }
 

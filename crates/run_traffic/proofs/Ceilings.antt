@@ -16,10 +16,9 @@ use Rattle.journal.specs.Recorded.{State, Typed, Ended, ending, returned, callA
 use Rattle.history.proofs.Theorem.{forward-typed}
 use Rattle.traffic.proofs.Ceilings.{steps-bounded}
 use Rattle.traffic.proofs.Reported.{counts-reported}
-use Rattle.runs.specs.Runs.{tested, RunEnded, unmade, counting, unlessEnds, endsBy, running}
+use Rattle.runs.specs.Runs.{tested, RunEnded, unmade, counting, endsBy, running}
 use Rattle.runs.specs.declared.Stop.{Stop}
-use Rattle.runs.specs.declared.Verdict.{Verdict}
-use Rattle.runs.specs.declared.Verdict.the-variants.{Ends, GoesOn}
+use Rattle.runs.proofs.Running.{either-way}
 use Rattle.run_traffic.specs.Laws.{RunCeilings, RunsBounded}
 
 -- ---- a step
@@ -53,17 +52,14 @@ one-more e n r w c =
 none : (n : ℕ) (r : RunEnded) → r .reads ≡ 0 → r .writes ≡ 0 → RunCeilings n r
 none n r e f = record { reads = omega arith; writes = omega arith; together = omega arith }
 
-ended : (v : Verdict) (e : Ended) (n : ℕ) (r : RunEnded) → RunCeilings n r → RunCeilings n (unlessEnds v e r)
-ended (Ends reason) e n r c = none n (endsBy reason e) refl refl
-ended GoesOn e n r c = c
-
 module _ (t : Settings) (stop : Stop) where
   bounded : (n : ℕ) (e : Ended) → Typed (e .state) → RunCeilings n (running (stepped t) stop n e)
   unfolding running
   bounded zero e w = none 0 _ refl refl
   bounded (suc n) e w =
       let f = stepped t (e .state) in
-      one-more f n _ (step-within t (e .state) w) (ended (tested stop (returned f)) f n _ (bounded n f (forward-typed (step t) (e .state) w)))
+      one-more f n _ (step-within t (e .state) w)
+      (either-way (RunCeilings n) (tested stop (returned f)) f _ (λ reason. none n (endsBy reason f) refl refl) (bounded n f (forward-typed (step t) (e .state) w)))
 
 pub runs-bounded : RunsBounded
 runs-bounded t stop n s w = bounded t stop n (unmade s) w

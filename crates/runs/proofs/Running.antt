@@ -20,6 +20,11 @@ use Rattle.runs.specs.declared.Stop.{Stop}
 use Rattle.runs.specs.declared.Verdict.{Verdict}
 use Rattle.runs.specs.declared.Verdict.the-variants.{Ends, GoesOn}
 
+-- what holds where a step ends the run, and of the rest where it goes on, holds of both
+pub either-way : (P : RunEnded → Type 0) (v : Verdict) (e : Ended) (r : RunEnded) → ((reason : Reason) → P (endsBy reason e)) → P r → P (unlessEnds v e r)
+either-way P (Ends reason) e r h k = h reason
+either-way P GoesOn e r h k = k
+
 -- ---- the verdict
 
 -- what a step after which the run goes on was

@@ -25,12 +25,12 @@ abbrev μ-loop : tie.MeasureT-loop
 
 loop-holds : tie.Need-loop-holds Inv-loop μ-loop
 loop-holds c =
-    let a = c .before .before .before .before .before .before .args in
-    let so = sound (a .file .now) (a .from) (c .before .before .before .before .before .before .pre) in
+    let a = c .before .before .before .before .before .before .before .args in
+    let so = sound (a .file .now) (a .from) (c .before .before .before .before .before .before .before .pre) in
     let z : a .from .operations - a .from .operations ≡ 0 = omega arith in (
       omega (arith, so .starts),
       (
-        rw (z, c .fresh .ensures) (at-first (a .from .settings) (operationsIn (parsed (a .file .now))) (inHand (a .mem .now) (a .journal .now) freshTwin) (a .out .now)),
+        rw (z, c .fresh .ensures) (at-first (c .before .run-settings .result) (operationsIn (parsed (a .file .now))) (inHand (a .mem .now) (a .journal .now) freshTwin) (a .out .now)),
         (refl, (refl, refl)),
       ),
     )
@@ -47,9 +47,9 @@ same-length-3 c = c .before .before .before .before .loop .inv .1 .1 .1 .1
 -- an operation stands at each place passed
 returns : tie.Need-returns Inv-loop μ-loop
 returns c =
-    let a = c .before .before .before .before .before .before .before .before .before .before .before .args in
+    let a = c .before .before .before .before .before .before .before .before .before .before .before .before .args in
     let l = c .before .before .before .before .loop in
-    let so = sound (a .file .now) (a .from) (c .before .before .before .before .before .before .before .before .before .before .before .pre) in
+    let so = sound (a .file .now) (a .from) (c .before .before .before .before .before .before .before .before .before .before .before .before .pre) in
     let i = l .at - a .from .operations in
     let k : i < length (operationsIn (parsed (a .file .now))) = omega (arith, so .starts) in
     let e : l .at ≡ a .from .operations + i = omega arith in
@@ -60,24 +60,25 @@ returns c =
 
 add-used : tie.Need-add-used Inv-loop μ-loop
 add-used c =
-    let a = c .before .before .before .before .before .before .before .before .before .before .before .before .before .before .before .before .before .before .before .before .before .before .before .before .before .args in
+    let a = c .before .before .before .before .before .before .before .before .before .before .before .before .before .before .before .before .before .before .before .before .before .before .before .before .before .before .args in
     let l = c .before .before .before .before .before .before .before .before .before .before .before .before .before .before .before .before .before .before .loop in
     let r = c .before .before .before .before .before .before .before .before .before .before .act .result in
-    let so = sound (a .file .now) (a .from) (c .before .before .before .before .before .before .before .before .before .before .before .before .before .before .before .before .before .before .before .before .before .before .before .before .before .pre) in
-    let h = fits so (inHand (a .mem .now) (a .journal .now) freshTwin) (a .out .now) (l .at) (l .used) (l .out) (inHand (l .mem) (l .journal) (l .twin)) (l .inv .1 .0) (l .inv .0 .1) in
+    let so = sound (a .file .now) (a .from) (c .before .before .before .before .before .before .before .before .before .before .before .before .before .before .before .before .before .before .before .before .before .before .before .before .before .before .pre) in
+    let v = rw (c .before .before .before .before .before .before .before .before .before .before .before .before .before .before .before .before .before .before .before .before .run-settings .ensures) at (l .inv .1 .0) in
+    let h = fits so (inHand (a .mem .now) (a .journal .now) freshTwin) (a .out .now) (l .at) (l .used) (l .out) (inHand (l .mem) (l .journal) (l .twin)) v (l .inv .0 .1) in
     omega (arith, c .before .before .put-call .ensures .0, line-bound (r .answer) (r .twin .machine))
 
 add-at : tie.Need-add-at Inv-loop μ-loop
 add-at c =
-    let a = c .before .before .before .before .before .before .before .before .before .before .before .before .before .before .before .before .before .before .before .before .before .before .before .before .before .args in
-    let so = sound (a .file .now) (a .from) (c .before .before .before .before .before .before .before .before .before .before .before .before .before .before .before .before .before .before .before .before .before .before .before .before .before .pre) in
+    let a = c .before .before .before .before .before .before .before .before .before .before .before .before .before .before .before .before .before .before .before .before .before .before .before .before .before .before .args in
+    let so = sound (a .file .now) (a .from) (c .before .before .before .before .before .before .before .before .before .before .before .before .before .before .before .before .before .before .before .before .before .before .before .before .before .before .pre) in
     omega (arith, so .short, c .before .before .before .before .before .before .before .before .before .before .before .before .before .before .before .before .before .loop-test .taken)
 
 loop-again : tie.Need-loop-again Inv-loop μ-loop
 loop-again c =
-    let a = c .before .before .before .before .before .before .before .before .before .before .before .before .before .before .before .before .before .before .before .before .before .before .before .before .before .args in
+    let a = c .before .before .before .before .before .before .before .before .before .before .before .before .before .before .before .before .before .before .before .before .before .before .before .before .before .before .args in
     let l = c .before .before .before .before .before .before .before .before .before .before .before .before .before .before .before .before .before .before .loop in
-    let so = sound (a .file .now) (a .from) (c .before .before .before .before .before .before .before .before .before .before .before .before .before .before .before .before .before .before .before .before .before .before .before .before .before .pre) in
+    let so = sound (a .file .now) (a .from) (c .before .before .before .before .before .before .before .before .before .before .before .before .before .before .before .before .before .before .before .before .before .before .before .before .before .before .pre) in
     let os = operationsIn (parsed (a .file .now)) in
     let i = l .at - a .from .operations in
     let k : i < length os = omega (arith, so .starts) in
@@ -90,7 +91,7 @@ loop-again c =
     let p = c .before .before .put-call in (
       omega arith,
       (
-        rw n (turn (a .from .settings) os (inHand (a .mem .now) (a .journal .now) freshTwin) (a .out .now) i (l .used) (l .out) (inHand (l .mem) (l .journal) (l .twin)) (l .inv .1 .0) k o (t .ensures) (p .ensures .0) (p .ensures .1)),
+        rw n (turn (c .before .before .before .before .before .before .before .before .before .before .before .before .before .before .before .before .before .before .before .before .run-settings .result) os (inHand (a .mem .now) (a .journal .now) freshTwin) (a .out .now) i (l .used) (l .out) (inHand (l .mem) (l .journal) (l .twin)) (l .inv .1 .0) k o (t .ensures) (p .ensures .0) (p .ensures .1)),
         (p .kept .0 ∙ l .inv .1 .1 .0, (t .kept .0 ∙ l .inv .1 .1 .1 .0, t .kept .1 .0 ∙ l .inv .1 .1 .1 .1)),
       ),
     )
@@ -106,12 +107,13 @@ same-length-6 c = c .before .loop .inv .1 .1 .1 .1
 
 returns-2 : tie.Need-returns-2 Inv-loop μ-loop
 returns-2 c =
-    let a = c .before .before .before .before .before .before .before .before .args in
+    let a = c .before .before .before .before .before .before .before .before .before .args in
     let l = c .before .loop in
-    let so = sound (a .file .now) (a .from) (c .before .before .before .before .before .before .before .before .pre) in
-    finished so (inHand (a .mem .now) (a .journal .now) freshTwin) (a .out .now) (l .at) (l .used) (l .out) (inHand (l .mem) (l .journal) (l .twin)) (l .inv .1 .0) (c .loop-test .left)
+    let so = sound (a .file .now) (a .from) (c .before .before .before .before .before .before .before .before .before .pre) in
+    let v = rw (c .before .before .before .run-settings .ensures) at (l .inv .1 .0) in
+    finished so (inHand (a .mem .now) (a .journal .now) freshTwin) (a .out .now) (l .at) (l .used) (l .out) (inHand (l .mem) (l .journal) (l .twin)) v (c .loop-test .left)
 
 pub play-all-spec : {M : Type 1} → statement M
 play-all-spec =
     tie.close
-    (tie.spec Inv-loop μ-loop (search needs) loop-holds (search needs) (search needs) same-length same-length-2 same-length-3 returns (search needs) (search needs) (search needs) add-used add-at (search needs) loop-again same-length-4 same-length-5 same-length-6 returns-2)
+    (tie.spec Inv-loop μ-loop (search needs) (search needs) loop-holds (search needs) (search needs) same-length same-length-2 same-length-3 returns (search needs) (search needs) (search needs) add-used add-at (search needs) loop-again same-length-4 same-length-5 same-length-6 returns-2)
