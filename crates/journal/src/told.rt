@@ -210,8 +210,7 @@ fn record_list(
     conclude(mem, journal, twin, settings, plan)
 }
 
-// An operation that is left to be evaluated. It has a value of its own for what the list's way returns, and so has the next: the outcome of
-// a step that is plain then stays in registers.
+// The same, with a value of its own for what it returns: the outcome of a step that is plain then stays in registers.
 fn record_rest(
     mem: &mut [u8],
     journal: &mut [u8],
@@ -237,20 +236,11 @@ fn record_decided(
     requires { ⌜ (length (now mem) ≡ 65536) × ((twin .bytes ≤ length (now journal)) × (twin .records < mostRecords)) ⌝ }
     ensures { λ r. ⌜ Leaves r (now (mem .exit)) (now (journal .exit)) (concludedFor settings (fenced settings (twin .machine) (planTold (twin .machine) settings (now (mem .entry)) decision)) (inHand (now (mem .entry)) (now (journal .entry)) twin)) ⌝ }
 {
-    let kind = decision.kind;
-    match kind {
-        Kind::Rest => record_rest(mem, journal, twin, settings, decision),
-        _ => {
-            if calls::is_plain(decision, settings) {
-                return conclude_told(mem, journal, twin, settings, decision);
-            }
-            let t = twin;
-            let s = settings;
-            let d = decision;
-            let outcome = record_list(mem, journal, t, s, d);
-            outcome
-        }
+    if calls::is_plain(decision, settings) {
+        return conclude_told(mem, journal, twin, settings, decision);
     }
+    let outcome = record_rest(mem, journal, twin, settings, decision);
+    outcome
 }
 
 // 2 while waiting, then the instruction.
