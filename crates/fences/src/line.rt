@@ -55,6 +55,13 @@ fn profile_at(line: &Line, at: usize) -> [Range; 8]
     ]
 }
 
+fn profile(line: &Line, second: bool) -> [Range; 8] {
+    if second {
+        return profile_at(line, PROFILES + 72);
+    }
+    profile_at(line, PROFILES)
+}
+
 // With the first profile, or the second.
 pub fn settings(line: &Line, second: bool) -> Settings {
     let flags = if line[46] == b'B' {
@@ -62,9 +69,7 @@ pub fn settings(line: &Line, second: bool) -> Settings {
     } else {
         Flags::Manual
     };
-    let at = if second { PROFILES + 72 } else { PROFILES };
-    let profile = profile_at(line, at);
-    Settings::fenced(word_at(line, 41), flags, profile)
+    Settings::fenced(word_at(line, 41), flags, profile(line, second))
 }
 
 fn wait(line: &Line) -> Wait {

@@ -50,17 +50,28 @@ fn act(
 }
 
 // `p` is no call: from there on the second profile holds. There is nothing to do for `-`.
+fn turn(
+    mem: &mut [u8],
+    journal: &mut [u8],
+    line: &Line,
+    twin: Twin,
+    second: bool,
+    letter: u8,
+) -> Twin {
+    if letter == b'p' || letter == b'-' {
+        return twin;
+    }
+    act(mem, journal, line, twin, second, letter)
+}
+
 fn act_all(mem: &mut [u8], journal: &mut [u8], line: &Line) {
     let mut twin = line::twin(line);
     let mut second = false;
     let mut i: usize = 0;
     while i < 8 {
         let letter = line[OPERATIONS + i];
-        if letter == b'p' {
-            second = true;
-        } else if letter != b'-' {
-            twin = act(mem, journal, line, twin, second, letter);
-        }
+        second = second | (letter == b'p');
+        twin = turn(mem, journal, line, twin, second, letter);
         i += 1;
     }
 }
