@@ -180,6 +180,22 @@ pub enum Reason {
     Allowance,
 }
 
+/// How many bytes of memory a call read and wrote, as its instruction is defined: no dead cycles, and writes to devices and above `ram_top`
+/// too.
+#[derive(Clone, Copy, Debug, Default, PartialEq, Eq)]
+pub struct Traffic {
+    /// bytes read
+    pub reads: u64,
+    /// bytes written
+    pub writes: u64,
+}
+
+impl Traffic {
+    fn of(o: &raw::Outcome) -> Traffic {
+        Traffic { reads: o.reads, writes: o.writes }
+    }
+}
+
 /// How a run with an allowance ended.
 #[derive(Clone, Copy, Debug, PartialEq, Eq)]
 pub struct Stopped {
@@ -221,6 +237,7 @@ pub struct Twin {
     memory: Box<[u8; MEMORY]>,
     journal: Vec<u8>,
     state: raw::Twin,
+    traffic: Traffic,
     /// What the calls are made with. It may be changed between them.
     pub settings: Settings,
 }
@@ -233,7 +250,13 @@ impl Twin {
         let (abi, state) = unsafe { (raw::doorhawser_abi(), raw::doorhawser_start()) };
         assert_eq!(abi, raw::ABI, "the library is not the one that these declarations are of");
         let memory = vec![0; MEMORY].into_boxed_slice().try_into().expect("as many bytes");
-        Twin { memory, journal: vec![0; records.checked_mul(RECORD).expect("a journal that can be")], state, settings }
+        Twin { memory, journal: vec![0; records.checked_mul(RECORD).expect("a journal that can be")], state, traffic: Traffic::default(), settings }
+    }
+
+    /// What the last call read and wrote: nothing where it was refused, and nothing of an undo. Of [`Twin::run_recorded`] it is what all its
+    /// steps did, of [`Twin::run`] what the last one did.
+    pub fn traffic(&self) -> Traffic {
+        self.traffic
     }
 
     /// The registers.
@@ -310,6 +333,7 @@ impl Twin {
 
     fn ended(&mut self, o: raw::Outcome) -> Result<DeviceWrites, Refused> {
         self.state = o.twin;
+        self.traffic = Traffic::of(&o);
         if o.answer == 0 {
             Ok(DeviceWrites::of(&o))
         } else {
@@ -357,6 +381,7 @@ impl Twin {
         // Safety: as in `recorded`.
         let r = unsafe { raw::doorhawser_run(m, MEMORY, j, n, self.state, self.settings.raw(), allowance, stop) };
         self.state = r.outcome.twin;
+        self.traffic = Traffic::of(&r.outcome);
         let reason = match r.reason {
             1 => Reason::StepRefused(Refused(r.number)),
             2 => Reason::Waits,

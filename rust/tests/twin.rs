@@ -270,3 +270,26 @@ fn the_layout_is_the_headers() {
     let s = raw::Salvaged { bytes: 0, numbers: 0, added: 0, answer: 0 };
     assert_eq!(at!(s, bytes, numbers, added, answer), [0, 8, 16, 24]);
 }
+
+// LDX #1234 has three program bytes; CLR 5000 three, and its operand, which it writes; PSHS of all two, and twelve writes.
+#[test]
+fn a_call_tells_what_it_read_and_wrote() {
+    let mut twin = Twin::new(Settings::new(0x7FFF, Flags::Manual), 8);
+    twin.memory_mut()[..8].copy_from_slice(&[0x8E, 0x12, 0x34, 0x7F, 0x50, 0x00, 0x34, 0xFF]);
+    let told = |twin: &Twin| (twin.traffic().reads, twin.traffic().writes);
+    twin.step().unwrap();
+    assert_eq!(told(&twin), (3, 0));
+    twin.step().unwrap();
+    assert_eq!(told(&twin), (4, 1));
+    assert!(twin.step().is_err(), "S is 0000");
+    assert_eq!(told(&twin), (0, 0));
+    let mut r = twin.registers();
+    r.s = 0x4000;
+    twin.set_registers(r);
+    twin.step().unwrap();
+    assert_eq!(told(&twin), (2, 12));
+    twin.undo().unwrap();
+    assert_eq!(told(&twin), (0, 0));
+    twin.reset().unwrap();
+    assert_eq!(told(&twin), (2, 0));
+}

@@ -97,7 +97,7 @@ static void make(char letter, const char *words) {
         if (end == words) fail("too few numbers");
         words = end;
     }
-    doorhawser_settings s = {(uint16_t)v[0], (uint8_t)v[1], (uint8_t)v[2]};
+    doorhawser_settings s = {(uint16_t)v[0], (uint8_t)v[1], (uint8_t)v[2], DOORHAWSER_ALL_ALLOWED};
     doorhawser_twin t = {v[3], v[4], v[5], v[6], (uint16_t)v[7], (uint16_t)v[8], (uint16_t)v[9], (uint16_t)v[10], (uint16_t)v[11],
                          (uint8_t)v[12], (uint8_t)v[13], (uint8_t)v[14], (uint8_t)v[15], (uint8_t)v[16], (uint8_t)v[17]};
     if (letter == 'g') {
