@@ -1,7 +1,7 @@
 /* Doorhawser: the proved MC6809 twin, for hosts in C and C++ on x86-64 Linux.
  *
- * Link target/staticlib/libdoorhawser.a, which `tools/host build` makes. It calls one function that it does not bring along, memset, which
- * compilers expect also where there is no C library; it needs no library besides. It takes no heap, starts no thread, keeps nothing between
+ * Link target/staticlib/libdoorhawser.a, which `tools/host build` makes. It calls two functions that it does not bring along, memset and
+ * memcpy, which compilers expect also where there is no C library; it needs no library besides. It takes no heap, starts no thread, keeps nothing between
  * calls and prints nothing. A call is a function of what it is given, so twins are independent, and calls may run on as many threads as
  * wanted as long as no two of them are lent one buffer at a time.
  *
