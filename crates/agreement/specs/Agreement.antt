@@ -18,9 +18,9 @@ Agree n ps r First Second =
     (κs : Lfts n) (a : Dens κs ps) (x y : resT r κs .Denot) (ws vs : Lasts (endedOf n ps r) κs a)
     → First κs a x (atExit (endedOf n ps r) κs a ws) → Second κs a y (atExit (endedOf n ps r) κs a vs) → (x ≡ y) × (ws ≡ vs)
 
--- The result is a plan, a report or an outcome: the answer, the registers, the wait state, the mark, the counters, the bytes read and written, the counts of the journal
--- and the device writes. Behind the `&mut` are memory and the journal. Interrupt, reset, undo, the newest record and drop are not named by
--- themselves: they are the same functions
+-- The result is a plan, a report or an outcome: the answer, the registers, the wait state, the mark, the counters, the numbers of bytes read and
+-- written, the counts of the journal and the device writes. Behind the `&mut` are memory and the journal. Interrupt, reset, undo, the newest
+-- record and drop are not named by themselves: they are the same functions
 pub record EnginesAgree : Type 0 where
   pub plan : Agree 1 calls.plan_step.Kinds.ps calls.plan_step.Kinds.r calls.plan_step.Reads.Post training.plan_step.Reads.Post
   pub step : Agree 1 calls.step.Kinds.ps calls.step.Kinds.r calls.step.Reads.Post training.step.Reads.Post

@@ -1,14 +1,11 @@
 -- The fence (document 02, [14]): a profile of eight address ranges, given with the settings, outside which no byte may be stored.
 -- Assumes nothing.
 use Prim.Native.Nat.{ℕ}
-use mathlib.Core.Bool.{Bool, true, false, not, cond, _||_}
+use mathlib.Core.Bool.{Bool, true, false, not, _||_}
 use mathlib.Core.List.{List, [], _∷_}
 use mathlib.Core.Logic.{_↔_}
 use mathlib.Core.Path.{_≡_}
 use lib.ListN.{getD, replicate}
-use Rattle.answers.specs.declared.Answer.{Answer}
-use Rattle.answers.specs.declared.Answer.the-variants.{Done, Refused}
-use Rattle.answers.specs.declared.Refusal.the-variants.{Fenced}
 use Rattle.memory.specs.Laws.{InMap}
 use Rattle.memory.specs.Map.{within, landingOf}
 use Rattle.memory.specs.Writes.{stored}
@@ -40,11 +37,6 @@ barred rs top (w ∷ ws) = barredAt rs (landingOf (w .at) top (w .system)) || ba
 
 abbrev pub bars : Settings → List Write → Bool
 bars s ws = barred (s .profile) (s .«ram_top») ws
-
--- 28: an effect that passes all else is refused where its writes are barred
-abbrev pub judged : Settings → List Write → Answer → Answer
-judged s ws Done = cond (bars s ws) (Refused Fenced) Done
-judged s ws (Refused x) = Refused x
 
 -- ---- laws
 

@@ -18,7 +18,7 @@ use Rattle.registers.specs.declared.Set.{Set}
 use Rattle.memory.specs.Map.{byteAt}
 use Rattle.memory.specs.Writes.{listed}
 use Rattle.memory.specs.declared.writes.Write.{Write}
-use Rattle.machine.specs.Fence.{barred, bars, judged}
+use Rattle.machine.specs.Fence.{barred, bars}
 use Rattle.machine.specs.declared.Settings.{Settings}
 use Rattle.opcodes.specs.declared.MemoryOp.{MemoryOp}
 use Rattle.opcodes.specs.declared.MemoryOp.the-variants.{OnMemory, Store8, Store16, Bsr, Jsr, Rts, Rti, Swi, Cwai, Sync, Push, Pull}
@@ -91,8 +91,13 @@ by-9 n false false false false h e = rw e is-0
 by-9 n false true false z h e = absurd (true≢false (h refl))
 by-9 n false false true z h e = absurd (true≢false (sym (h refl)))
 
--- the number once the fence has judged
-pub judged-number : (s : Settings) (ws : List Write) (a : Answer) → numberOfAnswer (judged s ws a) ≡ then28 (numberOfAnswer a) (bars s ws)
+-- an answer once the fence has judged the writes: 28 where they are barred, and an earlier refusal stays
+abbrev pub fencedAnswer : Settings → List Write → Answer → Answer
+fencedAnswer s ws Done = cond (bars s ws) (Turned Fenced) Done
+fencedAnswer s ws (Turned x) = Turned x
+
+-- its number
+pub judged-number : (s : Settings) (ws : List Write) (a : Answer) → numberOfAnswer (fencedAnswer s ws a) ≡ then28 (numberOfAnswer a) (bars s ws)
 judged-number s ws Done = go (bars s ws)
   where
     go : (b : Bool) → numberOfAnswer (cond b (Turned Fenced) Done) ≡ cond b 28 0
@@ -117,7 +122,7 @@ changed-number r (Refused x) = refl
 module _ (s : Settings) (mem : List ℕ) (r : Set) (ea : ℕ) where
   -- the number of an operation, with the fence
   abbrev pub numberWith : Op → ℕ
-  numberWith op = numberOfAnswer (judged s (madeBy op s mem r ea) (evaluateOf op s mem r ea .answer))
+  numberWith op = numberOfAnswer (fencedAnswer s (madeBy op s mem r ea) (evaluateOf op s mem r ea .answer))
 
   Right : Op → Type 0
   Right op = Numbered (numberWith op) (codeRefused op mem ea) (isSmall op r (byteAt mem ea)) (leadsToZero op s mem r) (isFenced op s mem r ea)

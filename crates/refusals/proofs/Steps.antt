@@ -19,7 +19,7 @@ use Rattle.registers.specs.declared.Set.{Set}
 use Rattle.memory.specs.Map.{byteAt}
 use Rattle.memory.specs.Writes.{listed}
 use Rattle.memory.specs.declared.writes.Write.{Write}
-use Rattle.machine.specs.Fence.{barred, bars, judged}
+use Rattle.machine.specs.Fence.{barred, bars}
 use Rattle.machine.specs.declared.Effect.{Effect}
 use Rattle.machine.specs.declared.Machine.{Machine}
 use Rattle.machine.specs.declared.Settings.{Settings}
@@ -51,7 +51,7 @@ use Rattle.calls.specs.declared.Plan.{Plan}
 use Rattle.calls.specs.Steps.{Reached, At, NotReached, addressed, ofDecoded, decodedTo, unlessWaiting, reached, finishedAs, finished, planned, stepPlan}
 use Rattle.refusals.specs.Operations.{isFenced, leadsToZero}
 use Rattle.refusals.specs.Steps.{Runs, NextPast, Met, StepsRefused}
-use Rattle.refusals.proofs.Operations.{numberWith, operation-number}
+use Rattle.refusals.proofs.Operations.{fencedAnswer, numberWith, operation-number}
 
 -- ---- the numbers of the parts
 
@@ -67,7 +67,7 @@ whole mem s (NotReached x) = numberOf x
 
 -- a plan that is made of an effect, once the fence has judged it; made are the writes of the effect where it is carried out
 done : (s : Settings) (m : Machine) (cycles reads : ℕ) (mark : Bool) (e : Effect) (made : List Write) → (e .answer ≡ Done → listed (e .writes) ≡ made)
-    → numberOfAnswer (fenced s m (finished m cycles mark reads e) .answer) ≡ numberOfAnswer (judged s made (e .answer))
+    → numberOfAnswer (fenced s m (finished m cycles mark reads e) .answer) ≡ numberOfAnswer (fencedAnswer s made (e .answer))
 unfolding finished barred
 done s m cycles reads mark e made h = go (e .answer) h
   where
@@ -75,7 +75,7 @@ done s m cycles reads mark e made h = go (e .answer) h
     through true p d = refl
     through false p d = ap numberOfAnswer d
 
-    go : (a : Answer) → (a ≡ Done → listed (e .writes) ≡ made) → numberOfAnswer (fenced s m (finishedAs a m cycles mark reads e) .answer) ≡ numberOfAnswer (judged s made a)
+    go : (a : Answer) → (a ≡ Done → listed (e .writes) ≡ made) → numberOfAnswer (fenced s m (finishedAs a m cycles mark reads e) .answer) ≡ numberOfAnswer (fencedAnswer s made a)
     go Done k = rw (k refl) (through (bars s made) _ refl)
     go (Refused x) k = refl
 

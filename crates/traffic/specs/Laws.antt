@@ -20,12 +20,12 @@ use Rattle.traffic.specs.Counts.{readsOf, readCount, writeCount, countsO
 -- ---- what is reported
 
 -- a call reports as many reads as it has addresses, and as many writes as its list has
-pub record Reported (c : Call) (mem : List ℕ) (m : Machine) : Type 0 where
+pub record ReportsCounts (c : Call) (mem : List ℕ) (m : Machine) : Type 0 where
   pub reads : carriedOut (settingsIn c) (planOf c mem m) .reads ≡ readCount c mem m
   pub writes : carriedOut (settingsIn c) (planOf c mem m) .writes ≡ writeCount c mem m
 
 abbrev pub CountsReported : Type 0
-CountsReported = (c : Call) (mem : List ℕ) (m : Machine) → Reported c mem m
+CountsReported = (c : Call) (mem : List ℕ) (m : Machine) → ReportsCounts c mem m
 
 -- ---- counts mean accesses
 
