@@ -1,4 +1,6 @@
 // The effective address of a decoded operand (process_addressing_mode of runtime.rs, without its decoding).
+#![tactic(auto)]
+
 ghost use Rattle.std.specs.Prelude.{◌≡◌};
 ghost use Rattle.addressing.specs.Address.{at_address, offset_from, incremented, decremented, program_relative, indexed_before, through_pointer, indexed_address, effective_of, advanced, resolved_of};
 
@@ -7,13 +9,13 @@ use decode::{Form, Indexed, Operand};
 use registers::{Set, Word};
 
 // The registers with the index register changed, and the effective address.
-#[derive(Drop)]
+#[derive(Clone, Copy)]
 pub struct Addressed {
     pub regs: Set,
     pub ea: u16,
 }
 
-#[derive(Drop)]
+#[derive(Clone, Copy)]
 pub enum Resolved {
     At(Addressed),
     Refused(Refusal),

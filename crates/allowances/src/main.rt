@@ -1,5 +1,7 @@
 // Plays the scenes of standard input: a run with an allowance, or two of them, and undos; prints how each ends (README.md has the lines and
 // the rules). `tools/model/allowances.py` gives it random ones.
+#![tactic(auto)]
+
 mod line;
 mod printed;
 mod scene;

@@ -11,7 +11,7 @@ use runs::RunOutcome;
 const OUT: usize = 125;
 
 // What a line is made of: the reason's digit or U, the number beside it, the device writes, the twin and two counts.
-#[derive(Drop)]
+#[derive(Clone, Copy)]
 pub struct Shown {
     pub letter: u8,
     pub number: u8,

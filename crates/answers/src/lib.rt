@@ -1,9 +1,11 @@
 // The numbers that a call returns: one refusal for each number of document 01's table and document 02's requests.
+#![tactic(auto)]
+
 ghost use Rattle.std.specs.Prelude.{◌≡◌};
 ghost use Rattle.answers.specs.Numbers.{number_of, number_of_answer};
 
 // Why a call is refused.
-#[derive(Drop)]
+#[derive(Clone, Copy)]
 pub enum Refusal {
     MemoryLength,
     Waiting,
@@ -33,7 +35,7 @@ pub enum Refusal {
     SalvageShort,
 }
 
-#[derive(Drop)]
+#[derive(Clone, Copy)]
 pub enum Answer {
     Done,
     Refused(Refusal),

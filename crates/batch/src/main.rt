@@ -1,5 +1,7 @@
 // Answers the inputs of standard input, each by its letter: a run file is played, an S-record file is booted, or read and written again
 // (README.md has the form of both).
+#![tactic(auto)]
+
 mod limits;
 mod printed;
 

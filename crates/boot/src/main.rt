@@ -1,5 +1,7 @@
 // The boot program: reads a head and an S-record file from standard input, loads the file, resets the machine, makes so many steps, and
 // prints a line for the reset and for each step. What it prints is `boot_printed` of what it read (`player::boot`).
+#![tactic(auto)]
+
 ghost use Rattle.std.specs.Prelude.{◌≡◌, ◌*◌, ◌≤◌, length};
 
 use libc::{STDIN_FILENO, STDOUT_FILENO};

@@ -1,5 +1,7 @@
 // Which bytes an instruction reads: specs/Reads.antt has their addresses, a clause for each operation. Here is how many they are, part by part
 // (specs/Sums.antt); the program's own bytes are counted where its next address is known.
+#![tactic(auto)]
+
 ghost use Rattle.std.specs.Prelude.{◌≡◌};
 ghost use Rattle.bus.specs.Reads.{registers_take, memory_takes};
 ghost use Rattle.bus.specs.Sums.{pointer_count, operand_count, return_count, memory_count};

@@ -23,7 +23,7 @@ use registers::{Set, Stack, Word};
 
 // Refused by `refusal`; `regs` alone change; a byte or a word `value` is stored at `at`; the registers of `mask` are pushed on `own`, where
 // there is room; or none of these, and `op` at `at` is left to be evaluated.
-#[derive(Drop)]
+#[derive(Clone, Copy)]
 pub enum Kind {
     Refused,
     Change,
@@ -34,7 +34,7 @@ pub enum Kind {
 }
 
 // Fields that its kind does not name say nothing. There is no enum with values in its place: the compiler would pack and unpack them.
-#[derive(Drop)]
+#[derive(Clone, Copy)]
 pub struct Decision {
     pub regs: Set,
     pub cycles: u16,

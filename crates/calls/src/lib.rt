@@ -1,6 +1,8 @@
 // The calls on a machine: step, interrupt and reset (exec_next, start_interrupt, stack_for_interrupt and reset of runtime.rs).
 // Each call makes a plan first, which reads memory and changes nothing, so that a refusal has nothing to take back. Then the plan is
 // carried out.
+#![tactic(auto)]
+
 mod decisions;
 mod interrupts;
 mod plain;
@@ -18,7 +20,7 @@ pub use resets::{plan_reset, reset};
 pub use steps::{carry, fence, finish, plan_of, plan_step, step};
 
 // What a call will do: the bytes to write, the machine after it, how many bytes it reads, and its answer.
-#[derive(Drop)]
+#[derive(Clone, Copy)]
 pub struct Plan {
     pub writes: Writes,
     pub machine: Machine,
@@ -27,7 +29,7 @@ pub struct Plan {
 }
 
 // What a call did: the device writes that it reports, the machine after it, how many bytes it read and wrote, and its answer.
-#[derive(Drop)]
+#[derive(Clone, Copy)]
 pub struct Report {
     pub devices: Writes,
     pub machine: Machine,
@@ -37,7 +39,7 @@ pub struct Report {
 }
 
 // The hardware interrupts.
-#[derive(Drop)]
+#[derive(Clone, Copy)]
 pub enum InterruptType {
     Irq,
     Firq,

@@ -2,7 +2,7 @@
 use u8oru16::u8u16;
 
 // The number of a function, and the four words after it.
-#[derive(Drop)]
+#[derive(Clone, Copy)]
 pub struct Case {
     pub function: u16,
     pub w1: u16,
@@ -12,7 +12,7 @@ pub struct Case {
 }
 
 // The answer's number, and the three words of the result.
-#[derive(Drop)]
+#[derive(Clone, Copy)]
 pub struct Words {
     pub number: u16,
     pub r1: u16,
@@ -20,7 +20,7 @@ pub struct Words {
     pub r3: u16,
 }
 
-#[derive(Drop)]
+#[derive(Clone, Copy)]
 pub enum Reply {
     Done(Words),
     BadCase,

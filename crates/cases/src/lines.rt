@@ -13,7 +13,7 @@ pub const ROOM: usize = 1024 * 20;
 pub type Lines = [u8; BLOCK];
 
 // What a line reads as.
-#[derive(Drop)]
+#[derive(Clone, Copy)]
 pub enum Reading {
     Case(Case),
     Malformed,

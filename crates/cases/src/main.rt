@@ -1,4 +1,6 @@
 // Answers the case lines of standard input with this repository's functions (tools/compare/README.md has the lines and the table).
+#![tactic(auto)]
+
 mod addresses;
 mod arithmetic;
 mod case;

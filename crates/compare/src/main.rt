@@ -1,5 +1,7 @@
 // The compare program: reads two dumps from standard input, one after the other, and prints what differs between them, a line for each
 // difference. What it prints is `told` of what it read (`dump::tell`).
+#![tactic(auto)]
+
 ghost use Rattle.std.specs.Prelude.{◌≡◌, ◌+◌, ◌*◌, ◌≤◌, length};
 
 use libc::{STDIN_FILENO, STDOUT_FILENO};

@@ -1,5 +1,7 @@
 // Runs a loop so many recorded steps, so that what they execute can be counted (`tools/bench`, docs/PERFORMANCE.md). The letter of its
 // input is R for steps that stay, B for steps that are each taken back. It prints the low bytes of cycles and of the count of records.
+#![tactic(auto)]
+
 ghost use Rattle.std.specs.Prelude.{◌<◌};
 
 use costing::Memory;

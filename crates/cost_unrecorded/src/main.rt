@@ -1,5 +1,7 @@
 // Runs a loop so many steps that are not recorded, so that what they execute can be counted (`tools/bench`, docs/PERFORMANCE.md). It is a
 // program of its own: with a second call of a step in a program the compiler builds the step in at neither.
+#![tactic(auto)]
+
 use costing::Memory;
 use libc::{STDIN_FILENO, STDOUT_FILENO};
 use machine::Machine;

@@ -1,6 +1,8 @@
 // What the programs `cost` and `cost_unrecorded` share: the loop that is run, and where it starts. `tools/bench` counts what they execute.
 // Their standard input is a letter, the count of steps in four bytes, the count of records after which the journal is emptied in two, high
 // byte first, and memory from 1000 on.
+#![tactic(auto)]
+
 ghost use Rattle.std.specs.Prelude.{◌<◌};
 
 use machine::{Machine, Settings};

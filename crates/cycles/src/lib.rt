@@ -1,4 +1,6 @@
 // What a step costs in cycles: the base figure of the opcode table, and what the manual adds to it.
+#![tactic(auto)]
+
 ghost use Rattle.std.specs.Prelude.{◌≡◌, ◌+◌};
 ghost use Rattle.cycles.specs.Cycles.{form_extra, operand_extra, branch_extra, registers_extra, return_extra, memory_extra};
 

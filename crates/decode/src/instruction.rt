@@ -10,21 +10,21 @@ use answers::Refusal;
 use opcodes::{Entry, Page, Place};
 
 // `next` may be 10000.
-#[derive(Drop)]
+#[derive(Clone, Copy)]
 pub struct Instruction {
     pub entry: Entry,
     pub operand: Operand,
     pub next: u32,
 }
 
-#[derive(Drop)]
+#[derive(Clone, Copy)]
 pub enum Decoded {
     Instruction(Instruction),
     Refused(Refusal),
 }
 
 // An opcode's place in the map, and the address after it.
-#[derive(Drop)]
+#[derive(Clone, Copy)]
 enum Located {
     At(Page, u8, u32),
     Refused(Refusal),

@@ -1,4 +1,6 @@
 // Decoding: the bytes at PC to an instruction or a refusal. No register and no pointer is read.
+#![tactic(auto)]
+
 mod instruction;
 mod operand;
 mod postbyte;

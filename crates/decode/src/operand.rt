@@ -11,7 +11,7 @@ use answers::Refusal;
 use opcodes::Mode;
 use u8oru16::u8u16;
 
-#[derive(Drop)]
+#[derive(Clone, Copy)]
 pub struct Indexed {
     pub offset: u16,
     pub post: u8,
@@ -19,7 +19,7 @@ pub struct Indexed {
 }
 
 // An immediate operand's own address, the low byte of a direct address, an offset with its sign.
-#[derive(Drop)]
+#[derive(Clone, Copy)]
 pub enum Operand {
     Inherent,
     Immediate(u16),
@@ -30,7 +30,7 @@ pub enum Operand {
 }
 
 // The operand and the address after it, which may be 10000.
-#[derive(Drop)]
+#[derive(Clone, Copy)]
 pub enum OperandRead {
     Operand(Operand, u32),
     Refused(Refusal),

@@ -6,7 +6,7 @@ use answers::Refusal;
 use registers::Index;
 
 // The manual's table of indexed addressing modes.
-#[derive(Drop)]
+#[derive(Clone, Copy)]
 pub enum Form {
     Offset5,
     Increment1,
@@ -25,7 +25,7 @@ pub enum Form {
 }
 
 // A post-byte is a form or a refusal.
-#[derive(Drop)]
+#[derive(Clone, Copy)]
 pub enum PostByte {
     Form(Form),
     Refused(Refusal),

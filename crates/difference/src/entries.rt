@@ -9,7 +9,7 @@ pub const ENTRY: usize = 17;
 // What a run of memory is; below it are the machine's fields.
 pub const RUN: u8 = 13;
 
-#[derive(Drop)]
+#[derive(Clone, Copy)]
 pub struct Entry {
     pub left: u64,
     pub right: u64,

@@ -1,5 +1,7 @@
 // Where two machines with their memories differ: a list of entries, the machine's fields in the record's order and then the runs of memory.
 // The layout is in docs/COMPARE.md.
+#![tactic(auto)]
+
 mod entries;
 mod fields;
 mod runs;
@@ -12,7 +14,7 @@ pub use entries::{ENTRY, Entry, RUN, entry_at};
 use machine::Machine;
 
 // How many entries are in the list.
-#[derive(Drop)]
+#[derive(Clone, Copy)]
 pub struct Compared {
     pub count: usize,
     pub answer: Answer,

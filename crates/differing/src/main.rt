@@ -1,5 +1,7 @@
 // Scenes of two machines with their memories, worked out by hand (README.md). A scene prints a letter, the answer in decimal and the count of
 // entries, then some of its entries: what, left and right.
+#![tactic(auto)]
+
 use libc::STDOUT_FILENO;
 use machine::{Machine, Wait};
 use registers::{CCBits, Set};

@@ -1,4 +1,6 @@
 // The text of one instruction (document 02, request [7]). docs/DISASSEMBLY.md has the layout of the line.
+#![tactic(auto)]
+
 mod figures;
 mod line;
 mod names;
@@ -17,7 +19,7 @@ use opcodes::Op;
 use operands::{names_two, put_operand};
 
 // How many bytes the instruction has, 1 to 5.
-#[derive(Drop)]
+#[derive(Clone, Copy)]
 pub enum Disassembled {
     Line(u16),
     Refused(Refusal),

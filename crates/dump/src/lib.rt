@@ -1,5 +1,7 @@
 // Dumps: a machine with its memory as bytes, written and read; and what differs between two of them, in words.
 // The layout is in docs/COMPARE.md.
+#![tactic(auto)]
+
 mod lines;
 mod tells;
 
@@ -16,13 +18,13 @@ const MEMORY: usize = 0x10000;
 pub const DUMP: usize = HEADER + MEMORY;
 
 // How many bytes of the output are written.
-#[derive(Drop)]
+#[derive(Clone, Copy)]
 pub struct Dumped {
     pub count: usize,
     pub answer: Answer,
 }
 
-#[derive(Drop)]
+#[derive(Clone, Copy)]
 pub struct Undumped {
     pub machine: Machine,
     pub answer: Answer,

@@ -1,5 +1,7 @@
 // What each operation does, worked out in whole numbers: the evaluators of the second engine.
 // The registers come with PC at the next instruction and the index register changed; `ea` is the effective address.
+#![tactic(auto)]
+
 mod bytes;
 mod jumps;
 mod named;

@@ -1,5 +1,7 @@
 // What an instruction does: chooses the function of its operation, in `operations`, `stack` or `vectors`.
 // The registers come with PC at the next instruction and the index register changed; `ea` is the effective address.
+#![tactic(auto)]
+
 mod arms;
 
 ghost use Rattle.std.specs.Prelude.{◌≡◌};

@@ -7,7 +7,7 @@ use machine::Settings;
 use memory::Writes;
 
 // What a call leaves: the device writes, the twin, and the number.
-#[derive(Drop)]
+#[derive(Clone, Copy)]
 pub struct Called {
     pub devices: Writes,
     pub twin: Twin,

@@ -1,5 +1,7 @@
 // Plays the scenes of standard input: calls on a twin with a fence, and a line for each (README.md has the lines and the rules).
 // `tools/model/fences.py` gives it random ones.
+#![tactic(auto)]
+
 mod calling;
 mod line;
 mod printed;

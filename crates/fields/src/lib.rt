@@ -9,6 +9,8 @@
 //   rows 6, 7    one operand in memory, indexed or extended
 //   rows 8 to F  a register and an operand              bit 6 chooses the register, bits 5 and 4 the mode, the column the operation
 // After a byte 10 or 11 stand the long branches (row 2), SWI2 and SWI3 (row 3), and operations on other words (rows 8 to F).
+#![tactic(auto)]
+
 mod bits;
 mod branches;
 mod entries;

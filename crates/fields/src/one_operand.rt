@@ -6,7 +6,7 @@ use super::entries::entry_at;
 use opcodes::{Acc, MemoryOp, Mode, Op, Page, Place, RegisterOp, Unary};
 
 // What a column of these rows stands for. TST looks at its operand, and JMP goes to its address.
-#[derive(Drop)]
+#[derive(Clone, Copy)]
 pub enum OneOperand {
     Change(Unary),
     Test,

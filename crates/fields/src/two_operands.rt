@@ -8,7 +8,7 @@ use super::words;
 use opcodes::{Acc, Alu, MemoryOp, Mode, Op, Page, Place, RegisterOp};
 
 // What a column stands for: an operation of the accumulator and a byte, its store, or an operation on a word.
-#[derive(Drop)]
+#[derive(Clone, Copy)]
 pub enum TwoOperands {
     Byte(Alu),
     Store,

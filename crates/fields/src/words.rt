@@ -9,7 +9,7 @@ use opcodes::{MemoryOp, Mode, Op, Page, Place, RegisterOp};
 use registers::Word;
 
 // What a column stands for: a sum, difference or comparison; a load; a store; BSR or JSR.
-#[derive(Drop)]
+#[derive(Clone, Copy)]
 pub enum WordOp {
     Arithmetic(RegisterOp),
     Load(Word),

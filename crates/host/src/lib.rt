@@ -1,5 +1,7 @@
 // The twin as a host in another language has it: structs of numbers laid out as C's, and how each is made of the twin's own.
 // `include/doorhawser.h` declares the same structs. Numbers that name nothing are refused before anything else is judged.
+#![tactic(auto)]
+
 ghost use Rattle.std.specs.Prelude.{◌≡◌, map};
 ghost use Rattle.machine.specs.Record.{wait_byte, wait_of, mark_byte, mark_of};
 ghost use Rattle.host.specs.Numbers.{flags_of, interrupt_type_of, is_twin, is_settings, is_named, is_interrupt};
@@ -17,7 +19,7 @@ const UNNAMED: u64 = 64;
 
 // A range of the profile: first to last, both included; empty where first is above last.
 #[repr(C)]
-#[derive(Drop)]
+#[derive(Clone, Copy)]
 pub struct HostRange {
     pub first: u16,
     pub last: u16,
@@ -25,7 +27,7 @@ pub struct HostRange {
 
 // `flags` is 0 as bought, 1 by the manual; `spare` is 0. Outside the eight ranges nothing may be stored.
 #[repr(C)]
-#[derive(Drop)]
+#[derive(Clone, Copy)]
 pub struct HostSettings {
     pub ram_top: u16,
     pub flags: u8,
@@ -36,7 +38,7 @@ pub struct HostSettings {
 // A machine, how many records its journal holds and how many bytes they use: 48 bytes, no gap, the registers in the order of `Set`. `wait`
 // is 0 running, 1 CWAI, 2 SYNC; `armed` is 1 once S is loaded, else 0.
 #[repr(C)]
-#[derive(Drop)]
+#[derive(Clone, Copy)]
 pub struct HostTwin {
     pub cycles: u64,
     pub instructions: u64,
@@ -57,7 +59,7 @@ pub struct HostTwin {
 
 // A device write.
 #[repr(C)]
-#[derive(Drop)]
+#[derive(Clone, Copy)]
 pub struct HostWrite {
     pub at: u16,
     pub byte: u8,
@@ -67,7 +69,7 @@ pub struct HostWrite {
 // What a call returns: the twin after it, the device writes that it reports, of which the first `count` are, and its number.
 // `reads` and `writes` are the bytes of memory that the call read and wrote.
 #[repr(C)]
-#[derive(Drop)]
+#[derive(Clone, Copy)]
 pub struct HostOutcome {
     pub twin: HostTwin,
     pub devices: [HostWrite; 12],

@@ -1,4 +1,6 @@
 // The calls of a host that are not steps: start, interrupt, reset, undo, drop, the newest record, and S-records, torn ones too.
+#![tactic(auto)]
+
 ghost use Rattle.std.specs.Prelude.{◌≡◌, length};
 ghost use Rattle.journal.specs.Recorded.{fresh_twin, interrupted, was_reset};
 ghost use Rattle.journal.specs.Undos.{undone};
@@ -21,21 +23,21 @@ const ABI: u64 = 4;
 
 // `count` bytes of the journal from `at` on; 0 bytes where there is no record.
 #[repr(C)]
-#[derive(Drop)]
+#[derive(Clone, Copy)]
 pub struct HostPart {
     pub at: usize,
     pub count: usize,
 }
 
 #[repr(C)]
-#[derive(Drop)]
+#[derive(Clone, Copy)]
 pub struct HostLoaded {
     pub start: u64,
     pub answer: u64,
 }
 
 #[repr(C)]
-#[derive(Drop)]
+#[derive(Clone, Copy)]
 pub struct HostWritten {
     pub count: usize,
     pub answer: u64,
@@ -43,7 +45,7 @@ pub struct HostWritten {
 
 // `added` is 1 where S9 was added, else 0.
 #[repr(C)]
-#[derive(Drop)]
+#[derive(Clone, Copy)]
 pub struct HostSalvaged {
     pub bytes: usize,
     pub numbers: usize,

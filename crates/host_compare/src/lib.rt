@@ -1,4 +1,6 @@
 // For hosts in C and Rust: dumps, and what differs between two twins.
+#![tactic(auto)]
+
 ghost use Rattle.std.specs.Prelude.{cond, ◌&&◌, ◌≡◌};
 ghost use Rattle.difference.specs.Compare.{compared, list_after};
 ghost use Rattle.dump.specs.Dumps.{dumped, output_dumped, undumped, memory_undumped};
@@ -11,14 +13,14 @@ use journal::Twin;
 
 // How many bytes, or entries, are written.
 #[repr(C)]
-#[derive(Drop)]
+#[derive(Clone, Copy)]
 pub struct HostCounted {
     pub count: usize,
     pub answer: u64,
 }
 
 #[repr(C)]
-#[derive(Drop)]
+#[derive(Clone, Copy)]
 pub struct HostUndumped {
     pub twin: HostTwin,
     pub answer: u64,

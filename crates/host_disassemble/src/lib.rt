@@ -1,4 +1,6 @@
 // For hosts in C and Rust: the text of one instruction.
+#![tactic(auto)]
+
 ghost use Rattle.std.specs.Prelude.{◌≡◌, length};
 ghost use Rattle.disassembly.specs.Disassembly.{disassembled_of, line_after};
 ghost use Rattle.host_disassemble.specs.Results.{host_line};
@@ -7,7 +9,7 @@ use disassembly::Disassembled;
 
 // How many bytes the instruction has, 0 where it is refused.
 #[repr(C)]
-#[derive(Drop)]
+#[derive(Clone, Copy)]
 pub struct HostLine {
     pub count: u64,
     pub answer: u64,

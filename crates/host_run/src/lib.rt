@@ -1,4 +1,6 @@
 // Many steps that are not recorded, in one call of a host. It is a crate of its own for the same reason as the recorded step.
+#![tactic(auto)]
+
 ghost use Rattle.std.specs.Prelude.{◌≡◌};
 ghost use Rattle.host.specs.Numbers.{is_named};
 ghost use Rattle.host.specs.Structs.{settings_from, machine_from};
@@ -12,14 +14,14 @@ use memory::Writes;
 
 // How the last step ended, and how many steps are left: those allowed less those carried out.
 #[repr(C)]
-#[derive(Drop)]
+#[derive(Clone, Copy)]
 pub struct HostRan {
     pub last: HostOutcome,
     pub left: u64,
 }
 
 // The same of a machine.
-#[derive(Drop)]
+#[derive(Clone, Copy)]
 pub struct Ran {
     pub last: Report,
     pub left: u64,

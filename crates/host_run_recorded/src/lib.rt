@@ -1,4 +1,6 @@
 // A run of recorded steps with an allowance, in one call of a host. It is a crate of its own for the same reason as the recorded step.
+#![tactic(auto)]
+
 ghost use Rattle.std.specs.Prelude.{◌&&◌, ◌≡◌};
 ghost use Rattle.host.specs.Numbers.{is_named};
 ghost use Rattle.host.specs.Structs.{settings_from};
@@ -16,7 +18,7 @@ const NO_STOP: u32 = 0x10000;
 // What the run returns, with the bytes that its steps read and wrote, why it ended (0 where the host's numbers name nothing), and the refused
 // step's number.
 #[repr(C)]
-#[derive(Drop)]
+#[derive(Clone, Copy)]
 pub struct HostStopped {
     pub outcome: HostOutcome,
     pub reason: u64,

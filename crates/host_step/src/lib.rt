@@ -1,5 +1,7 @@
 // The recorded step for a host. It is a crate of its own, hence an archive of its own: with one call site in its archive the step is
 // compiled into it (docs/PERFORMANCE.md).
+#![tactic(auto)]
+
 ghost use Rattle.journal.specs.Recorded.{stepped};
 ghost use Rattle.host.specs.Numbers.{is_named};
 ghost use Rattle.host.specs.Structs.{settings_from};

@@ -1,4 +1,6 @@
 // The step that is not recorded, for a host. It is a crate of its own for the same reason as the recorded step.
+#![tactic(auto)]
+
 ghost use Rattle.calls.specs.Steps.{step_of, memory_after_step};
 ghost use Rattle.host.specs.Numbers.{is_named};
 ghost use Rattle.host.specs.Structs.{settings_from, machine_from};

@@ -1,5 +1,7 @@
 // A host in Rattle: it calls each function that hosts in C and Rust call, on the firmware of examples/back.txt, and prints a line for each
 // call: its number, PC, CC and cycles. What it prints is worked out by hand (README.md).
+#![tactic(auto)]
+
 mod played;
 
 use host::{HostRange, HostSettings, HostTwin};

@@ -10,7 +10,7 @@ use answers::{Answer, Refusal};
 use memory::Writes;
 
 // Where the walk over the oldest records ends.
-#[derive(Drop)]
+#[derive(Clone, Copy)]
 enum Walked {
     At(usize),
     Broken,

@@ -1,4 +1,6 @@
 // The journal: recorded calls, undo, the newest record, and drop. A record holds the machine and the bytes of memory from before a call.
+#![tactic(auto)]
+
 mod drops;
 mod recorded;
 mod told;
@@ -35,7 +37,7 @@ fn record_length(n: usize) -> usize
 }
 
 // A machine, how many records its journal holds, and how many bytes they use.
-#[derive(Drop)]
+#[derive(Clone, Copy)]
 pub struct Twin {
     pub machine: Machine,
     pub records: usize,
@@ -43,7 +45,7 @@ pub struct Twin {
 }
 
 // What a call returns: the device writes that it reports, the machine and the counts after it, how many bytes it read and wrote, its answer.
-#[derive(Drop)]
+#[derive(Clone, Copy)]
 pub struct Outcome {
     pub devices: Writes,
     pub twin: Twin,
@@ -53,7 +55,7 @@ pub struct Outcome {
 }
 
 // The calls that are recorded.
-#[derive(Drop)]
+#[derive(Clone, Copy)]
 pub enum CallType {
     Step,
     Interrupt(InterruptType),

@@ -228,7 +228,7 @@ pub fn record_plan(
 }
 
 // The calls that come from outside the program. Both are made at one place, which is then not compiled into each loop that makes steps.
-#[derive(Drop)]
+#[derive(Clone, Copy)]
 enum Outside {
     Interrupt(InterruptType),
     Reset,

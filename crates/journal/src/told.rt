@@ -94,7 +94,7 @@ fn save_told(rest: &mut [u8], mem: &[u8], settings: Settings, decision: Decision
 }
 
 // A refusal, or how many entries a record has.
-#[derive(Drop)]
+#[derive(Clone, Copy)]
 enum Counted {
     Refused(Refusal),
     Entries(usize),

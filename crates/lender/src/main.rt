@@ -6,6 +6,8 @@
 // A line for each call: the answer's number, PC, the count of records, and the byte at 0200. What it prints is worked out by
 // hand. NOP is one byte, STA extended three, and each leaves a record. The first undo puts 00 back at 0200, and PC and the count
 // go back with each; the third undo finds no record (11) and leaves all as it stands.
+#![tactic(auto)]
+
 ghost use Rattle.journal.specs.Recorded.{in_hand, stepped};
 ghost use Rattle.journal.specs.Undos.{undone};
 ghost use Rattle.lent.specs.Lending.{Returns};

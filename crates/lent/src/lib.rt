@@ -1,5 +1,7 @@
 // The machine lent by its owner: step and undo on a twin behind a `&mut`, over the recorded calls on values.
 // Each is three lines: every test and every refusal is in the call on values.
+#![tactic(auto)]
+
 ghost use Rattle.journal.specs.Recorded.{in_hand, Typed, stepped};
 ghost use Rattle.journal.specs.Undos.{undone};
 ghost use Rattle.lent.specs.Lending.{Returns, LeavesTwin};
@@ -10,7 +12,7 @@ use machine::Settings;
 use memory::Writes;
 
 // What a call returns once the twin is written back: the device writes that it reports, how many bytes it read and wrote, and its answer.
-#[derive(Drop)]
+#[derive(Clone, Copy)]
 pub struct Reported {
     pub devices: Writes,
     pub reads: u8,
@@ -19,7 +21,7 @@ pub struct Reported {
 }
 
 // The same with the twin, on values.
-#[derive(Drop)]
+#[derive(Clone, Copy)]
 pub struct Returned {
     pub reported: Reported,
     pub twin: Twin,

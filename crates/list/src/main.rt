@@ -1,5 +1,7 @@
 // The listing program: reads a head and an S-record file from standard input, and prints a line for each instruction. What it prints is
 // `list_printed` of what it read (`listing::list`).
+#![tactic(auto)]
+
 ghost use Rattle.std.specs.Prelude.{◌≡◌, ◌*◌, ◌≤◌, length};
 
 use libc::{STDIN_FILENO, STDOUT_FILENO};

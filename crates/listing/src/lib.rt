@@ -1,4 +1,6 @@
 // A listing: firmware in S-records, a line for each instruction.
+#![tactic(auto)]
+
 ghost use Rattle.std.specs.Prelude.{◌≡◌, cond, [], ◌∷◌, ◌++◌, ◌+◌, ◌*◌, ◌≤◌, ◌<◌, length, replicate};
 ghost use Rattle.std.proofs.lemmas.List.Edits.{sets};
 ghost use Rattle.answers.specs.Numbers.{number_of};
@@ -41,7 +43,7 @@ fn word(high: u8, low: u8) -> u16
 }
 
 // A line with its line feed, and the address after what it tells, which may be 10000.
-#[derive(Drop)]
+#[derive(Clone, Copy)]
 struct Told {
     line: [u8; LINE + 1],
     next: u32,

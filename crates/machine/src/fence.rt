@@ -8,7 +8,7 @@ use crate::Settings;
 use memory::{Landing, Writes};
 
 // A range of a profile: first to last, both included. It is empty where first is above last.
-#[derive(Drop)]
+#[derive(Clone, Copy)]
 pub struct Range {
     pub first: u16,
     pub last: u16,

@@ -1,4 +1,6 @@
 // The machine: registers, wait state, armed mark and counters; the settings given with each call; what an instruction does to it.
+#![tactic(auto)]
+
 mod fence;
 mod record;
 
@@ -16,14 +18,14 @@ pub use record::{
 use registers::{Flags, Set};
 
 // Running, or waiting for an interrupt.
-#[derive(Drop)]
+#[derive(Clone, Copy)]
 pub enum Wait {
     Running,
     Cwai,
     Sync,
 }
 
-#[derive(Drop)]
+#[derive(Clone, Copy)]
 pub struct Machine {
     pub cycles: u64,
     pub instructions: u64,
@@ -34,7 +36,7 @@ pub struct Machine {
 }
 
 // Given with each call. The profile is the fence: a call stores only at places that one of its ranges has.
-#[derive(Drop)]
+#[derive(Clone, Copy)]
 pub struct Settings {
     pub ram_top: u16,
     pub profile: [Range; 8],
@@ -42,7 +44,7 @@ pub struct Settings {
 }
 
 // What an instruction does: the bytes to write, the registers and wait state after it, or its refusal.
-#[derive(Drop)]
+#[derive(Clone, Copy)]
 pub struct Effect {
     pub writes: Writes,
     pub regs: Set,

@@ -1,4 +1,6 @@
 // The memory map (memory.rs): where a read or a write lands, byte and word access, and a call's writes carried out.
+#![tactic(auto)]
+
 mod access;
 mod map;
 mod writes;
@@ -8,7 +10,7 @@ use answers::Answer;
 pub use map::{lands, place, read_u8, read_u8u16, read_u16};
 pub use writes::{Write, Writes, read_u8_after, read_u16_after, store_all};
 
-#[derive(Drop)]
+#[derive(Clone, Copy)]
 pub enum AccessType {
     Program,
     UserStack,
@@ -18,7 +20,7 @@ pub enum AccessType {
 }
 
 // What becomes of a write.
-#[derive(Drop)]
+#[derive(Clone, Copy)]
 pub enum Landing {
     Stored(u16),
     Device,
@@ -26,7 +28,7 @@ pub enum Landing {
 }
 
 // The device writes that a call reports, and its answer.
-#[derive(Drop)]
+#[derive(Clone, Copy)]
 pub struct Wrote {
     pub devices: Writes,
     pub answer: Answer,

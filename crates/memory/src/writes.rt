@@ -6,7 +6,7 @@ ghost use Rattle.memory.specs.Writes.{writes_of, listed, added, added_all, word_
 use crate::{Landing, map};
 
 // A byte to be written. Its four bytes leave no gap, so that a list of writes is copied as one block.
-#[derive(Drop)]
+#[derive(Clone, Copy)]
 pub struct Write {
     pub at: u16,
     pub byte: u8,
@@ -14,7 +14,7 @@ pub struct Write {
 }
 
 // At most twelve writes, in order.
-#[derive(Drop)]
+#[derive(Clone, Copy)]
 pub struct Writes {
     pub count: usize,
     pub list: [Write; 12],

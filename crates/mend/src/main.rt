@@ -1,5 +1,7 @@
 // The mend program: reads a torn S-record file from standard input, and writes the mended text to standard output and the report to standard
 // error. What it writes is `printed_of`, `output_printed` and `error_text` of what it read (`salvage::mend`).
+#![tactic(auto)]
+
 ghost use Rattle.std.specs.Prelude.{◌≡◌, ◌+◌, ◌*◌, ◌≤◌, length};
 
 use libc::{STDERR_FILENO, STDIN_FILENO, STDOUT_FILENO};

@@ -7,7 +7,7 @@ use opcodes::{Acc, Alu, Cond, Software, Unary};
 use registers::Word;
 
 // A mnemonic, of which the first `len` bytes count.
-#[derive(Drop)]
+#[derive(Clone, Copy)]
 pub struct Mnemonic {
     pub bytes: [u8; 5],
     pub len: usize,

@@ -1,4 +1,6 @@
 // The mnemonics of the manual's instructions.
+#![tactic(auto)]
+
 mod letters;
 
 ghost use Rattle.std.specs.Prelude.{◌≡◌};

@@ -2,7 +2,7 @@
 use libc::STDOUT_FILENO;
 
 // The first `len` bytes count.
-#[derive(Drop)]
+#[derive(Clone, Copy)]
 pub struct Line {
     pub bytes: [u8; 40],
     pub len: usize,

@@ -1,5 +1,7 @@
 // Prints a line for each instruction of the opcode table: page, opcode, mnemonic, mode, size and base cycles. Then prints the same from the
 // opcodes' bit fields.
+#![tactic(auto)]
+
 mod line;
 
 use line::Line;

@@ -1,4 +1,6 @@
 // What stands in the opcode table: operations, modes, entries, and the manual's rows. The table itself is crate `pages`.
+#![tactic(auto)]
+
 mod entries;
 mod row;
 
@@ -7,7 +9,7 @@ use registers::{Index, Stack, Word};
 pub use row::at_digit;
 
 // The manual's addressing modes. The mode says how wide an immediate operand or a branch's offset is.
-#[derive(Drop)]
+#[derive(Clone, Copy)]
 pub enum Mode {
     Inherent,
     Immediate8,
@@ -19,14 +21,14 @@ pub enum Mode {
     Relative16,
 }
 
-#[derive(Drop)]
+#[derive(Clone, Copy)]
 pub enum Acc {
     A,
     B,
 }
 
 // Operations of an accumulator and a byte.
-#[derive(Drop)]
+#[derive(Clone, Copy)]
 pub enum Alu {
     Add,
     Adc,
@@ -41,7 +43,7 @@ pub enum Alu {
 }
 
 // Operations that change one byte, of an accumulator or of memory.
-#[derive(Drop)]
+#[derive(Clone, Copy)]
 pub enum Unary {
     Neg,
     Com,
@@ -56,7 +58,7 @@ pub enum Unary {
 }
 
 // The conditions of the branches, in the order of their opcodes.
-#[derive(Drop)]
+#[derive(Clone, Copy)]
 pub enum Cond {
     Ra,
     Rn,
@@ -76,7 +78,7 @@ pub enum Cond {
     Le,
 }
 
-#[derive(Drop)]
+#[derive(Clone, Copy)]
 pub enum Software {
     Swi,
     Swi2,
@@ -84,7 +86,7 @@ pub enum Software {
 }
 
 // Operations that change registers alone: they write no byte, use no stack and do not wait.
-#[derive(Drop)]
+#[derive(Clone, Copy)]
 pub enum RegisterOp {
     Alu(Alu, Acc),
     OnAcc(Unary, Acc),
@@ -109,7 +111,7 @@ pub enum RegisterOp {
 }
 
 // Operations that may write memory, use a stack or wait.
-#[derive(Drop)]
+#[derive(Clone, Copy)]
 pub enum MemoryOp {
     OnMemory(Unary),
     Store8(Acc),
@@ -125,14 +127,14 @@ pub enum MemoryOp {
     Pull(Stack),
 }
 
-#[derive(Drop)]
+#[derive(Clone, Copy)]
 pub enum Op {
     Registers(RegisterOp),
     Memory(MemoryOp),
 }
 
 // An operation, its addressing mode, its size in bytes (of an indexed one without the offset bytes) and its base cycles.
-#[derive(Drop)]
+#[derive(Clone, Copy)]
 pub struct Entry {
     pub op: Op,
     pub mode: Mode,
@@ -141,13 +143,13 @@ pub struct Entry {
 }
 
 // A place of the table: an instruction of the manual, or none.
-#[derive(Drop)]
+#[derive(Clone, Copy)]
 pub enum Place {
     Instruction(Entry),
     None,
 }
 
-#[derive(Drop)]
+#[derive(Clone, Copy)]
 pub enum Page {
     Plain,
     Ten,

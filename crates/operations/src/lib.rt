@@ -1,5 +1,7 @@
 // What each operation does to the registers, by subject: the manual's instruction pages.
 // The registers come with PC at the next instruction and the index register changed; `ea` is the effective address.
+#![tactic(auto)]
+
 mod branches;
 mod codes;
 mod eight_bit;
@@ -20,7 +22,7 @@ pub use transfers::{exchange, transfer, transfer_name, transferable};
 pub use words::{store16, test16};
 
 // Result of an instruction that only changes registers. TFR and EXG alone may be refused.
-#[derive(Drop)]
+#[derive(Clone, Copy)]
 pub enum Changed {
     After(Set),
     Refused(Refusal),

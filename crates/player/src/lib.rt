@@ -1,4 +1,6 @@
 // What the programs print: a line for each call, or a refusal's number alone.
+#![tactic(auto)]
+
 mod boots;
 mod plays;
 

@@ -22,7 +22,7 @@ fn empty_journal() -> [u8; JOURNAL]
 }
 
 // A recorded call, or undo.
-#[derive(Drop)]
+#[derive(Clone, Copy)]
 enum Wanted {
     Call(CallType),
     Undo,
@@ -42,7 +42,7 @@ fn wanted_by(operation: Operation) -> Wanted
 }
 
 // What is printed of a call. Its list of device writes is not handed on, so that it is not copied where the arms of `act` join.
-#[derive(Drop)]
+#[derive(Clone, Copy)]
 struct Shown {
     twin: Twin,
     answer: Answer,

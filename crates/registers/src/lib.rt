@@ -1,5 +1,7 @@
 // The MC6809's registers (registers.rs): the condition codes, whose methods are the arithmetic, and the register set.
 // Where the Rust changes `&mut self`, a function here takes `self` and returns it.
+#![tactic(auto)]
+
 mod arithmetic;
 mod condition_codes;
 mod names;
@@ -9,7 +11,7 @@ mod register_set;
 pub use names::reg_size;
 
 // The flags of the condition code register, from bit 0 up.
-#[derive(Drop)]
+#[derive(Clone, Copy)]
 pub enum CCBit {
     C,
     V,
@@ -22,13 +24,13 @@ pub enum CCBit {
 }
 
 // The condition code register. Its methods are the fundamental math operations.
-#[derive(Drop)]
+#[derive(Clone, Copy)]
 pub struct CCBits {
     pub reg: u8,
 }
 
 // What is known of a flag: its mask, its letter, and its name, of which the first `len` bytes count.
-#[derive(Drop)]
+#[derive(Clone, Copy)]
 pub struct CCInfo {
     pub mask: u8,
     pub short: u8,
@@ -37,27 +39,27 @@ pub struct CCInfo {
 }
 
 // How V is set where the Rust and the manual part.
-#[derive(Drop)]
+#[derive(Clone, Copy)]
 pub enum Flags {
     Bought,
     Manual,
 }
 
 // A result, and the condition codes after it.
-#[derive(Drop)]
+#[derive(Clone, Copy)]
 pub struct Out8 {
     pub cc: CCBits,
     pub value: u8,
 }
 
-#[derive(Drop)]
+#[derive(Clone, Copy)]
 pub struct Out16 {
     pub cc: CCBits,
     pub value: u16,
 }
 
 // The registers' names.
-#[derive(Drop)]
+#[derive(Clone, Copy)]
 pub enum Name {
     A,
     B,
@@ -72,7 +74,7 @@ pub enum Name {
 }
 
 // The registers of 16 bits that LD, ST and CMP name.
-#[derive(Drop)]
+#[derive(Clone, Copy)]
 pub enum Word {
     D,
     X,
@@ -82,7 +84,7 @@ pub enum Word {
 }
 
 // The index registers, which a post-byte and LEA name.
-#[derive(Drop)]
+#[derive(Clone, Copy)]
 pub enum Index {
     X,
     Y,
@@ -91,21 +93,21 @@ pub enum Index {
 }
 
 // The stack pointers.
-#[derive(Drop)]
+#[derive(Clone, Copy)]
 pub enum Stack {
     S,
     U,
 }
 
 // A register's name in letters, of which the first `len` count.
-#[derive(Drop)]
+#[derive(Clone, Copy)]
 pub struct Letters {
     pub bytes: [u8; 2],
     pub len: usize,
 }
 
 // The register set. D is 256 A + B and not stored. The words stand first, so that the struct has no gap.
-#[derive(Drop)]
+#[derive(Clone, Copy)]
 pub struct Set {
     pub x: u16,
     pub y: u16,

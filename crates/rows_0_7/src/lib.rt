@@ -1,4 +1,6 @@
 // Rows 0 to 7 of the plain page of the opcode table: the sixteen places of each high digit.
+#![tactic(auto)]
+
 ghost use Rattle.std.specs.Prelude.{◌≡◌};
 ghost use Rattle.opcodes.specs.Rows.{row_of};
 ghost use Rattle.opcodes.specs.declared.Page.TheVariants.{Plain};

@@ -1,5 +1,7 @@
 // The run program (document 01, "The run program"): reads a run file from standard input, plays its operations on recorded calls, and prints
 // a line for each. What it prints is `printed` of what it read (`player::play`); reading and writing are all that stands here.
+#![tactic(auto)]
+
 ghost use Rattle.std.specs.Prelude.{◌≡◌, ◌*◌, length};
 
 use libc::{STDIN_FILENO, STDOUT_FILENO};

@@ -1,5 +1,7 @@
 // The run program on the second engine (document 02, [13]): what it prints is `printed` of what it read, as the first's is
 // (`player::play_second`).
+#![tactic(auto)]
+
 ghost use Rattle.std.specs.Prelude.{◌≡◌, ◌*◌, length};
 
 use libc::{STDIN_FILENO, STDOUT_FILENO};

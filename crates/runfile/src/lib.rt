@@ -1,4 +1,6 @@
 // The run file (document 01, "The run program"): which files are sound, what a sound one sets and places, and its operations.
+#![tactic(auto)]
+
 ghost use Rattle.std.specs.Prelude.{◌≡◌, ◌≤◌, length, get_or};
 ghost use Rattle.runfile.specs.Format.{file_settings, room, word_in, piece_at, pieces_at, operation_at, operations_at, flagged_at, after_settings, wholly, parsed, next_of, loaded, placed, end_of, laid_of, settled};
 
@@ -8,7 +10,7 @@ use registers::Flags;
 // The longest run file.
 pub const LONGEST: usize = 32768;
 
-#[derive(Drop)]
+#[derive(Clone, Copy)]
 pub enum Operation {
     Step,
     Irq,
@@ -19,7 +21,7 @@ pub enum Operation {
 }
 
 // The operation at a place of the file, if there is one.
-#[derive(Drop)]
+#[derive(Clone, Copy)]
 pub enum Next {
     Is(Operation),
     None,
@@ -27,7 +29,7 @@ pub enum Next {
 
 // What a file sets. An enum can hold no array, so the settings of the calls, which have a profile, are made of it later: a run allows all
 // stores.
-#[derive(Drop)]
+#[derive(Clone, Copy)]
 pub struct FileSettings {
     pub ram_top: u16,
     pub flags: Flags,
@@ -42,13 +44,13 @@ impl FileSettings {
 }
 
 // What a sound file sets, and where its operations start: they are its last bytes.
-#[derive(Drop)]
+#[derive(Clone, Copy)]
 pub struct Start {
     pub operations: usize,
     pub settings: FileSettings,
 }
 
-#[derive(Drop)]
+#[derive(Clone, Copy)]
 pub enum Loaded {
     Ready(Start),
     Refused(Refusal),

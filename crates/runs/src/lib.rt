@@ -1,4 +1,6 @@
 // A run with an allowance: recorded steps in one call, until one of five things ends it (document 02, [12]).
+#![tactic(auto)]
+
 ghost use Rattle.std.specs.Prelude.{◌≡◌};
 ghost use Rattle.journal.specs.Recorded.{in_hand, Typed};
 ghost use Rattle.answers.specs.Numbers.{number_of_answer};
@@ -10,7 +12,7 @@ use machine::{Settings, Wait};
 use memory::Writes;
 
 // Why a run ended.
-#[derive(Drop)]
+#[derive(Clone, Copy)]
 pub enum Reason {
     StepRefused,
     Waits,
@@ -20,7 +22,7 @@ pub enum Reason {
 }
 
 // The address at which a run stops, or none.
-#[derive(Drop)]
+#[derive(Clone, Copy)]
 pub enum Stop {
     Nowhere,
     At(u16),
@@ -28,7 +30,7 @@ pub enum Stop {
 
 // What a run returns: the last step's device writes, the machine and the counts after it, why it ended, the number of the step that was
 // refused, or 0, the bytes that its steps read and wrote, and its own answer, which is always 0.
-#[derive(Drop)]
+#[derive(Clone, Copy)]
 pub struct RunOutcome {
     pub devices: Writes,
     pub twin: Twin,
@@ -55,7 +57,7 @@ impl Reason {
 }
 
 // What a step says of the run.
-#[derive(Drop)]
+#[derive(Clone, Copy)]
 enum Verdict {
     Ends(Reason),
     GoesOn,

@@ -1,4 +1,6 @@
 // What is sound of a torn S-record file (document 02, request [14]): the lines that the reader accepts, up to and with the first good S9.
+#![tactic(auto)]
+
 mod mended;
 mod printed;
 
@@ -11,14 +13,14 @@ pub use printed::{Printed, mend};
 use srecord::Line;
 
 // What becomes of a line: it is kept, or dropped by a refusal.
-#[derive(Drop)]
+#[derive(Clone, Copy)]
 enum Fate {
     Keep,
     Drop(Refusal),
 }
 
 // Before a line: where it starts, how many lines stand before it, and whether the first good S9 is among them.
-#[derive(Drop)]
+#[derive(Clone, Copy)]
 struct Cursor {
     pub from: usize,
     pub lines: usize,
@@ -26,7 +28,7 @@ struct Cursor {
 }
 
 // What becomes of a line, and the cursor after it.
-#[derive(Drop)]
+#[derive(Clone, Copy)]
 struct Turn {
     pub fate: Fate,
     pub next: Cursor,

@@ -7,7 +7,7 @@ use super::{Fate, first, next};
 use answers::{Answer, Refusal};
 
 // How many bytes of the output and how many numbers of the list are written, and whether S9 was added.
-#[derive(Drop)]
+#[derive(Clone, Copy)]
 pub struct Salvaged {
     pub bytes: usize,
     pub numbers: usize,
@@ -16,7 +16,7 @@ pub struct Salvaged {
 }
 
 // Of all lines: the bytes that are kept, the lines that are dropped, and whether one is a good S9.
-#[derive(Drop)]
+#[derive(Clone, Copy)]
 pub struct Tally {
     pub bytes: usize,
     pub numbers: usize,

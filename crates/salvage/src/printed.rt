@@ -10,7 +10,7 @@ use super::{Fate, first, next};
 use answers::{Answer, Refusal};
 
 // How long the mended text and the report are.
-#[derive(Drop)]
+#[derive(Clone, Copy)]
 pub struct Printed {
     pub text: usize,
     pub report: usize,

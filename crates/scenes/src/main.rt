@@ -1,5 +1,7 @@
 // Plays the lines of standard input, worked examples of the processor and scenes of the journal, and prints how each ends (README.md has
 // the lines and the rules).
+#![tactic(auto)]
+
 mod example;
 mod line;
 mod printed;

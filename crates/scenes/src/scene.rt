@@ -138,7 +138,7 @@ fn turns(mem: &mut [u8], journal: &mut [u8], line: &Line) -> Outcome {
 }
 
 // How an ending leaves the scene, and how many undos it took.
-#[derive(Drop)]
+#[derive(Clone, Copy)]
 struct Ended {
     outcome: Outcome,
     undos: u64,

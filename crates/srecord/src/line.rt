@@ -7,7 +7,7 @@ use super::layout::paired;
 use answers::Refusal;
 
 // One line. The data of an S1 line are in its text, pairs of digits from index 8 on.
-#[derive(Drop)]
+#[derive(Clone, Copy)]
 pub enum Line {
     Header,
     Data { address: u16, count: usize },

@@ -9,7 +9,7 @@ use super::layout::sum_of;
 use answers::{Answer, Refusal};
 
 // How many bytes of the output are written.
-#[derive(Drop)]
+#[derive(Clone, Copy)]
 pub struct Written {
     pub count: usize,
     pub answer: Answer,

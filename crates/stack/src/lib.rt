@@ -1,4 +1,6 @@
 // The stacks (manual: PSHS, PULS, PSHU, PULU, RTS, RTI, BSR, JSR), and the frame that an interrupt stacks.
+#![tactic(auto)]
+
 mod frames;
 mod pulling;
 mod pushing;

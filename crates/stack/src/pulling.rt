@@ -14,7 +14,7 @@ use machine::Effect;
 use registers::{CCBits, Set, Stack, Word};
 
 // The registers and the stack pointer so far.
-#[derive(Drop)]
+#[derive(Clone, Copy)]
 struct Pulled {
     regs: Set,
     pointer: u16,

@@ -1,4 +1,6 @@
 // Text in ASCII: hexadecimal digits and what they stand for, decimal numbers, and the lines that are printed.
+#![tactic(auto)]
+
 mod hex;
 mod lines;
 

@@ -10,7 +10,7 @@ use crate::{hex2, hex4, lay, put};
 const ROOM: usize = 33;
 
 // A text of at most 33 bytes: `len` of them are used, the others are 0.
-#[derive(Drop)]
+#[derive(Clone, Copy)]
 pub struct Text {
     pub bytes: [u8; ROOM],
     pub len: usize,

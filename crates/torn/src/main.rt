@@ -1,5 +1,7 @@
 // Salvages the files of standard input, and prints for each the answer, the bytes and numbers written and whether S9 was added, then the
 // text and the list (README.md has the form of both).
+#![tactic(auto)]
+
 use libc::{STDIN_FILENO, STDOUT_FILENO};
 use salvage::Salvaged;
 

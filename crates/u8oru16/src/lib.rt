@@ -1,4 +1,6 @@
 // A value of one or two bytes (u8oru16.rs). A refusal is an answer where the Rust panics.
+#![tactic(auto)]
+
 ghost use Rattle.std.specs.Prelude.{◌≡◌};
 ghost use Rattle.u8oru16.specs.Value.{size_of, value_of, is_byte, low_byte, high_byte, joined, shrunk, signed_of};
 ghost use Rattle.u8oru16.specs.Negated.{negated, negated_wide, forced, sign_extended};
@@ -6,35 +8,35 @@ ghost use Rattle.u8oru16.specs.Answers.{number_of_valued, number_of_written, off
 
 use answers::Refusal;
 
-#[derive(Drop)]
+#[derive(Clone, Copy)]
 pub enum u8u16 {
     u8(u8),
     u16(u16),
 }
 
 // A byte that may be missing.
-#[derive(Drop)]
+#[derive(Clone, Copy)]
 pub enum OptionU8 {
     None,
     Some(u8),
 }
 
 // What `signed_offset`, `div` and `modulo` answer.
-#[derive(Drop)]
+#[derive(Clone, Copy)]
 pub enum Valued {
     Value(u8u16),
     Refused(Refusal),
 }
 
 // What `get_as_bytes` answers.
-#[derive(Drop)]
+#[derive(Clone, Copy)]
 pub enum Written {
     Bytes(usize),
     Refused(Refusal),
 }
 
 // A value, and whether it left the range of its sign.
-#[derive(Drop)]
+#[derive(Clone, Copy)]
 pub struct Negated {
     pub value: u8u16,
     pub overflow: bool,

@@ -1,4 +1,6 @@
 // Interrupts (document 01, section "Interrupts, SWI, reset"): the table of vectors, how one is served, and the waits.
+#![tactic(auto)]
+
 mod service;
 mod table;
 mod waits;

@@ -4,7 +4,7 @@ ghost use Rattle.vectors.specs.Table.{address_of, masks_of, is_entire, software_
 
 use opcodes::Software;
 
-#[derive(Drop)]
+#[derive(Clone, Copy)]
 pub enum Vector {
     Swi3,
     Swi2,

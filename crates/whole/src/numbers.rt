@@ -9,7 +9,7 @@ use super::flags::put;
 use registers::{CCBit, CCBits};
 
 // A result; whether it went out of the unsigned range, by a carry or a borrow; whether it went out of the signed range.
-#[derive(Drop)]
+#[derive(Clone, Copy)]
 pub struct Parts {
     pub value: u32,
     pub carry: bool,
