@@ -64,6 +64,10 @@ class Function:
                             return place, ["type_inv", var, *rest[1:]]
                 if arms and field.startswith("match"):
                     return place, [arms[0], *rest]
+                if callee and len(rest) > 1 and rest[0] in ("new", "auto") and rest[1].isdigit():
+                    lent = LENT.get((callee.split("::")[0], callee.split("::")[-1]), [])
+                    if int(rest[1]) < len(lent):
+                        return place, [new, rest[0], lent[int(rest[1])], *rest[2:]]
                 if callee and len(rest) > 1 and rest[0] == "ensures" and rest[1].isdigit():
                     labels = LABELS.get((callee.split("::")[0], callee.split("::")[-1]))
                     if labels:
@@ -75,6 +79,8 @@ class Function:
                         return place, [new, "ensures", labels[min(n, len(labels) - 1)], *rest[skip:]]
                 return place, [new, *rest]
             at = self.up(at)
+        if field == "well-formed":
+            return place, ["well_formed", *rest]
         warn(f"no step {field}")
         return place, [field, *rest]
 
@@ -169,6 +175,7 @@ def cover(text):
 
 
 LABELS = {}
+LENT = {}
 
 
 def read_labels():
@@ -179,6 +186,7 @@ def read_labels():
                 with open(os.path.join(folder, name), encoding="utf-8") as f:
                     text = f.read()
                 for m in re.finditer(r"\bfn (\w+)(.*?)\n *\{\n", text, re.S):
+                    LENT[(crate, m.group(1))] = re.findall(r"\b(\w+): &(?:'\w+ )?mut\b", m.group(2)) + re.findall(r"&mut (self)\b", m.group(2))
                     found = re.findall(r"^ *ensures (\w+) \{", m.group(2), re.M)
                     if len(found) > 1:
                         LABELS[(crate, m.group(1))] = found
@@ -271,7 +279,7 @@ def turn(crate, path, of, text, warn):
             if not d:
                 raise Refused("answer: " + first)
             binders = re.findall(r"\([^)]*\)|\S+", d.group(2))
-            used = re.findall(r"[\w'₀-₉-]+", d.group(3))
+            used = re.findall(r"[^\W\d][\w'-]*[₀-₉]?", d.group(3))
             while len(binders) > 1 and binders[-1].strip("()").split(" ")[0] not in used:
                 binders.pop()
             typed[name] = (norm(need), m.group(1), d.group(1) or "", binders, d.group(3))
@@ -329,10 +337,17 @@ def turn(crate, path, of, text, warn):
             more = "".join(" " + it for it in params[1:])
             answers[new] = f"{comment}pub {new} : goal.{new}\n{unfolding}{new} c{more} ={fielded(new, body, labels)}"
             continue
-        lam = re.match(r"λ (" + IDENT + r")\. (.*)$", inner, re.S)
+        lam = re.match(r"λ (" + IDENT + r"(?: " + IDENT + r")*)\.(\s.*)$", inner, re.S)
         if lam:
-            body = turn_paths(fn, lam.group(2), lam.group(1), place, warn)
-            answers[new] = f"pub {new} : goal.{new}\n{new} c = {fielded(new, body, labels)}"
+            binders = lam.group(1).split()
+            used = re.findall(r"[^\W\d][\w'-]*[₀-₉]?", lam.group(2))
+            while len(binders) > 1 and binders[-1] not in used:
+                binders.pop()
+            body = turn_paths(fn, lam.group(2), binders[0], place, warn)
+            if cover(body.strip()) in ("search rules", "search needs"):
+                continue
+            more = "".join(" " + it for it in binders[1:])
+            answers[new] = f"pub {new} : goal.{new}\n{new} c{more} ={fielded(new, body, labels)}"
             continue
         answers[new] = f"pub {new} : goal.{new}\n{new} c = {inner} c" if re.match(r"^[\w'-]+$", inner) else f"pub {new} : goal.{new}\n{new} = {inner}"
     # an answer that another one cites by its old name

@@ -20,10 +20,10 @@ returns c =
     let pairs = byte_pairs n a.mem.now a.at in
     let l : length pairs ≤ 33 = omega (arith, pairs-length n a.mem.now a.at) in
     let e : said t.result ≡ pairs = rw t.ensures (text-is-whole pairs l) in
-    let l₁ = c.put.new.0 in
-    let l₂ = c.put-2.new.0 in
+    let l₁ = c.put.new.out in
+    let l₂ = c.put-2.new.out in
     let l₃ = c.put-3.new.1.0 in
-    let l₄ = c.put_mnemonic.new.0 in
+    let l₄ = c.put_mnemonic.new.line in
     let e₁ = rw c.spaces-blank.ensures at c.put.ensures in
     let e₂ = rw c.hex4-address.ensures at c.put-2.ensures in
     let e₃ = rw e at c.put-3.ensures.1 in
@@ -34,5 +34,5 @@ returns c =
     let r = drop line_length a.line.now in
     let k : length pairs ≤ 16 = omega (arith, pairs-length n a.mem.now a.at) in
     let n₄ = whole_length a.line.now l₁ l₂ l₃ l₄ (replicate line_length space) p pairs m e₁ e₂ e₃ e₄ in
-    lent-rest l₄ c.put_operand.new.0 o (omega (arith, c.requires.0, n₄)) c.put_operand.ensures
+    lent-rest l₄ c.put_operand.new.rest o (omega (arith, c.requires.0, n₄)) c.put_operand.ensures
     ∙ whole p pairs m o (omega arith) k (omega (arith, mnemonic-short a.i.entry)) (operand_short a.i a.mem.now) r a.line.now l₁ l₂ l₃ l₄ c.requires.0 refl e₁ e₂ e₃ e₄

@@ -40,8 +40,8 @@ pub returns-in-7 : goal.returns-in-7
 returns-in-7 c = rw (c.in_memory-in-7.ensures, c.in-7.is)
 
 pub returns-in_default : goal.returns-in_default
-returns-in_default = λ c.
-    let x = c.before.before.args.code in
+returns-in_default c =
+    let x = c.args.code in
     let k = x % 16 in
     c.place.ensures
-    ∙ rest (λ (row : ℕ). get_or (in_memory Direct k ∷ row_one k ∷ short_branch k ∷ row_three k ∷ in_accumulator A k ∷ in_accumulator B k ∷ in_memory Indexed k ∷ in_memory Extended k ∷ []) row (two_operand_place x)) (two_operand_place x) (down 8) 16 (x / 16) refl (omega arith) c.before.match.rest
+    ∙ rest (λ (row : ℕ). get_or (in_memory Direct k ∷ row_one k ∷ short_branch k ∷ row_three k ∷ in_accumulator A k ∷ in_accumulator B k ∷ in_memory Indexed k ∷ in_memory Extended k ∷ []) row (two_operand_place x)) (two_operand_place x) (down 8) 16 (x / 16) refl (omega arith) c.in_default.rest

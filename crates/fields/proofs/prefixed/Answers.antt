@@ -22,8 +22,8 @@ pub returns-in-3 : goal.returns-in-3
 returns-in-3 c = rw (c.software.ensures, lt-leb 0x80 c.args.code c.if-code-ge128.false, c.in-3.is)
 
 pub returns-in_default : goal.returns-in_default
-returns-in_default = λ c.
-    let x = c.before.before.args in
+returns-in_default c =
+    let x = c.args in
     let k = x.code % 16 in
-    rw (lt-leb 0x80 x.code c.before.if1.false)
-    (rest (λ (row : ℕ). get_or (None ∷ None ∷ long_branch x.page k ∷ software_interrupt x.page k ∷ []) row None) None (3 ∷ 2 ∷ []) 16 (x.code / 16) refl (omega arith) c.match.rest)
+    rw (lt-leb 0x80 x.code c.if-code-ge128.false)
+    (rest (λ (row : ℕ). get_or (None ∷ None ∷ long_branch x.page k ∷ software_interrupt x.page k ∷ []) row None) None (3 ∷ 2 ∷ []) 16 (x.code / 16) refl (omega arith) c.in_default.rest)

@@ -10,7 +10,7 @@ use Rattle.host.proofs.Laws.{turn, all_made}
 use Rattle.host.proofs.host_writes.Goals as goal
 
 pub loop-i-init : goal.loop-i-init
-loop-i-init c = (omega arith, (simp length-map at c.well-formed.0.1.1.1.0.1.0.1, (ap length c.no_writes-out.ensures, refl)))
+loop-i-init c = (omega arith, (simp length-map at c.well_formed.0.1.1.1.0.1.0.1, (ap length c.no_writes-out.ensures, refl)))
 
 pub loop-i-preserved : goal.loop-i-preserved
 loop-i-preserved c =

@@ -10,7 +10,7 @@ use Rattle.host.proofs.Laws.{turn, all_made}
 use Rattle.host.proofs.profile_of.Goals as goal
 
 pub loop-i-init : goal.loop-i-init
-loop-i-init c = (omega arith, (c.well-formed.0.1.0.1, (refl, refl)))
+loop-i-init c = (omega arith, (c.well_formed.0.1.0.1, (refl, refl)))
 
 pub loop-i-preserved : goal.loop-i-preserved
 loop-i-preserved c =

@@ -42,7 +42,7 @@ loop-left-preserved c =
 pub overflow_add-result : goal.overflow_add-result
 overflow_add-result c =
     let l = c.loop-left in
-    rw c.uncounted-uncarried.ensures (record { fits = below l.invariant.1.1 c.well-formed.1.1.1.0.1 })
+    rw c.uncounted-uncarried.ensures (record { fits = below l.invariant.1.1 c.well_formed.1.1.1.0.1 })
 
 pub shape_of-mem : goal.shape_of-mem
 shape_of-mem c = c.loop-left.invariant.1.0

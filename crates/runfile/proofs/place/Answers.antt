@@ -67,7 +67,7 @@ loop-left-preserved c =
     let r = c.piece_end-end.result in (
       rest f l.left l.next r (omega arith) l.invariant.0 c.piece_end-end.ensures,
       (
-        turn f l.left l.next r (omega arith) l.invariant.0 c.piece_end-end.ensures l.mem c.put.new.0 (rw w at p) ∙ l.invariant.1.0,
+        turn f l.left l.next r (omega arith) l.invariant.0 c.piece_end-end.ensures l.mem c.put.new.out (rw w at p) ∙ l.invariant.1.0,
         ap length p ∙ length-sets l.mem c.word-address.result (take (r - (l.next + 4)) (drop (l.next + 4) f)) ∙ l.invariant.1.1,
       ),
     )

@@ -12,7 +12,7 @@ fits : (c : tie.After-line-end) → (c.before.before.args.at.from < c.line-end.r
 fits c = rw c.line-end.ensures (line-fits c.before.before.args.file.now c.before.before.args.at.from c.before.before.requires.0)
 
 pub pass-requires : goal.pass-requires
-pass-requires = λ c κs. omega (arith, fits c.before)
+pass-requires c = omega (arith, fits c)
 
 pub returns-then-at : goal.returns-then-at
 returns-then-at c = c.pass.ensures ∙ after-end _ _ _ c.line_end-end.ensures c.if-at.true
@@ -27,16 +27,16 @@ pub slice_bounds-line_of-end : goal.slice_bounds-line_of-end
 slice_bounds-line_of-end c = omega (arith, fits c)
 
 pub pass-requires-in-Header : goal.pass-requires-in-Header
-pass-requires-in-Header = λ c κs. omega (arith, fits c.before.before.before.before.before)
+pass-requires-in-Header c = omega (arith, fits c)
 
 pub pass-requires-in-Data : goal.pass-requires-in-Data
-pass-requires-in-Data = λ c κs. omega (arith, fits c.before.before.before.before.before)
+pass-requires-in-Data c = omega (arith, fits c)
 
 pub pass-requires-in-End : goal.pass-requires-in-End
-pass-requires-in-End = λ c κs. omega (arith, fits c.before.before.before.before.before)
+pass-requires-in-End c = omega (arith, fits c)
 
 pub pass-requires-in-Bad : goal.pass-requires-in-Bad
-pass-requires-in-Bad = λ c κs. omega (arith, fits c.before.before.before.before.before.before)
+pass-requires-in-Bad c = omega (arith, fits c)
 
 pub returns-in-Header : goal.returns-in-Header
 returns-in-Header c = c.pass-in-Header.ensures ∙ by_answer _ _ _ c.line_end-end.ensures _ c.if-at.false (sym c.line_of.ensures ∙ c.in-Header.is)

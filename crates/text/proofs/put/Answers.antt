@@ -3,19 +3,15 @@
 use Prim.Native.Nat.{◌-◌}
 use mathlib.Core.Path.{sym, ◌∙◌}
 use native.Mathlib.Omega.{arith}
-use borrow.Author.Rules.{rules}
 use lib.ListN.{length}
 use lib.Seq.{length-take-le}
 use Rattle.text.proofs.Stores.{sets-out, cut}
 use Rattle.text.proofs.put.Goals as goal
 
 pub returns-then-size-at : goal.returns-then-size-at
-returns-then-size-at = λ c.
-    let a = c.before.before.before.args in
+returns-then-size-at c =
+    let a = c.args in
     sym (sets-out a.out.now a.part.now a.at (omega arith))
-
-pub lay-requires : goal.lay-requires
-lay-requires = λ c κs. search rules
 
 pub returns-then-part-room : goal.returns-then-part-room
 returns-then-part-room c = c.lay.ensures

@@ -9,36 +9,36 @@ pub returns-in-Offset5 : goal.returns-in-Offset5
 returns-in-Offset5 c = rw (c.indexed_by.ensures, c.five_bits.ensures, c.in-Offset5.is)
 
 pub returns-in-Offset8 : goal.returns-in-Offset8
-returns-in-Offset8 = λ c.
-    let x = c.before.before.before.before.before.before.before.args in
-    rw (c.reaching.ensures, c.before.indexed-by2.ensures, c.before.before.signed-byte.ensures, c.before.before.before.byte_at.ensures, c.before.before.before.before.enum-told2.given.1)
+returns-in-Offset8 c =
+    let x = c.args in
+    rw (c.reaching.ensures, c.indexed_by-in-Offset8.ensures, c.signed_byte.ensures, c.byte_at.ensures, c.in-Offset8.is)
     (one_byte x.mem.now x.post x.at Offset8)
 
 pub returns-in-Program8 : goal.returns-in-Program8
-returns-in-Program8 = λ c.
-    let x = c.before.before.before.before.before.before.before.args in
-    rw (c.reaching2.ensures, c.before.indexed-by3.ensures, c.before.before.signed-byte2.ensures, c.before.before.before.byte-at2.ensures, c.before.before.before.before.enum-told3.given.1)
+returns-in-Program8 c =
+    let x = c.args in
+    rw (c.reaching-in-Program8.ensures, c.indexed_by-in-Program8.ensures, c.signed_byte-in-Program8.ensures, c.byte_at-in-Program8.ensures, c.in-Program8.is)
     (one_byte x.mem.now x.post x.at Program8)
 
 pub returns-in-Offset16 : goal.returns-in-Offset16
-returns-in-Offset16 = λ c.
-    let x = c.before.before.before.before.before.before.args in
-    rw (c.reaching3.ensures, c.before.indexed-by4.ensures, c.before.before.word_at.ensures, c.before.before.before.enum-told4.given.1)
+returns-in-Offset16 c =
+    let x = c.args in
+    rw (c.reaching-in-Offset16.ensures, c.indexed_by-in-Offset16.ensures, c.word_at.ensures, c.in-Offset16.is)
     (two_bytes x.mem.now x.post x.at Offset16)
 
 pub returns-in-Program16 : goal.returns-in-Program16
-returns-in-Program16 = λ c.
-    let x = c.before.before.before.before.before.before.args in
-    rw (c.reaching4.ensures, c.before.indexed-by5.ensures, c.before.before.word-at2.ensures, c.before.before.before.enum-told5.given.1)
+returns-in-Program16 c =
+    let x = c.args in
+    rw (c.reaching-in-Program16.ensures, c.indexed_by-in-Program16.ensures, c.word_at-in-Program16.ensures, c.in-Program16.is)
     (two_bytes x.mem.now x.post x.at Program16)
 
 pub returns-in-Address : goal.returns-in-Address
-returns-in-Address = λ c.
-    let x = c.before.before.before.before.before.before.args in
-    rw (c.reaching5.ensures, c.before.indexed-by6.ensures, c.before.before.word-at3.ensures, c.before.before.before.enum-told6.given.1)
+returns-in-Address c =
+    let x = c.args in
+    rw (c.reaching-in-Address.ensures, c.indexed_by-in-Address.ensures, c.word_at-in-Address.ensures, c.in-Address.is)
     (two_bytes x.mem.now x.post x.at Address)
 
 pub returns-in-Increment1 : goal.returns-in-Increment1
-returns-in-Increment1 = λ c.
-    let x = c.before.before.before.args in
-    rw c.indexed-by7.ensures (no_byte x.mem.now x.post x.at x.form c.before.match.keys7)
+returns-in-Increment1 c =
+    let x = c.args in
+    rw c.indexed_by-in-Increment1.ensures (no_byte x.mem.now x.post x.at x.form c.in-Increment1.keys7)

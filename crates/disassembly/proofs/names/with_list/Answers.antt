@@ -5,6 +5,6 @@ use Rattle.text.proofs.Texts.{grown-grown}
 use Rattle.disassembly.proofs.names.with_list.Goals as goal
 
 pub returns : goal.returns
-returns = λ c.
-    rw (c.with-slot8.ensures, c.before.with-slot7.ensures, c.before.before.with-slot6.ensures, c.before.before.before.with-slot5.ensures, c.before.before.before.before.with-slot4.ensures, c.before.before.before.before.before.with-slot3.ensures, c.before.before.before.before.before.before.with-slot2.ensures, c.before.before.before.before.before.before.before.with-slot.ensures, c.before.before.before.before.before.before.before.before.name.ensures, c.before.before.before.before.before.before.before.before.before.word.ensures, c.before.before.before.before.before.before.before.before.before.before.other.ensures)
+returns c =
+    rw (c.with_slot.ensures, c.with_slot-pointer.ensures, c.with_slot-y.ensures, c.with_slot-x.ensures, c.with_slot-page.ensures, c.with_slot-b.ensures, c.with_slot-a.ensures, c.with_slot-codes.ensures, c.name-other.ensures, c.word.ensures, c.other.ensures)
     (simp (grown-grown, append_assoc))

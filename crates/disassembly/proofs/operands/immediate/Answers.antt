@@ -11,6 +11,6 @@ pub returns-in-Immediate16 : goal.returns-in-Immediate16
 returns-in-Immediate16 c = rw (c.with_word.ensures, c.read_u16.ensures, c.with_byte.ensures, c.empty.ensures, c.in-Immediate16.is) (simp (grown-grown, text-grows))
 
 pub returns-in_default : goal.returns-in_default
-returns-in_default = λ c.
-    let a = c.before.before.before.args in
-    rw c.empty2.ensures (not-immediate a.mode a.op a.mem.now a.at c.before.match.keys3)
+returns-in_default c =
+    let a = c.args in
+    rw c.empty-in_default.ensures (not-immediate a.mode a.op a.mem.now a.at c.in_default.keys3)

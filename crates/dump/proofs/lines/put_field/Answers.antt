@@ -19,7 +19,7 @@ put_value-requires-2 c = (c.requires.0, omega (arith, c.put_text-2.ensures.0, c.
 pub returns : goal.returns
 returns c =
     let a = c.args in
-    let six : Six (field_text (field_at a.entry.what)) (value_text (field_at a.entry.what) a.entry.left) (value_text (field_at a.entry.what) a.entry.right) a.out.now c.put_name.new.0 c.put_text.new.0 c.put_value.new.0 c.put_text-2.new.0 c.put_value-2.new.0 c.put_text-3.new.0 a.at c.put_name.result c.put_text.result c.put_value.result c.put_text-2.result c.put_value-2.result c.put_text-3.result = record {
+    let six : Six (field_text (field_at a.entry.what)) (value_text (field_at a.entry.what) a.entry.left) (value_text (field_at a.entry.what) a.entry.right) a.out.now c.put_name.new.out c.put_text.new.out c.put_value.new.out c.put_text-2.new.out c.put_value-2.new.out c.put_text-3.new.out a.at c.put_name.result c.put_text.result c.put_value.result c.put_text-2.result c.put_value-2.result c.put_text-3.result = record {
       p₁ = c.put_name.ensures.1;
       l₁ = c.put_name.ensures.0;
       p₂ = c.put_text.ensures.1;
@@ -34,4 +34,4 @@ returns c =
       l₆ = c.put_text-3.ensures.0;
     } in
     let e = field-line a.entry c.requires.0 in
-    (line-long (field_text (field_at a.entry.what)) (value_text (field_at a.entry.what) a.entry.left) (value_text (field_at a.entry.what) a.entry.right) a.out.now c.put_name.new.0 c.put_text.new.0 c.put_value.new.0 c.put_text-2.new.0 c.put_value-2.new.0 c.put_text-3.new.0 a.at c.put_name.result c.put_text.result c.put_value.result c.put_text-2.result c.put_value-2.result c.put_text-3.result six ∙ ap length e, line-put (field_text (field_at a.entry.what)) (value_text (field_at a.entry.what) a.entry.left) (value_text (field_at a.entry.what) a.entry.right) a.out.now c.put_name.new.0 c.put_text.new.0 c.put_value.new.0 c.put_text-2.new.0 c.put_value-2.new.0 c.put_text-3.new.0 a.at c.put_name.result c.put_text.result c.put_value.result c.put_text-2.result c.put_value-2.result c.put_text-3.result six ∙ ap (λ (l : List ℕ). sets a.out.now a.at l) e)
+    (line-long (field_text (field_at a.entry.what)) (value_text (field_at a.entry.what) a.entry.left) (value_text (field_at a.entry.what) a.entry.right) a.out.now c.put_name.new.out c.put_text.new.out c.put_value.new.out c.put_text-2.new.out c.put_value-2.new.out c.put_text-3.new.out a.at c.put_name.result c.put_text.result c.put_value.result c.put_text-2.result c.put_value-2.result c.put_text-3.result six ∙ ap length e, line-put (field_text (field_at a.entry.what)) (value_text (field_at a.entry.what) a.entry.left) (value_text (field_at a.entry.what) a.entry.right) a.out.now c.put_name.new.out c.put_text.new.out c.put_value.new.out c.put_text-2.new.out c.put_value-2.new.out c.put_text-3.new.out a.at c.put_name.result c.put_text.result c.put_value.result c.put_text-2.result c.put_value-2.result c.put_text-3.result six ∙ ap (λ (l : List ℕ). sets a.out.now a.at l) e)

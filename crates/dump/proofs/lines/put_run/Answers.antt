@@ -17,7 +17,7 @@ put_hex-requires-2 c = (omega arith, omega (arith, c.put_text-3.ensures.0, c.put
 pub returns : goal.returns
 returns c =
     let a = c.args in
-    let six : Six (ascii "memory") (hex_of 2 a.entry.left) (hex_of 2 a.entry.right) a.out.now c.put_text.new.0 c.put_text-2.new.0 c.put_hex.new.0 c.put_text-3.new.0 c.put_hex-2.new.0 c.put_text-4.new.0 a.at c.put_text.result c.put_text-2.result c.put_hex.result c.put_text-3.result c.put_hex-2.result c.put_text-4.result = record {
+    let six : Six (ascii "memory") (hex_of 2 a.entry.left) (hex_of 2 a.entry.right) a.out.now c.put_text.new.out c.put_text-2.new.out c.put_hex.new.out c.put_text-3.new.out c.put_hex-2.new.out c.put_text-4.new.out a.at c.put_text.result c.put_text-2.result c.put_hex.result c.put_text-3.result c.put_hex-2.result c.put_text-4.result = record {
       p₁ = c.put_text.ensures.1;
       l₁ = c.put_text.ensures.0;
       p₂ = c.put_text-2.ensures.1;
@@ -32,4 +32,4 @@ returns c =
       l₆ = c.put_text-4.ensures.0;
     } in
     let e = run-line a.entry c.requires.0 in
-    (line-long (ascii "memory") (hex_of 2 a.entry.left) (hex_of 2 a.entry.right) a.out.now c.put_text.new.0 c.put_text-2.new.0 c.put_hex.new.0 c.put_text-3.new.0 c.put_hex-2.new.0 c.put_text-4.new.0 a.at c.put_text.result c.put_text-2.result c.put_hex.result c.put_text-3.result c.put_hex-2.result c.put_text-4.result six ∙ ap length e, line-put (ascii "memory") (hex_of 2 a.entry.left) (hex_of 2 a.entry.right) a.out.now c.put_text.new.0 c.put_text-2.new.0 c.put_hex.new.0 c.put_text-3.new.0 c.put_hex-2.new.0 c.put_text-4.new.0 a.at c.put_text.result c.put_text-2.result c.put_hex.result c.put_text-3.result c.put_hex-2.result c.put_text-4.result six ∙ ap (λ (l : List ℕ). sets a.out.now a.at l) e)
+    (line-long (ascii "memory") (hex_of 2 a.entry.left) (hex_of 2 a.entry.right) a.out.now c.put_text.new.out c.put_text-2.new.out c.put_hex.new.out c.put_text-3.new.out c.put_hex-2.new.out c.put_text-4.new.out a.at c.put_text.result c.put_text-2.result c.put_hex.result c.put_text-3.result c.put_hex-2.result c.put_text-4.result six ∙ ap length e, line-put (ascii "memory") (hex_of 2 a.entry.left) (hex_of 2 a.entry.right) a.out.now c.put_text.new.out c.put_text-2.new.out c.put_hex.new.out c.put_text-3.new.out c.put_hex-2.new.out c.put_text-4.new.out a.at c.put_text.result c.put_text-2.result c.put_hex.result c.put_text-3.result c.put_hex-2.result c.put_text-4.result six ∙ ap (λ (l : List ℕ). sets a.out.now a.at l) e)

@@ -33,8 +33,8 @@ pub returns-in-6 : goal.returns-in-6
 returns-in-6 c = rw (c.one_of_pair-in-6.ensures, c.in-6.is)
 
 pub returns-in_default : goal.returns-in_default
-returns-in_default = λ c.
-    let x = c.before.before.args.column in
+returns-in_default c =
+    let x = c.args.column in
     let pair = one_of_pair x in
-    c.one-of-pair8.ensures
-    ∙ rest (λ (k : ℕ). get_or (pair Ra Rn ∷ pair Hi Ls ∷ pair Cc Cs ∷ pair Ne Eq ∷ pair Vc Vs ∷ pair Pl Mi ∷ pair Ge Lt ∷ []) k (pair Gt Le)) (pair Gt Le) (down 7) 128 (x / 2) refl (omega arith) c.before.match.rest
+    c.one_of_pair-in_default.ensures
+    ∙ rest (λ (k : ℕ). get_or (pair Ra Rn ∷ pair Hi Ls ∷ pair Cc Cs ∷ pair Ne Eq ∷ pair Vc Vs ∷ pair Pl Mi ∷ pair Ge Lt ∷ []) k (pair Gt Le)) (pair Gt Le) (down 7) 128 (x / 2) refl (omega arith) c.in_default.rest

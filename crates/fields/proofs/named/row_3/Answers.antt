@@ -17,7 +17,7 @@ pub returns-in-1 : goal.returns-in-1
 returns-in-1 c = rw (c.stack_transfer.ensures, c.in-1.is)
 
 pub returns-in_default : goal.returns-in_default
-returns-in_default = λ c.
-    let x = c.before.before.args.column in
+returns-in_default c =
+    let x = c.args.column in
     c.by_name.ensures
-    ∙ rest (λ (k : ℕ). get_or (address_load x ∷ stack_transfer x ∷ []) k (by_name x)) (by_name x) (down 2) 64 (x / 4) refl (omega arith) c.before.match.rest
+    ∙ rest (λ (k : ℕ). get_or (address_load x ∷ stack_transfer x ∷ []) k (by_name x)) (by_name x) (down 2) 64 (x / 4) refl (omega arith) c.in_default.rest

@@ -49,4 +49,4 @@ returns-else-journal-bytes c =
     rw m
     (recorded-leaves a.settings a.plan s _ _ _ _ _ _ a.plan.answer
     (plan-fits a.settings a.plan s d room) d z (ap (λ (x : Report). x.devices) w.0) (ap (λ (x : Report). x.reads) w.0) (ap (λ (x : Report). x.writes) w.0) w.1
-    (placed a.twin.bytes (record_length c.count_entries.result) (record_for a.settings a.plan s) a.journal.now c.write_record.new.0 (sym r ∙ z) (omega (arith, r, z, room)) c.write_record.ensures))
+    (placed a.twin.bytes (record_length c.count_entries.result) (record_for a.settings a.plan s) a.journal.now c.write_record.new.rest (sym r ∙ z) (omega (arith, r, z, room)) c.write_record.ensures))

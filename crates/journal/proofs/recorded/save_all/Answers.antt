@@ -18,7 +18,7 @@ unfolding saved_for entries
 loop-i-init c = (
   omega arith,
   (
-    simp length-map at c.well-formed.1.1.1.0.1.1.1.0.1.0.1,
+    simp length-map at c.well_formed.1.1.1.0.1.1.1.0.1.0.1,
     (refl, (refl, refl)),
   ),
 )
@@ -55,7 +55,7 @@ loop-i-preserved c =
       (
         l.invariant.1.0,
         (
-          c.save-n.auto.0 ∙ l.invariant.1.1.0,
+          c.save-n.auto.rest ∙ l.invariant.1.1.0,
           (
             s.0 ∙ turn-count a.ram-top a.writes.list l.i _ l.invariant.1.0 t a.mem.now l.n l.invariant.1.1.1.0,
             s.1 ∙ rw l.invariant.1.1.1.1 (turn-laid a.ram-top a.writes.list l.i _ l.invariant.1.0 t a.mem.now l.n a.rest.now l.invariant.1.1.1.0),

@@ -16,12 +16,12 @@ save_all-requires c =
 
 pub bounds-rest-last : goal.bounds-rest-last
 bounds-rest-last c =
-    let h = simp length-set at c.save_all.auto.0 in
+    let h = simp length-set at c.save_all.auto.rest in
     omega (arith, h, c.write_header.auto, c.requires)
 
 pub shape_of-rest : goal.shape_of-rest
 shape_of-rest c =
-    let h = simp length-set at c.save_all.auto.0 in
+    let h = simp length-set at c.save_all.auto.rest in
     simp length-set (omega (arith, h, c.write_header.auto))
 
 pub returns : goal.returns

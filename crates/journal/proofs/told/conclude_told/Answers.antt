@@ -69,4 +69,4 @@ returns-else-journal-bytes c =
     rw m
     (recorded-leaves a.settings p s _ _ _ _ _ _ _
     (plan-fits a.settings p s k.0 room) refl z d (ap (λ (x : Report). x.reads) w.0) (ap (λ (x : Report). x.writes) w.0) w.1
-    (placed a.twin.bytes (record_length c.n.given.0.0) (record_for a.settings p s) a.journal.now c.write_told.new.0 (sym r ∙ z) (omega (arith, r, z, room)) (c.write_told.ensures a.twin.machine)))
+    (placed a.twin.bytes (record_length c.n.given.0.0) (record_for a.settings p s) a.journal.now c.write_told.new.rest (sym r ∙ z) (omega (arith, r, z, room)) (c.write_told.ensures a.twin.machine)))

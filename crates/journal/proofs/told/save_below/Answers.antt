@@ -10,10 +10,10 @@ pub entry-requires : goal.entry-requires
 entry-requires c = (omega arith, c.requires.1.1.1)
 
 pub entry-requires-then-size-eq2 : goal.entry-requires-then-size-eq2
-entry-requires-then-size-eq2 c = (omega (arith, c.entry.auto.0), c.requires.1.1.1)
+entry-requires-then-size-eq2 c = (omega (arith, c.entry.auto.rest), c.requires.1.1.1)
 
 pub shape_of-rest-then-size-eq2 : goal.shape_of-rest-then-size-eq2
-shape_of-rest-then-size-eq2 c = c.entry-then-size-eq2.auto.0 ∙ c.entry.auto.0
+shape_of-rest-then-size-eq2 c = c.entry-then-size-eq2.auto.rest ∙ c.entry.auto.rest
 
 pub returns-then-size-eq2 : goal.returns-then-size-eq2
 returns-then-size-eq2 c =
@@ -25,7 +25,7 @@ pub entry-requires-then-size-eq1 : goal.entry-requires-then-size-eq1
 entry-requires-then-size-eq1 c = (omega arith, c.requires.1.1.1)
 
 pub shape_of-rest : goal.shape_of-rest
-shape_of-rest c = c.entry-then-size-eq1.auto.0
+shape_of-rest c = c.entry-then-size-eq1.auto.rest
 
 pub returns-then-size-eq1 : goal.returns-then-size-eq1
 returns-then-size-eq1 c =

@@ -18,7 +18,7 @@ save_below-requires c =
     let e2 : c.save_below-b.result + a.mask / 4 % 2 ≡ c.save_below-dp.result = rw c.wide-2.ensures at c.save_below-b.ensures.0 in
     let e3 : c.save_below-a.result + a.mask / 2 % 2 ≡ c.save_below-b.result = rw c.wide-3.ensures at c.save_below-a.ensures.0 in
     let k = last-room a.pointer a.p (a.mask / 8 % 2) (a.mask / 4 % 2) (a.mask / 2 % 2) (a.mask % 2) _ _ _ _ e1 e2 e3 pre.0.1.1 pre.1.0 pre.1.1 in
-    let l = c.save_below-a.auto.0 ∙ (c.save_below-b.auto.0 ∙ c.save_below-dp.auto.0) in
+    let l = c.save_below-a.auto.rest ∙ (c.save_below-b.auto.rest ∙ c.save_below-dp.auto.rest) in
     rw c.wide-4.ensures ((bit-fits a.mask, k.0), (k.1, (rw l k.2, pre.0.0)))
 
 pub returns : goal.returns

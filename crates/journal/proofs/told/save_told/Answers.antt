@@ -65,7 +65,7 @@ save_bytes-requires c =
     let r = entries-room _ _ _ _ (c.requires.1 fresh) n in
     let w = c.save_words-p.ensures.0 in
     let b = below _ _ _ c.word-pointer.result w (omega arith) in
-    let l = c.save_words-p.auto.0 in
+    let l = c.save_words-p.auto.rest in
     ((c.requires.0.0, (rw e q.0, b)), (room_after _ _ _ _ (w ∙ e) q.2, bytes-room _ _ _ _ _ w (rw l r.1)))
 
 pub returns-in-Refused : goal.returns-in-Refused

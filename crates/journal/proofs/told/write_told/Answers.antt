@@ -17,12 +17,12 @@ save_told-requires c =
 
 pub bounds-rest-last : goal.bounds-rest-last
 bounds-rest-last c =
-    let h = simp length-set at c.save_told.auto.0 in
+    let h = simp length-set at c.save_told.auto.rest in
     omega (arith, h, c.write_header.auto, c.requires.1.0, c.requires.1.1.0)
 
 pub shape_of-rest : goal.shape_of-rest
 shape_of-rest c =
-    let h = simp length-set at c.save_told.auto.0 in
+    let h = simp length-set at c.save_told.auto.rest in
     simp length-set (omega (arith, h, c.write_header.auto))
 
 pub returns : goal.returns

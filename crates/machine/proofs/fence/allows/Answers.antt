@@ -10,7 +10,7 @@ use Rattle.machine.proofs.Fences.{range-turn, range-end}
 use Rattle.machine.proofs.fence.allows.Goals as goal
 
 pub loop-i-init : goal.loop-i-init
-loop-i-init c = (omega arith, (c.well-formed.0.1.0.1, refl))
+loop-i-init c = (omega arith, (c.well_formed.0.1.0.1, refl))
 
 pub returns-then-holds : goal.returns-then-holds
 returns-then-holds c =

@@ -12,7 +12,7 @@ use Rattle.machine.proofs.Fences.{write-turn, write-end}
 use Rattle.machine.proofs.fence.bars.Goals as goal
 
 pub loop-i-init : goal.loop-i-init
-loop-i-init c = ((omega arith, simp length-map at c.well-formed.1.0.1.1.1.0.1.0.1), refl)
+loop-i-init c = ((omega arith, simp length-map at c.well_formed.1.0.1.1.1.0.1.0.1), refl)
 
 pub returns-then-is_barred : goal.returns-then-is_barred
 returns-then-is_barred c =

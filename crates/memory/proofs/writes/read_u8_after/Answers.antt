@@ -11,7 +11,7 @@ pub loop-i-init : goal.loop-i-init
 unfolding stored
 loop-i-init c = (
   omega arith,
-  (simp length-map at c.well-formed.1.1.0.1.1.1.0.1.0.1, c.read_u8-b.ensures),
+  (simp length-map at c.well_formed.1.1.0.1.1.1.0.1.0.1, c.read_u8-b.ensures),
 )
 
 pub loop-i-preserved : goal.loop-i-preserved

@@ -10,7 +10,7 @@ pub loop-i-init : goal.loop-i-init
 unfolding stored reported
 loop-i-init c = (
   omega arith,
-  (simp length-map at c.well-formed.1.1.0.1.1.1.0.1.0.1, (refl, c.none-devices.ensures)),
+  (simp length-map at c.well_formed.1.1.0.1.1.1.0.1.0.1, (refl, c.none-devices.ensures)),
 )
 
 pub loop-i-preserved : goal.loop-i-preserved

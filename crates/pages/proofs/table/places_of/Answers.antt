@@ -13,6 +13,6 @@ pub loop-code-preserved : goal.loop-code-preserved
 loop-code-preserved c = (omega arith, rw (c.loop-code.invariant.1, c.lookup.ensures) (one_more c.args.page c.loop-code.code (omega arith)))
 
 pub returns : goal.returns
-returns = λ c.
-    let e : c.before.loop.code ≡ 256 = omega arith in
-    c.before.loop.invariant.1 ∙ ap (filled c.before.before.args.page) e ∙ at_last c.before.before.args.page
+returns c =
+    let e : c.loop-code.code ≡ 256 = omega arith in
+    c.loop-code.invariant.1 ∙ ap (filled c.args.page) e ∙ at_last c.args.page

@@ -16,7 +16,7 @@ pub loop-at-init : goal.loop-at-init
 loop-at-init c = at_first _ _ c.first-at.ensures
 
 pub next-turned-requires : goal.next-turned-requires
-next-turned-requires = λ c κs. (c.if1.true, c.before.before.loop.invariant.few)
+next-turned-requires c = (c.loop-at-test.true, c.loop-at.invariant.few)
 
 pub overflow_sub-bytes : goal.overflow_sub-bytes
 overflow_sub-bytes c = let w = here c in omega (arith, w.on)

@@ -16,7 +16,7 @@ pub loop-at-init : goal.loop-at-init
 loop-at-init c = at_first _ _ _ _ c.first-at.ensures c.requires
 
 pub next-turned-requires : goal.next-turned-requires
-next-turned-requires = λ c κs. (c.if1.true, c.before.before.loop.invariant.few)
+next-turned-requires c = (c.loop-at-test.true, c.loop-at.invariant.few)
 
 pub slice_bounds-put-count : goal.slice_bounds-put-count
 slice_bounds-put-count c = let w = here c in omega (arith, w.on, w.fits)

@@ -17,7 +17,7 @@ pub loop-at-init : goal.loop-at-init
 loop-at-init c = at_first _ _ _ c.first-at.ensures
 
 pub next-turned-requires : goal.next-turned-requires
-next-turned-requires = λ c κs. (c.if1.true, c.before.before.loop.invariant.few)
+next-turned-requires c = (c.loop-at-test.true, c.loop-at.invariant.few)
 
 pub put_dropped-used-requires : goal.put_dropped-used-requires
 put_dropped-used-requires c = let k = c.loop-at.invariant in omega (arith, k.within, k.few, k.small, c.requires)

@@ -9,7 +9,7 @@ pub overflow_sub-n : goal.overflow_sub-n
 overflow_sub-n c = omega (arith, (is-shaped c.args.text.now c.requires).room)
 
 pub sum_bytes-sum-requires : goal.sum_bytes-sum-requires
-sum_bytes-sum-requires = λ c κs. omega (arith, (is-shaped c.before.before.args.text.now c.before.before.requires).room)
+sum_bytes-sum-requires c = omega (arith, (is-shaped c.args.text.now c.requires).room)
 
 pub returns : goal.returns
 unfolding is_summed

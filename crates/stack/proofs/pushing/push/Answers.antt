@@ -11,7 +11,7 @@ returns-then-pointer-bytes c =
     rw (c.refuses.ensures, lt-ltb _ _ h)
 
 pub push_all-writes-requires : goal.push_all-writes-requires
-push_all-writes-requires = λ c κs. rw (← c.before.bytes_of.ensures) c.if1.false
+push_all-writes-requires c = rw (← c.bytes_of-bytes.ensures) c.if-pointer-bytes.false
 
 pub returns : goal.returns
 unfolding pushed

@@ -51,9 +51,6 @@ loop-k-preserved c =
       ),
     )
 
-pub loop-k-2-init : goal.loop-k-2-init
-loop-k-2-init c = search rules
-
 pub overflow_sub-at-then-bit-2 : goal.overflow_sub-at-then-bit-2
 overflow_sub-at-then-bit-2 c =
     let l = c.loop-k-2 in

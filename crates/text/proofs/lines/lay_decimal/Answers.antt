@@ -2,14 +2,10 @@
 -- Assumes nothing.
 use Prim.Native.Nat.{◌/◌, ◌≤◌}
 use native.Mathlib.Omega.{arith}
-use borrow.Author.Rules.{rules}
 use lib.ListN.{length-set}
 use Rattle.text.proofs.Decimals.{one_more, one-or-more}
 use Rattle.text.proofs.Filling.{Filled, at_first, same_size, inside, turn, done}
 use Rattle.text.proofs.lines.lay_decimal.Goals as goal
-
-pub digits-requires : goal.digits-requires
-digits-requires = λ c κs. search rules
 
 pub overflow_add-end : goal.overflow_add-end
 overflow_add-end c = omega (arith, c.digits.ensures)
@@ -18,8 +14,8 @@ pub overflow_sub-i : goal.overflow_sub-i
 overflow_sub-i c = omega (arith, c.digits.ensures, one-or-more c.args.n (omega arith))
 
 pub loop-rest-init : goal.loop-rest-init
-loop-rest-init = λ c.
-    let a = c.before.before.args in
+loop-rest-init c =
+    let a = c.args in
     (omega arith, at_first a.out.now a.at a.n (omega arith) (omega (arith, c.digits.ensures)))
 
 pub bounds-out-i : goal.bounds-out-i
@@ -38,15 +34,15 @@ loop-rest-preserved c =
     (omega arith, turn a.out.now a.at a.n l.out l.rest l.i l.invariant.1 c.loop-rest-test.true (omega arith))
 
 pub bounds-out-i-2 : goal.bounds-out-i-2
-bounds-out-i-2 = λ c.
-    let a = c.before.before.before.before.args in
-    let l = c.before.loop in
-    inside a.out.now a.at a.n l.out l.rest l.i l.invariant.1 c.before.before.before.before.requires
+bounds-out-i-2 c =
+    let a = c.args in
+    let l = c.loop-rest in
+    inside a.out.now a.at a.n l.out l.rest l.i l.invariant.1 c.requires
 
 pub shape_of-out : goal.shape_of-out
-shape_of-out = λ c.
-    let a = c.before.before.before.before.args in
-    let l = c.before.loop in
+shape_of-out c =
+    let a = c.args in
+    let l = c.loop-rest in
     simp length-set (same_size a.out.now a.at a.n l.out l.rest l.i l.invariant.1)
 
 pub returns : goal.returns

@@ -2,7 +2,6 @@
 -- Assumes nothing.
 use Prim.Native.Nat.{◌/◌, ◌≤◌}
 use native.Mathlib.Omega.{arith}
-use borrow.Author.Rules.{rules}
 use lib.ListN.{length-set}
 use Rattle.text.proofs.Decimals.{one_more, one-or-more}
 use Rattle.text.proofs.Filling.{Filled, at_first, same_size, inside, turn, done}

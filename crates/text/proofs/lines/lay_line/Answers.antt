@@ -12,7 +12,7 @@ lay_decimal-middle-requires c = omega (arith, at-most-three c.args.answer (omega
 
 pub lay-requires : goal.lay-requires
 lay-requires c =
-    omega (arith, c.lay_decimal-middle.auto.0, c.lay_decimal-middle.ensures.0, at-most-three c.args.answer (omega arith))
+    omega (arith, c.lay_decimal-middle.auto.out, c.lay_decimal-middle.ensures.0, at-most-three c.args.answer (omega arith))
 
 pub overflow_add-middle : goal.overflow_add-middle
 overflow_add-middle c =
@@ -21,12 +21,12 @@ overflow_add-middle c =
 pub lay_decimal-last-requires : goal.lay_decimal-last-requires
 lay_decimal-last-requires c =
     let a = c.args in
-    omega (arith, c.lay.auto.0, c.lay_decimal-middle.auto.0, c.lay_decimal-middle.ensures.0, at-most-three a.answer (omega arith), at-most-twenty a.cycles)
+    omega (arith, c.lay.auto.out, c.lay_decimal-middle.auto.out, c.lay_decimal-middle.ensures.0, at-most-three a.answer (omega arith), at-most-twenty a.cycles)
 
 pub bounds-out-last : goal.bounds-out-last
 bounds-out-last c =
     let a = c.args in
-    omega (arith, c.lay_decimal-last.auto.0, c.lay.auto.0, c.lay_decimal-middle.auto.0, c.lay_decimal-last.ensures.0, c.lay_decimal-middle.ensures.0, at-most-three a.answer (omega arith), at-most-twenty a.cycles)
+    omega (arith, c.lay_decimal-last.auto.out, c.lay.auto.out, c.lay_decimal-middle.auto.out, c.lay_decimal-last.ensures.0, c.lay_decimal-middle.ensures.0, at-most-three a.answer (omega arith), at-most-twenty a.cycles)
 
 pub overflow_add-result : goal.overflow_add-result
 overflow_add-result c =
@@ -35,7 +35,7 @@ overflow_add-result c =
 
 pub shape_of-out : goal.shape_of-out
 shape_of-out c =
-    simp length-set (c.lay_decimal-last.auto.0 ∙ c.lay.auto.0 ∙ c.lay_decimal-middle.auto.0)
+    simp length-set (c.lay_decimal-last.auto.out ∙ c.lay.auto.out ∙ c.lay_decimal-middle.auto.out)
 
 pub returns : goal.returns
 returns c =

@@ -11,7 +11,7 @@ pub returns-in-17 : goal.returns-in-17
 returns-in-17 c = rw (c.after_prefix-in-17.ensures, ← c.read_u8-code.ensures, c.in-17.is)
 
 pub returns-in_default : goal.returns-in_default
-returns-in_default = λ c.
-    let r = c.before.match.rest in
-    let x = c.before.before.read-u8.result in
-    rw (c.on-page.ensures, ← c.before.before.read-u8.ensures, ne_eqb x 0x10 r.0.1, ne_eqb x 0x11 r.1)
+returns-in_default c =
+    let r = c.in_default.rest in
+    let x = c.read_u8-code.result in
+    rw (c.on_page.ensures, ← c.read_u8-code.ensures, ne_eqb x 0x10 r.0.1, ne_eqb x 0x11 r.1)

@@ -1,11 +1,8 @@
 -- `sign_extended` meets its contract.
 -- Assumes nothing.
-use Rattle.std.proofs.Common.{ap, ⊎_elim, arith, rules, le-ltb, lt-ltb}
+use Rattle.std.proofs.Common.{ap, ⊎_elim, arith, le-ltb, lt-ltb}
 use Rattle.u8oru16.specs.declared.u8u16.TheVariants.{u16}
 use Rattle.u8oru16.proofs.u8u16.sign_extended.Goals as goal
-
-pub returns-in-u16 : goal.returns-in-u16
-returns-in-u16 c = search rules
 
 pub returns-after-b-lt128 : goal.returns-after-b-lt128
 returns-after-b-lt128 c =

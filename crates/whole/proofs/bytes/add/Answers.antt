@@ -6,6 +6,6 @@ use Rattle.whole.proofs.Pages.{add-page}
 use Rattle.whole.proofs.bytes.add.Goals as goal
 
 pub returns : goal.returns
-returns = λ c.
-    let x = c.before.before.before.before.before.args in
-    rw (c.before.put.ensures, c.before.before.all-flags.ensures, c.before.before.before.sum_by.ensures.0, c.before.before.before.before.carry-in.ensures.0) (ap (out8 x.cc) (add-page x.cc x.a x.b x.flags x.with-carry))
+returns c =
+    let x = c.args in
+    rw (c.put.ensures, c.all_flags.ensures, c.sum_by-parts.ensures.value, c.carry_in-c.ensures.value) (ap (out8 x.cc) (add-page x.cc x.a x.b x.flags x.with-carry))

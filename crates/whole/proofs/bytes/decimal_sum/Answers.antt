@@ -8,8 +8,5 @@ use Rattle.whole.proofs.Decimal.{above-99}
 use Rattle.whole.proofs.bytes.decimal_sum.Goals as goal
 
 pub returns : goal.returns
-returns = λ c.
-    let x = c.before.before.before.before.args in (
-      rw (c.correction2.ensures.0, c.before.correction.ensures.0, c.before.before.is-set2.ensures, c.before.before.before.is_set.ensures, above-99 (flag C x.cc) x.a),
-      omega arith,
-    )
+returns c =
+    let x = c.args in record { value = rw (c.correction-2.ensures.value, c.correction.ensures.value, c.is_set-2.ensures, c.is_set.ensures, above-99 (flag C x.cc) x.a); upper_bound = omega arith }

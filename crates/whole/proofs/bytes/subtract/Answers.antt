@@ -6,6 +6,6 @@ use Rattle.whole.proofs.Pages.{sub-page}
 use Rattle.whole.proofs.bytes.subtract.Goals as goal
 
 pub returns : goal.returns
-returns = λ c.
-    let x = c.before.before.before.args in
-    rw (c.out.ensures, c.before.difference-by.ensures.0, c.before.before.carry-in.ensures.0) (ap (out8 x.cc) (sub-page x.cc x.a x.b x.flags x.with-carry))
+returns c =
+    let x = c.args in
+    rw (c.out.ensures, c.difference_by.ensures.value, c.carry_in-c.ensures.value) (ap (out8 x.cc) (sub-page x.cc x.a x.b x.flags x.with-carry))

@@ -9,33 +9,33 @@ use borrow.Author.Rules.{rules}
 use Rattle.whole.proofs.flags.put.Goals as goal
 
 pub overflow_add-result : goal.overflow_add-result
-overflow_add-result = λ c.
-    let x = c.before.before.before.before.before.args in
+overflow_add-result c =
+    let x = c.args in
     let k = place x.bit in
-    let e = sym c.before.before.before.is_set.ensures ∙ c.before.if2.false in
-    record { fits = rw (c.before.before.before.before.weight.ensures, added k x.cc.reg e) (stays-byte k x.cc.reg true (place-lt x.bit) (search rules)) }
+    let e = sym c.is_set-is.ensures ∙ c.if-is.false in
+    record { fits = rw (c.weight-w.ensures, added k x.cc.reg e) (stays-byte k x.cc.reg true (place-lt x.bit) (search rules)) }
 
 pub overflow_sub-result : goal.overflow_sub-result
-overflow_sub-result = λ c.
-    let x = c.before.before.before.before.before.args in
-    rw c.before.before.before.before.weight.ensures (within (place x.bit) x.cc.reg (sym c.before.before.before.is_set.ensures ∙ c.before.if3.true))
+overflow_sub-result c =
+    let x = c.args in
+    rw c.weight-w.ensures (within (place x.bit) x.cc.reg (sym c.is_set-is.ensures ∙ c.if-is-2.true))
 
 pub returns-then-is : goal.returns-then-is
-returns-then-is = λ c.
-    let x = c.before.before.before.before.args in
-    rw c.before.if1.true (ap coded (kept (place x.bit) x.cc.reg true (sym c.before.before.is_set.ensures ∙ c.if2.true)))
+returns-then-is c =
+    let x = c.args in
+    rw c.if-state.true (ap coded (kept (place x.bit) x.cc.reg true (sym c.is_set-is.ensures ∙ c.if-is.true)))
 
 pub returns-else-is : goal.returns-else-is
-returns-else-is = λ c.
-    let x = c.before.before.before.before.before.args in
-    rw (c.before.before.if1.true, c.before.before.before.before.weight.ensures) (ap coded (added (place x.bit) x.cc.reg (sym c.before.before.before.is_set.ensures ∙ c.before.if2.false)))
+returns-else-is c =
+    let x = c.args in
+    rw (c.if-state.true, c.weight-w.ensures) (ap coded (added (place x.bit) x.cc.reg (sym c.is_set-is.ensures ∙ c.if-is.false)))
 
 pub returns-then-is-2 : goal.returns-then-is-2
-returns-then-is-2 = λ c.
-    let x = c.before.before.before.before.before.args in
-    rw (c.before.before.if1.false, c.before.before.before.before.weight.ensures) (ap coded (taken-off (place x.bit) x.cc.reg (sym c.before.before.before.is_set.ensures ∙ c.before.if3.true)))
+returns-then-is-2 c =
+    let x = c.args in
+    rw (c.if-state.false, c.weight-w.ensures) (ap coded (taken-off (place x.bit) x.cc.reg (sym c.is_set-is.ensures ∙ c.if-is-2.true)))
 
 pub returns-else-is-2 : goal.returns-else-is-2
-returns-else-is-2 = λ c.
-    let x = c.before.before.before.before.args in
-    rw c.before.if1.false (ap coded (kept (place x.bit) x.cc.reg false (sym c.before.before.is_set.ensures ∙ c.if3.false)))
+returns-else-is-2 c =
+    let x = c.args in
+    rw c.if-state.false (ap coded (kept (place x.bit) x.cc.reg false (sym c.is_set-is.ensures ∙ c.if-is-2.false)))
