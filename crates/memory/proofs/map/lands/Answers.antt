@@ -12,9 +12,3 @@ returns-in-65280-to-65343 c = first-devices _ _ _ (omega arith) (omega arith)
 
 pub returns-in-65280-to-65343-2 : goal.returns-in-65280-to-65343-2
 returns-in-65280-to-65343-2 c = second-devices _ _ _ (omega arith) (omega arith)
-
-pub returns-then-ram_top-at : goal.returns-then-ram_top-at
-returns-then-ram_top-at c = above _ _ _ (⊎_elim (λ w. inl w.taken) (λ w. inr w.3.left) c.in_default.branch) c.if-ram_top-at.true
-
-pub returns-else-ram_top-at : goal.returns-else-ram_top-at
-returns-else-ram_top-at c = rw c.place.ensures (kept _ _ _ (⊎_elim (λ w. inl w.taken) (λ w. inr w.3.left) c.in_default.branch) c.if-ram_top-at.false)

@@ -17,9 +17,3 @@ returns-in-Manual c = λ cc w e.
     let s : r ≡ (x.a + x.b + k) % 256 = omega (arith, c.wrapping_add_u8.ensures, c.wrapping_add_u8-r.ensures) in
     rw (c.in-Manual.is, c.bit-r7.ensures, c.bit-m7.ensures, c.bit-a7.ensures)
     (sum-v x.a x.b k r (search rules) (search rules) (digit-le (w && flag C cc)) s ∙ add-after cc x.a x.b (search rules) (search rules) Manual w)
-
-pub returns-in-Bought : goal.returns-in-Bought
-returns-in-Bought c = λ cc w e.
-    let x = c.args in
-    rw (c.in-Bought.is, c.signed_add_overflow_8.ensures, c.signed_add_overflow_8-in-Bought.ensures, c.wrapping_add_u8-a1.ensures, ← e)
-    (add-after cc x.a x.b (search rules) (search rules) Bought w)
