@@ -1,9 +1,8 @@
 -- `paired`: the characters before i are pairs of digits, so that the answer is that of the rest.
 -- Assumes nothing.
-use Rattle.std.proofs.Common.{◌≡◌, ◌+◌, ◌-◌, ◌≤◌, Bool, ◌&&◌, length, get_or, drop, sym, refl, ◌∙◌, arith}
+use Rattle.std.proofs.Common.{◌≡◌, ◌+◌, Bool, ◌&&◌, get_or, sym, refl, ◌∙◌, arith}
 use Rattle.srecord.proofs.Scan.{paired-not, paired-on, paired-last, paired_none}
 use Rattle.text.specs.Hex.{is_digit}
-use Rattle.srecord.specs.Layout.{is_paired}
 use Rattle.srecord.proofs.layout.paired.Goals as goal
 use Rattle.srecord.proofs.layout.paired.Goals.{After-is_digit-in-loop-i}
 

@@ -1,6 +1,6 @@
 -- `put_rows`: the text of the first k rows is stored, and `at` is its length.
 -- Assumes nothing.
-use Rattle.std.proofs.Common.{◌≡◌, ℕ, ◌+◌, ◌-◌, ◌≤◌, Bool, false, List, length, sym, refl, ap, ◌∙◌, arith}
+use Rattle.std.proofs.Common.{◌≡◌, ℕ, ◌+◌, ◌≤◌, Bool, false, List, length, sym, refl, ap, ◌∙◌, arith}
 use Rattle.srecord.proofs.Rows.{row-part, row-width, row-length, rows_none, rows_grow, Turned, turn_more, turn-skip}
 use Rattle.srecord.specs.Written.{bytes_of_row, is_zero, rows_text}
 use lib.Seq.{sets}
@@ -41,10 +41,10 @@ loop-k-preserved c =
     let z = (goal.at.loop-k-preserved c).After-all_zero in
     let done : Turned a.mem.now l.k l.at l.out a.out.now l.invariant.1.0 l.invariant.1.1.0 l.invariant.1.1.1 c.if-not-all_zero.at c.if-not-all_zero.out =
     elim c.if-not-all_zero.branch [
-    | then-not-all_zero w ↦
-        turn_more a.mem.now l.k l.at l.out a.out.now l.invariant.1.0 l.invariant.1.1.0 l.invariant.1.1.1 c.if-not-all_zero.at c.if-not-all_zero.out w.at-is (w.out-is ∙ rw (row-part a.mem.now l.k) at w.put_line.ensures) c.requires.0 c.loop-k-test.true (row_is z w.if-not-all_zero.true)
-    | else-not-all_zero w ↦
-        turn-skip a.mem.now l.k l.at l.out a.out.now l.invariant.1.0 l.invariant.1.1.0 l.invariant.1.1.1 c.if-not-all_zero.at c.if-not-all_zero.out w.at-is w.out-is (row_is z w.if-not-all_zero.false)
+      | then-not-all_zero w ↦
+          turn_more a.mem.now l.k l.at l.out a.out.now l.invariant.1.0 l.invariant.1.1.0 l.invariant.1.1.1 c.if-not-all_zero.at c.if-not-all_zero.out w.at-is (w.out-is ∙ rw (row-part a.mem.now l.k) at w.put_line.ensures) c.requires.0 c.loop-k-test.true (row_is z w.if-not-all_zero.true)
+      | else-not-all_zero w ↦
+          turn-skip a.mem.now l.k l.at l.out a.out.now l.invariant.1.0 l.invariant.1.1.0 l.invariant.1.1.1 c.if-not-all_zero.at c.if-not-all_zero.out w.at-is w.out-is (row_is z w.if-not-all_zero.false)
     ] in
     (omega arith, (done.ends, (done.keeps, done.holds)))
 
