@@ -1,0 +1,13 @@
+-- The byte is what the operation makes of the old one.
+-- Assumes nothing.
+use Rattle.std.proofs.Common.{◌≡◌, ◌%◌, arith}
+use Rattle.memory.proofs.Folds.{one-write}
+use Rattle.operations.specs.EightBit.{on_memory}
+use Rattle.calls.proofs.decisions.on_memory.Goals as goal
+
+pub returns : goal.returns
+unfolding on_memory
+returns c =
+    let h = c.wide.ensures.1 in
+    let f : c.wide.result % 256 ≡ c.wide.result = omega arith in
+    rw (c.tell.ensures, f, c.wide.ensures.0, c.with_codes.ensures, c.unary-out.ensures, c.read_u8.ensures, one-write)

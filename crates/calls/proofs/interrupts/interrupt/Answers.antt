@@ -1,0 +1,7 @@
+-- The plan is carried out.
+-- Assumes nothing.
+use Rattle.std.proofs.Common.{◌∙◌}
+use Rattle.calls.proofs.interrupts.interrupt.Goals as goal
+
+pub returns : goal.returns
+returns c = (c.carry_out.ensures.0 ∙ rw c.plan_interrupt-plan.ensures, c.carry_out.ensures.1 ∙ rw c.plan_interrupt-plan.ensures)

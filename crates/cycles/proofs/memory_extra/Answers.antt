@@ -1,0 +1,15 @@
+-- RTI, a push or a pull, or no extra.
+-- Assumes nothing.
+use Rattle.cycles.proofs.Arms.{stacks, no-pull}
+use Rattle.cycles.proofs.memory_extra.Goals as goal
+
+pub returns-in-Rti : goal.returns-in-Rti
+returns-in-Rti c = rw (c.return_extra.ensures, c.in-Rti.is)
+
+pub returns-in-Push : goal.returns-in-Push
+returns-in-Push c =
+    let x = c.args in
+    rw (c.bytes_of.ensures, c.read_u8.ensures) (stacks x.op x.mem.now x.regs x.ea c.in-Push.keys2)
+
+pub returns-in_default : goal.returns-in_default
+returns-in_default c = let x = c.args in no-pull x.op x.mem.now x.regs x.ea c.in_default.keys3

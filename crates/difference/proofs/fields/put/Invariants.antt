@@ -1,0 +1,24 @@
+-- The entries of the fields before the k-th are written, and those from it on are still to come.
+-- Assumes nothing.
+use Prim.Native.Nat.{ℕ, ◌+◌, ◌-◌, ◌*◌, ◌≤◌}
+use mathlib.Core.Path.{◌≡◌, refl, sym, ap, ◌∙◌}
+use native.Mathlib.Omega.{arith}
+use lib.Dec.{eqb}
+use lib.ListN.{length, get_or, drop}
+use lib.Seq.{sets}
+use Rattle.machine.specs.Record.{fields}
+use Rattle.machine.specs.declared.Machine.{Machine}
+use Rattle.difference.specs.Differences.{fields_apart}
+use Rattle.difference.specs.Compare.{entry_bytes, entry_size, laid_out}
+use Rattle.difference.proofs.Turns.{values, width-field, put-field, width-at-most, length-put}
+use borrow.Author.Rules.{rules}
+use Rattle.difference.proofs.fields.put.Given as goal
+
+abbrev pub invariant-loop-k : goal.invariant-loop-k
+invariant-loop-k l =
+    (l.k ≤ 13) × ((l.at ≤ entry_size * l.k) × ((length l.list ≡ length l.initial.list) × ((x y : Machine) → l.l ≡ values x → l.r ≡ values y
+    → (l.at + entry_size * length (fields_apart (drop l.k fields) x y) ≡ entry_size * length (fields_apart fields x y))
+    × (sets l.list l.at (laid_out (fields_apart (drop l.k fields) x y)) ≡ sets l.initial.list 0 (laid_out (fields_apart fields x y))))))
+
+abbrev pub decreases-loop-k : goal.decreases-loop-k
+decreases-loop-k l = 13 - l.k

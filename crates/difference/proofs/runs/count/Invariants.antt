@@ -1,0 +1,17 @@
+-- The runs that ended before i are counted, and those that end from i on are still to come.
+-- Assumes nothing.
+use Prim.Native.Nat.{ℕ, ◌+◌, ◌-◌, ◌≤◌}
+use mathlib.Core.Path.{◌≡◌, refl, sym, ap, ◌∙◌}
+use mathlib.Core.Logic.{⊎_elim}
+use native.Mathlib.Omega.{arith}
+use lib.Dec.{ltb}
+use lib.ListN.{length}
+use Rattle.difference.specs.Differences.{runs_from, runs}
+use Rattle.difference.proofs.Turns.{one_at_most, up-byte, count-equal, apart-on}
+use Rattle.difference.proofs.runs.count.Given as goal
+
+abbrev pub invariant-loop-i : goal.invariant-loop-i
+invariant-loop-i l = (l.i ≤ 65536) × ((l.n ≤ l.i) × (l.n + length (runs_from l.a l.b (65536 - l.i) l.first l.i) ≡ length (runs l.a l.b)))
+
+abbrev pub decreases-loop-i : goal.decreases-loop-i
+decreases-loop-i l = 65536 - l.i

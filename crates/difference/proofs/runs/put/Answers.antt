@@ -1,0 +1,53 @@
+-- The entries of the runs that ended before i are written, and those that end from i on are still to come.
+-- Assumes nothing.
+use Prim.Native.Nat.{ℕ, ◌+◌, ◌-◌, ◌*◌, ◌≤◌}
+use mathlib.Core.Path.{◌≡◌, refl, sym, ap, ◌∙◌}
+use mathlib.Core.Logic.{⊎_elim}
+use native.Mathlib.Omega.{arith}
+use lib.Dec.{ltb}
+use lib.ListN.{length}
+use lib.Seq.{sets, length-sets}
+use Rattle.difference.specs.Differences.{run_up_to, runs_from, runs}
+use Rattle.difference.specs.Compare.{entry_size, laid_out}
+use Rattle.difference.proofs.Turns.{one_at_most, up-byte, put-equal, apart-on}
+use Rattle.difference.proofs.runs.put.Goals as goal
+
+pub loop-i-init : goal.loop-i-init
+unfolding runs
+loop-i-init c = (omega arith, (omega arith, (refl, refl)))
+
+pub put_one-at-requires : goal.put_one-at-requires
+put_one-at-requires c = omega arith
+
+pub loop-i-preserved : goal.loop-i-preserved
+loop-i-preserved c =
+    let l = c.loop-i in
+    let a = c.args in
+    ⊎_elim
+    (λ v.
+    let list = v.5 ∙ v.2.ensures.1 in
+    let at = v.6 ∙ v.2.ensures.0 in (
+      omega arith,
+      (
+        omega (arith, at, up-byte l.first l.i, one_at_most (ltb l.first l.i)),
+        (
+          ap length list ∙ length-sets l.list l.at (laid_out (run_up_to l.first l.i)) ∙ l.invariant.1.1.0,
+          rw (list, at, v.7) (put-equal a.a.now a.b.now l.first l.i (omega arith) v.0.taken l.at l.list ∙ l.invariant.1.1.1),
+        ),
+      ),
+    ))
+    (λ v. (omega arith, (omega (arith, v.2), (ap length v.1 ∙ l.invariant.1.1.0, rw (v.1, v.2, v.3, apart-on a.a.now a.b.now l.first l.i (omega arith) v.0.left) l.invariant.1.1.1))))
+    c.if-a-i.branch
+
+pub put_one-requires : goal.put_one-requires
+put_one-requires c = omega arith
+
+pub shape_of-list : goal.shape_of-list
+shape_of-list c = ap length c.put_one.ensures.1 ∙ length-sets c.loop-i.list c.loop-i.at (laid_out (run_up_to c.loop-i.first c.loop-i.i)) ∙ c.loop-i.invariant.1.1.0
+
+pub returns : goal.returns
+unfolding runs_from
+returns c =
+    let l = c.loop-i in
+    let z : 65536 - l.i ≡ 0 = omega arith in
+    c.put_one.ensures.1 ∙ rw z at l.invariant.1.1.1

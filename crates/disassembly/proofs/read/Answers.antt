@@ -1,0 +1,10 @@
+-- What is decoded is judged.
+-- Assumes nothing.
+use Rattle.disassembly.specs.Disassembly.{legible}
+use Rattle.disassembly.proofs.read.Goals as goal
+
+pub returns-in-Instruction : goal.returns-in-Instruction
+returns-in-Instruction c = rw (c.judge.ensures, ← c.decode.ensures, c.in-Instruction.is)
+
+pub returns-in-Refused : goal.returns-in-Refused
+returns-in-Refused c = rw (← c.decode.ensures, c.in-Refused.is)

@@ -1,0 +1,21 @@
+-- The lines of the first k entries are written, and those from the k-th on are still to come.
+-- Assumes nothing.
+use Prim.Native.Nat.{ℕ, ◌+◌, ◌-◌, ◌*◌, ◌≤◌}
+use mathlib.Core.Path.{◌≡◌, refl, sym, ap, ◌∙◌}
+use native.Mathlib.Nat.{zero-add}
+use native.Mathlib.Omega.{arith}
+use lib.ListN.{length}
+use lib.Seq.{sets, length-sets}
+use Rattle.difference.specs.Compare.{entry_at}
+use Rattle.dump.specs.Told.{entry_line, list_lines}
+use Rattle.dump.proofs.Parts.{line-short}
+use Rattle.dump.proofs.Listed.{line-counted, line-written}
+use Rattle.dump.proofs.tells.put_lines.Given as goal
+
+abbrev pub invariant-loop-k : goal.invariant-loop-k
+invariant-loop-k l =
+    (l.k ≤ l.count) × ((l.at ≤ 48 * l.k) × ((length l.out ≡ length l.initial.out) × ((l.at + length (list_lines l.list (l.count - l.k) l.k) ≡ length (list_lines l.list l.count 0))
+    × (sets l.out l.at (list_lines l.list (l.count - l.k) l.k) ≡ sets l.initial.out 0 (list_lines l.list l.count 0)))))
+
+abbrev pub decreases-loop-k : goal.decreases-loop-k
+decreases-loop-k l = l.count - l.k

@@ -1,0 +1,16 @@
+-- The place follows from what the column stands for.
+-- Assumes nothing.
+use Rattle.fields.specs.OneOperand.{in_accumulator}
+use Rattle.fields.proofs.one_operand.in_accumulator.Goals as goal
+
+pub returns-in-Change : goal.returns-in-Change
+returns-in-Change c = rw (c.entry_at.ensures, ← c.operation.ensures, c.in-Change.is)
+
+pub returns-in-Test : goal.returns-in-Test
+returns-in-Test c = rw (c.entry_at-in-Test.ensures, ← c.operation.ensures, c.in-Test.is)
+
+pub returns-in-Jump : goal.returns-in-Jump
+returns-in-Jump c = rw (← c.operation.ensures, c.in-Jump.is)
+
+pub returns-in-Nothing : goal.returns-in-Nothing
+returns-in-Nothing c = rw (← c.operation.ensures, c.in-Nothing.is)

@@ -1,0 +1,13 @@
+-- The place follows from what the column stands for.
+-- Assumes nothing.
+use Rattle.fields.specs.TwoOperands.{two_operand_place}
+use Rattle.fields.proofs.two_operands.place.Goals as goal
+
+pub returns-in-Byte : goal.returns-in-Byte
+returns-in-Byte c = rw (c.with_byte.ensures, ← c.operation.ensures, c.in-Byte.is)
+
+pub returns-in-Store : goal.returns-in-Store
+returns-in-Store c = rw (c.IsStore-byte.ensures, ← c.operation.ensures, c.in-Store.is)
+
+pub returns-in-Word : goal.returns-in-Word
+returns-in-Word c = rw (c.place.ensures, ← c.operation.ensures, c.in-Word.is)

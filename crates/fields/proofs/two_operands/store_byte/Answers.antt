@@ -1,0 +1,7 @@
+-- A store of the accumulator, unless its mode would be immediate.
+-- Assumes nothing.
+use Rattle.fields.specs.TwoOperands.{store_byte}
+use Rattle.fields.proofs.two_operands.store_byte.Goals as goal
+
+pub returns : goal.returns
+returns c = rw (c.unless_immediate.ensures, c.entry_at.ensures, c.Mode-of.ensures, c.accumulator.ensures)

@@ -1,0 +1,26 @@
+-- `host_writes` meets its contract.
+-- Assumes nothing.
+use Prim.Native.Nat.{◌≤◌, ◌<◌, ◌-◌}
+use mathlib.Core.Path.{◌≡◌, refl, sym, ap, ◌∙◌}
+use mathlib.Core.List.{map}
+use native.Mathlib.Omega.{arith}
+use lib.ListN.{length, take, length-set, length-map}
+use Rattle.host.specs.Structs.{host_write}
+use Rattle.host.proofs.Laws.{turn, all_made}
+use Rattle.host.proofs.host_writes.Goals as goal
+
+pub loop-i-init : goal.loop-i-init
+loop-i-init c = (omega arith, (simp length-map at c.well_formed.0.1.1.1.0.1.0.1, (ap length c.no_writes-out.ensures, refl)))
+
+pub loop-i-preserved : goal.loop-i-preserved
+loop-i-preserved c =
+    let l = c.loop-i in
+    let t : l.i < 12 = c.loop-i-test.true in
+    let p = l.invariant.1.0 in
+    let q = l.invariant.1.1.0 in
+    (omega (arith, t), (p, (length-set l.out l.i c.host_write-w.result ∙ q, turn host_write _ l.out l.i _ _ (omega (arith, t, p)) (omega (arith, t, q)) l.invariant.1.1.1 c.host_write-w.ensures)))
+
+pub returns : goal.returns
+returns c =
+    let l = c.loop-i in
+    all_made host_write _ l.out l.i 12 c.loop-i-test.false l.invariant.1.0 l.invariant.1.1.0 l.invariant.1.1.1

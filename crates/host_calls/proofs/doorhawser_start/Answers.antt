@@ -1,0 +1,7 @@
+-- A fresh twin, told.
+-- Assumes nothing.
+
+use Rattle.host_calls.proofs.doorhawser_start.Goals as goal
+
+pub returns : goal.returns
+returns c = rw (c.host_twin.ensures, c.fresh.ensures)

@@ -1,0 +1,23 @@
+-- Where the numbers are named, the call on a twin; else 64.
+-- Assumes nothing.
+use mathlib.Core.Path.{sym, ◌∙◌}
+use Rattle.journal.specs.Recorded.{stepped}
+use Rattle.host.specs.Numbers.{is_named}
+use Rattle.host.specs.Structs.{settings_from}
+use Rattle.host.proofs.Laws.{refuses, passes}
+use Rattle.host_step.proofs.doorhawser_step.Goals as goal
+
+pub returns-then-is_named : goal.returns-then-is_named
+returns-then-is_named c =
+    let a = c.args in
+    passes (is_named a.twin a.settings) (stepped (settings_from a.settings)) a.twin a.mem.now a.journal.now _ _ _ _
+    (sym c.is_named.ensures ∙ c.if-is_named.true)
+    (rw (c.twin_of.ensures, c.settings_of.ensures) at c.step.ensures.leaves)
+    c.outcome_of.ensures
+
+pub returns : goal.returns
+returns c =
+    let a = c.args in
+    refuses (is_named a.twin a.settings) (stepped (settings_from a.settings)) a.twin a.mem.now a.journal.now _
+    (sym c.is_named.ensures ∙ c.if-is_named.false)
+    c.unnamed.ensures

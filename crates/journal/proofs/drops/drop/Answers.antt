@@ -1,0 +1,42 @@
+-- Refused, or the rest is moved from where the walk ended.
+-- Assumes nothing.
+use mathlib.Core.Path.{sym, ◌∙◌}
+use native.Mathlib.Omega.{arith}
+use Rattle.journal.specs.Recorded.{in_hand}
+use Rattle.journal.proofs.Walking.{walked-within, drop-refused, drop-12, drop-26, drop-broken, drop-done}
+use Rattle.journal.proofs.drops.drop.Goals as goal
+
+pub returns-then-bytes-journal : goal.returns-then-bytes-journal
+returns-then-bytes-journal c = λ memory.
+    let a = c.args in
+    let s = in_hand memory a.journal.now a.twin in
+    drop-refused a.k s _ c.refused.result (drop-12 a.k s c.if-bytes-journal.true) c.refused.ensures
+
+pub returns-then-k-records : goal.returns-then-k-records
+returns-then-k-records c = λ memory.
+    let a = c.args in
+    let s = in_hand memory a.journal.now a.twin in
+    drop-refused a.k s _ c.refused-then-k-records.result (drop-26 a.k s c.if-bytes-journal.false c.if-k-records.true) c.refused-then-k-records.ensures
+
+pub overflow_sub-left : goal.overflow_sub-left
+overflow_sub-left c =
+    let a = c.args in
+    walked-within a.journal.now a.twin.bytes a.k _ (sym c.in-At.is ∙ c.walk.ensures)
+
+pub shift-requires : goal.shift-requires
+shift-requires c =
+    let a = c.args in
+    let h = walked-within a.journal.now a.twin.bytes a.k _ (sym c.in-At.is ∙ c.walk.ensures) in
+    omega (arith, h, c.if1.false)
+
+pub returns-in-Broken : goal.returns-in-Broken
+returns-in-Broken c = λ memory.
+    let a = c.args in
+    let s = in_hand memory a.journal.now a.twin in
+    drop-refused a.k s _ c.refused-in-Broken.result (drop-broken a.k s c.if1.false c.if2.false (sym c.in-Broken.is ∙ c.walk.ensures)) c.refused-in-Broken.ensures
+
+pub returns-in-At : goal.returns-in-At
+returns-in-At c = λ memory.
+    let a = c.args in
+    let s = in_hand memory a.journal.now a.twin in
+    drop-done a.k s c.if1.false c.if2.false _ _ c.none.result (sym c.in-At.is ∙ c.walk.ensures) c.shift.ensures c.none.ensures

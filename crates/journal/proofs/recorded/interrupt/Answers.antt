@@ -1,0 +1,7 @@
+-- A call from outside.
+-- Assumes nothing.
+
+use Rattle.journal.proofs.recorded.interrupt.Goals as goal
+
+pub returns : goal.returns
+returns c = c.record_outside.ensures

@@ -1,0 +1,7 @@
+-- `lent::step_value` meets its contract: what `journal::step` returned, put together anew.
+-- Assumes nothing.
+use Rattle.lent.proofs.Parts.{parted}
+use Rattle.lent.proofs.step_value.Goals as goal
+
+pub returns : goal.returns
+returns c = (parted _ _ _ _ c.step-outcome.ensures.leaves, c.step-outcome.ensures.typed)

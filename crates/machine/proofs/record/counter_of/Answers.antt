@@ -1,0 +1,8 @@
+-- The eight bytes, high byte first.
+-- Assumes nothing.
+use mathlib.Core.Path.{sym}
+use Rattle.machine.proofs.Header.{eight}
+use Rattle.machine.proofs.record.counter_of.Goals as goal
+
+pub returns : goal.returns
+returns c = sym (eight c.args.n)

@@ -1,0 +1,19 @@
+-- Each field is the number at its place.
+-- Assumes nothing.
+use Rattle.machine.specs.Record.{machine_of}
+use Rattle.machine.proofs.Header.{single}
+use Rattle.machine.proofs.record.machine_of.Goals as goal
+
+pub returns : goal.returns
+unfolding machine_of
+returns c =
+    rw (
+      c.number_at-2.ensures.0,
+      c.number_at.ensures.0,
+      c.mark_of-armed.ensures,
+      c.byte_at-2.ensures,
+      c.wait_of-wait.ensures,
+      c.byte_at.ensures,
+      c.registers_of-regs.ensures,
+    )
+    (simp single)

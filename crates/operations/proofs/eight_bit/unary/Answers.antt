@@ -1,0 +1,34 @@
+-- Each operation on one byte, by the page of its arithmetic.
+-- Assumes nothing.
+
+use Rattle.operations.proofs.eight_bit.unary.Goals as goal
+
+pub returns-in-Neg : goal.returns-in-Neg
+returns-in-Neg c = rw (c.neg_u8.ensures, c.in-Neg.is)
+
+pub returns-in-Com : goal.returns-in-Com
+returns-in-Com c = rw (c.com_u8.ensures, c.in-Com.is)
+
+pub returns-in-Lsr : goal.returns-in-Lsr
+returns-in-Lsr c = rw (c.shr_u8.ensures, c.in-Lsr.is)
+
+pub returns-in-Ror : goal.returns-in-Ror
+returns-in-Ror c = rw (c.ror_u8.ensures, c.in-Ror.is)
+
+pub returns-in-Asr : goal.returns-in-Asr
+returns-in-Asr c = rw (c.shr_u8-in-Asr.ensures, c.in-Asr.is)
+
+pub returns-in-Asl : goal.returns-in-Asl
+returns-in-Asl c = rw (c.shl_u8.ensures, c.in-Asl.is)
+
+pub returns-in-Rol : goal.returns-in-Rol
+returns-in-Rol c = rw (c.rol_u8.ensures, c.in-Rol.is)
+
+pub returns-in-Dec : goal.returns-in-Dec
+returns-in-Dec c = rw (c.dec_u8.ensures, c.in-Dec.is)
+
+pub returns-in-Inc : goal.returns-in-Inc
+returns-in-Inc c = rw (c.inc_u8.ensures, c.in-Inc.is)
+
+pub returns-in-Clr : goal.returns-in-Clr
+returns-in-Clr c = rw (c.clear.ensures, c.in-Clr.is)

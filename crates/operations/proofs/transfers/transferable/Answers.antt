@@ -1,0 +1,8 @@
+-- The test of both codes is computed as it is defined.
+-- Assumes nothing.
+use Rattle.std.proofs.Common.{refl}
+use Rattle.operations.specs.Transfers.{transferable}
+use Rattle.operations.proofs.transfers.transferable.Goals as goal
+
+pub returns : goal.returns
+returns c = refl

@@ -1,0 +1,10 @@
+-- The sixteen places of `row_9` are those of the manual's rows: each is what its call answers, or none.
+-- Assumes nothing.
+use mathlib.Core.Path.{refl}
+use Rattle.opcodes.specs.Manual.{entry_of}
+use Rattle.opcodes.specs.Rows.{row_of}
+use Rattle.opcodes.proofs.Rows.{◌∷≡◌}
+use Rattle.pages.proofs.eleven.row_9.Goals as goal
+
+pub returns : goal.returns
+returns c = refl ∷≡ refl ∷≡ refl ∷≡ c.compare16.ensures ∷≡ refl ∷≡ refl ∷≡ refl ∷≡ refl ∷≡ refl ∷≡ refl ∷≡ refl ∷≡ refl ∷≡ c.compare16-2.ensures ∷≡ refl ∷≡ refl ∷≡ refl ∷≡ refl

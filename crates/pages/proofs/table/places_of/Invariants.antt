@@ -1,0 +1,13 @@
+-- The loop fills the page from its start: `code` places are written.
+-- Assumes nothing.
+use Prim.Native.Nat.{◌≤◌, ◌-◌}
+use mathlib.Core.Path.{◌≡◌, ap, ◌∙◌}
+use native.Mathlib.Omega.{arith}
+use Rattle.pages.proofs.Reading.{filled, at_first, one_more, at_last}
+use Rattle.pages.proofs.table.places_of.Given as goal
+
+abbrev pub invariant-loop-code : goal.invariant-loop-code
+invariant-loop-code l = (l.code ≤ 256) × (l.places ≡ filled l.page l.code)
+
+abbrev pub decreases-loop-code : goal.decreases-loop-code
+decreases-loop-code l = 256 - l.code

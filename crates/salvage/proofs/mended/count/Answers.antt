@@ -1,0 +1,43 @@
+-- The loop's invariant: what is counted and what is left make the whole (`Counted`).
+-- Assumes nothing.
+use Prim.Native.Nat.{◌-◌}
+use mathlib.Core.Path.{sym, ◌∙◌}
+use native.Mathlib.Omega.{arith}
+use lib.ListN.{length}
+use Rattle.salvage.proofs.Walk.{Turned, turned}
+use Rattle.salvage.proofs.Tallies.{Counted, at_first, keeps, drops, at_last}
+use Rattle.salvage.proofs.mended.count.Goals as goal
+
+-- the turn at hand
+here : (c : tie.After-next invariant-loop decreases-loop) → Turned c.before.before.before.before.before.before.args.file.now c.before.before.before.loop.at c.next.result
+here c = turned _ _ _ c.before.if1.true c.next.ensures
+
+pub loop-at-init : goal.loop-at-init
+loop-at-init c = at_first _ _ c.first-at.ensures
+
+pub next-turned-requires : goal.next-turned-requires
+next-turned-requires c = (c.loop-at-test.true, c.loop-at.invariant.few)
+
+pub overflow_sub-bytes : goal.overflow_sub-bytes
+overflow_sub-bytes c = let w = here c in omega (arith, w.on)
+
+pub overflow_add-bytes : goal.overflow_add-bytes
+overflow_add-bytes c = let w = here c in let k = c.loop-at.invariant in omega (arith, w.on, w.fits, k.less)
+
+pub overflow_add-numbers : goal.overflow_add-numbers
+overflow_add-numbers c = let w = here c in let k = c.loop-at.invariant in omega (arith, w.on, w.fits, k.few, k.fewer)
+
+pub loop-at-smaller-in-Keep : goal.loop-at-smaller-in-Keep
+loop-at-smaller-in-Keep c = let w = here c in omega (arith, w.on, w.fits)
+
+pub loop-at-preserved-in-Keep : goal.loop-at-preserved-in-Keep
+loop-at-preserved-in-Keep c = keeps _ _ _ _ _ (here c) c.loop-at.invariant c.in-Keep.is
+
+pub loop-at-smaller : goal.loop-at-smaller
+loop-at-smaller c = let w = here c in omega (arith, w.on, w.fits)
+
+pub loop-at-preserved : goal.loop-at-preserved
+loop-at-preserved c = drops _ _ _ _ _ (here c) c.loop-at.invariant _ c.in-Drop.is
+
+pub returns : goal.returns
+returns c = at_last _ _ _ _ c.loop-at.invariant c.loop-at-test.false

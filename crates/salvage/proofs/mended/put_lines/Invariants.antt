@@ -1,0 +1,15 @@
+-- The loop's invariant: what is laid, and then what is left, is the whole (`Laid`).
+-- Assumes nothing.
+use Prim.Native.Nat.{◌-◌}
+use mathlib.Core.Path.{◌≡◌, refl, sym, ap, ◌∙◌}
+use native.Mathlib.Omega.{arith}
+use lib.ListN.{length}
+use Rattle.salvage.proofs.Walk.{Turned, turned}
+use Rattle.salvage.proofs.Laying.{Laid, at_first, keeps, room-left, drops, at_last}
+use Rattle.salvage.proofs.mended.put_lines.Given as goal
+
+abbrev pub invariant-loop-at : goal.invariant-loop-at
+invariant-loop-at l = Laid l.file l.initial.out l.initial.list l.at l.bytes l.listed l.out l.list
+
+abbrev pub decreases-loop-at : goal.decreases-loop-at
+decreases-loop-at l = length l.file - l.at.from

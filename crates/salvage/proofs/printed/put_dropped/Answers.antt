@@ -1,0 +1,23 @@
+-- Its four parts, one after the other.
+-- Assumes nothing.
+-- a number has at most twenty digits
+use Prim.Native.Nat.{◌≤◌}
+use mathlib.Core.Path.{◌≡◌, sym, ap, ◌∙◌}
+use native.Mathlib.Omega.{arith}
+use lib.ListN.{length}
+use Rattle.answers.specs.Numbers.{number_of}
+use Rattle.text.proofs.Decimals.{at-most-twenty}
+use Rattle.salvage.proofs.Telling.{said-decimal, said-alone, alone-short, dropped-put}
+use Rattle.salvage.proofs.printed.put_dropped.Goals as goal
+
+few : (c : tie.After-put2) → c.put2.result ≤ 20
+few c = omega (arith, c.put2.ensures.0, ap length (said-decimal _ _ c.before.before.decimal.ensures), at-most-twenty c.before.before.before.before.before.before.before.before.before.args.number)
+
+pub returns : goal.returns
+returns c =
+    let a = c.args in
+    let d = said-decimal a.number _ c.decimal.ensures in
+    let n = said-alone a.refusal _ _ c.number.ensures c.alone.ensures in
+    let p = rw d at c.put-digits.ensures in
+    let q = rw n at c.put-3.ensures in
+    dropped-put a.number a.refusal _ _ _ _ _ _ _ _ c.put.ensures p.0 p.1 c.put-2.ensures q.0 q.1

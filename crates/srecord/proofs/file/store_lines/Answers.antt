@@ -1,0 +1,55 @@
+-- `store_lines`: memory is as the lines before `from` leave it, and the lines from there on lead to the same memory.
+-- Assumes nothing.
+use Rattle.std.proofs.Common.{◌≡◌, ◌-◌, ◌<◌, ◌≤◌, List, ◌∷◌, length, take, drop, sym, refl, ap, ◌∙◌, arith}
+use Rattle.srecord.proofs.Lines.{line-fits, next-line, no_lines, data-line, data-kept, lands, lands-none, idle}
+use Rattle.srecord.specs.File.{meanings_of, landed}
+use Rattle.srecord.specs.Line.{Meaning, line_of}
+use Rattle.srecord.proofs.file.store_lines.Goals as goal
+
+fits : (c : tie.After-line-end invariant-loop decreases-loop) → (c.before.before.loop.from < c.line-end.result) × (c.line-end.result ≤ length c.before.before.before.before.before.args.file.now)
+fits c = rw c.line-end.ensures (line-fits c.before.before.before.before.before.args.file.now c.before.before.loop.from c.before.loop-test.true)
+
+-- the line at hand, and those after it
+step : (c : tie.After-line-end invariant-loop decreases-loop)
+    → landed (line_of (take (c.line-end.result - c.before.before.loop.from) (drop c.before.before.loop.from c.before.before.before.before.before.args.file.now)) ∷ meanings_of (drop c.line-end.result c.before.before.before.before.before.args.file.now)) c.before.before.loop.mem
+    ≡ landed (meanings_of c.before.before.before.before.before.args.file.now) c.before.before.before.before.before.args.mem.now
+step c =
+    ap (λ (ms : List Meaning). landed ms c.before.before.loop.mem) (sym (next-line c.before.before.before.before.before.args.file.now c.before.before.loop.from c.before.loop-test.true _ c.line-end.ensures))
+    ∙ c.before.before.loop.invariant.1.1
+
+pub loop-from-init : goal.loop-from-init
+loop-from-init c = (omega arith, (omega arith, refl))
+
+pub slice_bounds-text-count : goal.slice_bounds-text-count
+slice_bounds-text-count c = omega (arith, fits c)
+
+pub slice_bounds-text-start : goal.slice_bounds-text-start
+slice_bounds-text-start c = omega (arith, fits c)
+
+pub slice_bounds-text-end : goal.slice_bounds-text-end
+slice_bounds-text-end c = omega (arith, fits c)
+
+pub store_data-requires : goal.store_data-requires
+store_data-requires c = let d = data-line _ _ _ (sym c.line_of.ensures ∙ c.in-Data.is) in (omega arith, omega arith)
+
+pub loop-from-smaller-in-Data : goal.loop-from-smaller-in-Data
+loop-from-smaller-in-Data c = omega (arith, fits c)
+
+pub loop-from-preserved-in-Data : goal.loop-from-preserved-in-Data
+loop-from-preserved-in-Data c =
+    let d = data-line _ _ _ (sym c.line_of.ensures ∙ c.in-Data.is) in
+    let s = c.store_data.ensures in
+    (omega (arith, fits c), (data-kept _ _ _ _ _ d c.loop-from.invariant.1.0 s, rw s (sym (lands _ _ _ _ _ d.means) ∙ step c)))
+
+pub loop-from-smaller : goal.loop-from-smaller
+loop-from-smaller c = omega (arith, fits c)
+
+pub loop-from-preserved : goal.loop-from-preserved
+loop-from-preserved c = (omega (arith, fits c), (c.loop-from.invariant.1.0, sym (idle _ _ _ c.line_of.ensures c.in_default.keys2) ∙ step c))
+
+pub shape_of-mem : goal.shape_of-mem
+shape_of-mem c = omega arith
+
+pub returns : goal.returns
+returns c =
+    sym (ap (λ (ms : List Meaning). landed ms c.loop-from.mem) (no_lines c.args.file.now c.loop-from.from c.loop-from-test.false) ∙ lands-none _) ∙ c.loop-from.invariant.1.1

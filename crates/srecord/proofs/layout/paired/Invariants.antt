@@ -1,0 +1,14 @@
+-- `paired`: the characters before i are pairs of digits, so that the answer is that of the rest.
+-- Assumes nothing.
+use Rattle.std.proofs.Common.{◌≡◌, ◌+◌, ◌-◌, ◌≤◌, Bool, ◌&&◌, length, get_or, drop, sym, refl, ◌∙◌, arith}
+use borrow.Author.Tests.{not-true, not-false}
+use Rattle.srecord.proofs.Scan.{paired-not, paired-on, paired-last, paired_none}
+use Rattle.text.specs.Hex.{is_digit}
+use Rattle.srecord.specs.Layout.{is_paired}
+use Rattle.srecord.proofs.layout.paired.Given as goal
+
+abbrev pub invariant-loop-i : goal.invariant-loop-i
+invariant-loop-i l = (l.i ≤ length l.text) × (is_paired (drop l.i l.text) ≡ is_paired l.text)
+
+abbrev pub decreases-loop-i : goal.decreases-loop-i
+decreases-loop-i l = length l.text - l.i

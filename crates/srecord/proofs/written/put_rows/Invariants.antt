@@ -1,0 +1,14 @@
+-- `put_rows`: the text of the first k rows is stored, and `at` is its length.
+-- Assumes nothing.
+use Rattle.std.proofs.Common.{◌≡◌, ℕ, ◌+◌, ◌-◌, ◌≤◌, Bool, false, List, length, sym, refl, ap, ◌∙◌, ⊎_elim, arith}
+use borrow.Author.Tests.{not-true, not-false}
+use Rattle.srecord.proofs.Rows.{row-part, row-width, row-length, rows_none, rows_grow, turn_more, turn-skip}
+use Rattle.srecord.specs.Written.{bytes_of_row, is_zero, rows_text}
+use lib.Seq.{sets}
+use Rattle.srecord.proofs.written.put_rows.Given as goal
+
+abbrev pub invariant-loop-k : goal.invariant-loop-k
+invariant-loop-k l = (l.k ≤ 2048) × ((l.at ≡ length (rows_text l.mem l.k)) × ((length l.out ≡ length l.initial.out) × (l.out ≡ sets l.initial.out 0 (rows_text l.mem l.k))))
+
+abbrev pub decreases-loop-k : goal.decreases-loop-k
+decreases-loop-k l = 2048 - l.k

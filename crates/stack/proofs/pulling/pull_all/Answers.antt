@@ -1,0 +1,55 @@
+-- `pull_all`: what is still to be pulled gives, at every turn of the loops, what the whole pull gives.
+-- Assumes nothing.
+use Rattle.std.proofs.Common.{◌≡◌, ◌-◌, ◌≤◌, sym, refl, ◌∙◌, ⊎_elim, arith}
+use Rattle.stack.specs.Pulling.{pulled_to}
+use Rattle.stack.proofs.Emptying.{from, all-pulled, turn-off, turn_byte, turn-word}
+use Rattle.stack.proofs.pulling.pull_all.Goals as goal
+
+pub loop-k-init : goal.loop-k-init
+loop-k-init c = (omega arith, refl)
+
+pub loop-k-preserved : goal.loop-k-preserved
+loop-k-preserved c =
+    let l = c.loop-k in
+    let a = c.args in
+    let t = c.loop-k-test.true in
+    let b = c.bit.ensures in (
+      omega arith,
+      ⊎_elim
+          (λ w. turn_byte a.mem.now a.stack a.mask l.k (omega arith) l.regs l.at (sym b ∙ w.0.taken) t w.1.result c.if-bit.regs c.if-bit.at w.1.ensures (w.4 ∙ w.2.ensures) (w.5 ∙ w.3.ensures))
+          (λ w. rw (w.1, w.2) (turn-off a.mem.now a.stack a.mask l.k (omega arith) (sym b ∙ w.0.left) (pulled_to l.regs l.at)))
+          c.if-bit.branch
+          ∙ l.invariant.1,
+    )
+
+pub loop-k-2-init : goal.loop-k-2-init
+loop-k-2-init c =
+    let l = c.loop-k in
+    let t = c.loop-k-test.false in
+    let z : l.k ≡ 4 = omega arith in
+    ((omega arith, omega arith), rw z)
+
+pub loop-k-2-preserved : goal.loop-k-2-preserved
+loop-k-2-preserved c =
+    let l = c.loop-k-2 in
+    let a = c.args in
+    let t = c.loop-k-2-test.true in
+    let b = c.bit-in-loop-k-2.ensures in (
+      (omega arith, omega arith),
+      ⊎_elim
+          (λ w. turn-word a.mem.now a.stack a.mask l.k (omega arith) l.regs l.at (sym b ∙ w.0.taken) (omega arith) w.1.result c.if-bit-2.regs c.if-bit-2.at w.1.ensures (w.4 ∙ w.2.ensures) (w.5 ∙ w.3.ensures))
+          (λ w. rw (w.1, w.2) (turn-off a.mem.now a.stack a.mask l.k (omega arith) (sym b ∙ w.0.left) (pulled_to l.regs l.at)))
+          c.if-bit-2.branch
+          ∙ l.invariant.1,
+    )
+
+pub returns : goal.returns
+returns c =
+    let l = c.loop-k-2 in
+    let m = c.loop-k in
+    let a = c.args in
+    let t = c.loop-k-2-test.false in
+    let u = c.loop-k-test.false in
+    let z : l.k ≡ 8 = omega arith in
+    let y : m.k ≡ 4 = omega arith in
+    all-pulled a.mem.now a.stack a.mask (pulled_to l.regs l.at) ∙ (rw z at l.invariant.1 ∙ rw y at m.invariant.1)

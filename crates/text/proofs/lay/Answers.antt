@@ -1,0 +1,32 @@
+-- The invariant: the first i bytes of the part are written. The measure is the number of bytes that are left.
+-- Assumes nothing.
+use Prim.Native.Nat.{◌-◌, ◌≤◌}
+use mathlib.Core.Path.{◌≡◌, refl, ap, ◌∙◌}
+use native.Mathlib.Omega.{arith}
+use lib.ListN.{length, take}
+use lib.Seq.{sets, length-sets, take_all}
+use Rattle.text.proofs.Stores.{one_more}
+use Rattle.text.proofs.lay.Goals as goal
+
+pub loop-i-init : goal.loop-i-init
+loop-i-init c = (omega arith, refl)
+
+pub bounds-out-at : goal.bounds-out-at
+bounds-out-at c =
+    let a = c.args in
+    let l = c.loop-i in
+    omega (arith, ap length l.invariant.1 ∙ length-sets a.out.now a.at (take l.i a.part.now))
+
+pub loop-i-preserved : goal.loop-i-preserved
+loop-i-preserved c =
+    let a = c.args in
+    let l = c.loop-i in
+    (omega arith, rw l.invariant.1 (one_more a.out.now a.part.now a.at l.i (omega arith)))
+
+pub shape_of-out : goal.shape_of-out
+shape_of-out c =
+    let a = c.args in
+    ap length c.loop-i.invariant.1 ∙ length-sets a.out.now a.at (take c.loop-i.i a.part.now)
+
+pub returns : goal.returns
+returns c = rw (take_all c.loop-i.i c.args.part.now (omega arith)) at c.loop-i.invariant.1

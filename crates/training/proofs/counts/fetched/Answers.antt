@@ -1,0 +1,10 @@
+-- By the class of the operation.
+-- Assumes nothing.
+
+use Rattle.training.proofs.counts.fetched.Goals as goal
+
+pub returns-in-Registers : goal.returns-in-Registers
+returns-in-Registers c = rw c.in-Registers.is
+
+pub returns-in-Memory : goal.returns-in-Memory
+returns-in-Memory c = rw (c.pulled.ensures, c.in-Memory.is)

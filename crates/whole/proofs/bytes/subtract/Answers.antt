@@ -1,0 +1,11 @@
+-- The page is that of the setting (`sub-page`).
+-- Assumes nothing.
+use mathlib.Core.Path.{ap}
+use Rattle.registers.specs.Arithmetic.{out8}
+use Rattle.whole.proofs.Pages.{sub-page}
+use Rattle.whole.proofs.bytes.subtract.Goals as goal
+
+pub returns : goal.returns
+returns c =
+    let x = c.args in
+    rw (c.out.ensures, c.difference_by.ensures.value, c.carry_in-c.ensures.value) (ap (out8 x.cc) (sub-page x.cc x.a x.b x.flags x.with_carry))

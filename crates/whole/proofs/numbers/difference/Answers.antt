@@ -1,0 +1,10 @@
+-- The overflow is that of the definition, and the result is below the modulus.
+-- Assumes nothing.
+use native.Mathlib.Nat.{mod-lt}
+use native.Mathlib.Omega.{arith}
+use Rattle.u8oru16.specs.Signed.{diff_out}
+use Rattle.whole.proofs.Signed.{back}
+use Rattle.whole.proofs.numbers.difference.Goals as goal
+
+pub returns : goal.returns
+returns c = record { value = rw (c.is_outside.ensures, back c.signed_difference.result c.signed_difference.ensures.result_bound, c.signed_difference.ensures.value); value_bound = mod-lt _ (omega (arith, c.requires.width.some)) }
