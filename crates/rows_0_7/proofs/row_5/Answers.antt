@@ -1,0 +1,10 @@
+-- The sixteen places of `row_5` are those of the manual's rows: each is what its call answers, or none.
+-- Assumes nothing.
+use mathlib.Core.Path.{refl}
+use Rattle.opcodes.specs.Manual.{entry_of}
+use Rattle.opcodes.specs.Rows.{row_of}
+use Rattle.opcodes.proofs.Rows.{◌∷≡◌}
+use Rattle.rows_0_7.proofs.row_5.Goals as goal
+
+pub returns : goal.returns
+returns c = c.on_acc.ensures ∷≡ refl ∷≡ refl ∷≡ c.on_acc-2.ensures ∷≡ c.on_acc-3.ensures ∷≡ refl ∷≡ c.on_acc-4.ensures ∷≡ c.on_acc-5.ensures ∷≡ c.on_acc-6.ensures ∷≡ c.on_acc-7.ensures ∷≡ c.on_acc-8.ensures ∷≡ refl ∷≡ c.on_acc-9.ensures ∷≡ c.registers.ensures ∷≡ refl ∷≡ c.on_acc-10.ensures ∷≡ refl
