@@ -4,4 +4,4 @@
 use Rattle.operations.proofs.inherent.add_b_to_x.Goals as goal
 
 pub returns : goal.returns
-returns c = rw (c.with_word.ensures, c.wrapping_add_u16.ensures)
+returns c = rw (c.with_word.ensures, c.wrapping_add_u16.ensures.value)
