@@ -4,7 +4,7 @@
     tools/model/allowances.py [--seed N] [--time SECONDS] [--scenes N] [--cmd COMMAND]    (fifty scenes at a time)
 
 A scene is a line of crates/allowances/README.md that ends in D: two runs, then undos until one is refused, each with all of memory and
-journal. COMMAND reads scenes from standard input; left out, it is target/bin/allowances, after `rt check allowances`.
+journal. COMMAND reads scenes from standard input; left out, it is crates/allowances/out/allowances, after `rt run` in crates/allowances.
 """
 import argparse
 import os

@@ -3,7 +3,7 @@
 
     tools/model/engines.py [--seed N] [--files N]
 
-The programs are target/bin/run and target/bin/run_training, after `rt check run run_training`. The files are those of fuzz.py and edges.py, one
+The programs are crates/run/out/run and crates/run_training/out/run_training, after `rt run` in both folders. The files are those of fuzz.py and edges.py, one
 after the other; the model makes them, and is not asked for what is printed.
 """
 import argparse, random, sys, os

@@ -4,7 +4,7 @@
     tools/model/fences.py [--seed N] [--time SECONDS] [--scenes N] [--cmd COMMAND]    (fifty scenes at a time)
 
 A scene is a line of crates/fences/README.md with sums: up to eight calls, recorded or not, under two profiles of random ranges. COMMAND
-reads scenes from standard input; left out, it is target/bin/fences, after `rt check fences`.
+reads scenes from standard input; left out, it is crates/fences/out/fences, after `rt run` in crates/fences.
 """
 import argparse
 import os

@@ -3,9 +3,9 @@
 
     tools/model/fuzz.py [--seed N] [--time SECONDS] [--cmd COMMAND]
 
-COMMAND reads a run file from standard input; left out, it is target/bin/run, after `rt check run`.
+COMMAND reads a run file from standard input; left out, it is crates/run/out/run, after `rt run` in crates/run.
 """
-import sys, os, random, time, subprocess, argparse, platform
+import sys, os, random, time, subprocess, argparse
 from collections import Counter
 sys.path.insert(0, os.path.dirname(os.path.abspath(__file__)))
 import model
@@ -738,12 +738,9 @@ def shrink(cmd, data, budget=500):
 
 
 def built(program='run'):
-    """A program as rt runs it: for x86-64, under the kit's own loader and C library; elsewhere the kit has an emulator."""
-    guide = subprocess.run(['rt', 'doc'], capture_output=True, text=True, check=True).stdout.strip()
-    kit = os.path.join(os.path.dirname(os.path.dirname(guide)), 'on', platform.machine(), 'toolchain')
+    """A program as `rt run` in its crate's folder leaves it."""
     root = os.path.dirname(os.path.dirname(os.path.dirname(os.path.abspath(__file__))))
-    words = [kit + '/lib/ld-linux-x86-64.so.2', '--library-path', kit + '/lib', root + '/target/bin/' + program]
-    return [kit + '/bin/qemu-x86_64', *words] if os.access(kit + '/bin/qemu-x86_64', os.X_OK) else words
+    return [os.path.join(root, 'crates', program, 'out', program)]
 
 
 def main():

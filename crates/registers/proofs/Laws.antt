@@ -66,26 +66,46 @@ silent-absent (g ∷ fs) l f e h =
 
 -- the pages have no line for a flag of the table
 table : (s : Flags) (o : Operation) (cc : CCBits) (a b : ℕ) → silent (untouched o) (by s o cc a b).flags ≡ true
-table s ADD cc a b = elim s [ Bought ↦ refl | Manual ↦ refl ]
-table s ADC cc a b = elim s [ Bought ↦ refl | Manual ↦ refl ]
-table s ADDD cc a b = elim s [ Bought ↦ refl | Manual ↦ refl ]
-table s SUB cc a b = elim s [ Bought ↦ refl | Manual ↦ refl ]
-table s SBC cc a b = elim s [ Bought ↦ refl | Manual ↦ refl ]
-table s SUBD cc a b = elim s [ Bought ↦ refl | Manual ↦ refl ]
-table s DEC cc a b = elim s [ Bought ↦ refl | Manual ↦ refl ]
-table s INC cc a b = elim s [ Bought ↦ refl | Manual ↦ refl ]
-table s AND cc a b = elim s [ Bought ↦ refl | Manual ↦ refl ]
-table s AND16 cc a b = elim s [ Bought ↦ refl | Manual ↦ refl ]
-table s OR cc a b = elim s [ Bought ↦ refl | Manual ↦ refl ]
-table s EOR cc a b = elim s [ Bought ↦ refl | Manual ↦ refl ]
-table s COM cc a b = elim s [ Bought ↦ refl | Manual ↦ refl ]
-table s NEG cc a b = elim s [ Bought ↦ refl | Manual ↦ refl ]
-table s ASL cc a b = elim s [ Bought ↦ refl | Manual ↦ refl ]
-table s LSR cc a b = elim s [ Bought ↦ refl | Manual ↦ refl ]
-table s ASR cc a b = elim s [ Bought ↦ refl | Manual ↦ refl ]
-table s ROL cc a b = elim s [ Bought ↦ refl | Manual ↦ refl ]
-table s ROR cc a b = elim s [ Bought ↦ refl | Manual ↦ refl ]
-table s MUL cc a b = elim s [ Bought ↦ refl | Manual ↦ refl ]
+table Bought ADD cc a b = refl
+table Manual ADD cc a b = refl
+table Bought ADC cc a b = refl
+table Manual ADC cc a b = refl
+table Bought ADDD cc a b = refl
+table Manual ADDD cc a b = refl
+table Bought SUB cc a b = refl
+table Manual SUB cc a b = refl
+table Bought SBC cc a b = refl
+table Manual SBC cc a b = refl
+table Bought SUBD cc a b = refl
+table Manual SUBD cc a b = refl
+table Bought DEC cc a b = refl
+table Manual DEC cc a b = refl
+table Bought INC cc a b = refl
+table Manual INC cc a b = refl
+table Bought AND cc a b = refl
+table Manual AND cc a b = refl
+table Bought AND16 cc a b = refl
+table Manual AND16 cc a b = refl
+table Bought OR cc a b = refl
+table Manual OR cc a b = refl
+table Bought EOR cc a b = refl
+table Manual EOR cc a b = refl
+table Bought COM cc a b = refl
+table Manual COM cc a b = refl
+table Bought NEG cc a b = refl
+table Manual NEG cc a b = refl
+table Bought ASL cc a b = refl
+table Manual ASL cc a b = refl
+table Bought LSR cc a b = refl
+table Manual LSR cc a b = refl
+table Bought ASR cc a b = refl
+table Manual ASR cc a b = refl
+table Bought ROL cc a b = refl
+table Manual ROL cc a b = refl
+table Bought ROR cc a b = refl
+table Manual ROR cc a b = refl
+table Bought MUL cc a b = refl
+table Manual MUL cc a b = refl
 
 pub kept : Kept
 kept s o cc a b f e = stays f cc (by s o cc a b).flags (silent-absent (untouched o) (by s o cc a b).flags f (table s o cc a b) e)
@@ -117,32 +137,53 @@ half-carry-kept s o cc a b m n = kept s o cc a b H (go o m n)
     go MUL m n = refl
 
 pub carry-alone : CarryAlone
-carry-alone s ADD cc dd a b e = elim s [ Bought ↦ refl | Manual ↦ refl ]
-carry-alone s ADC cc dd a b e = elim s [ Bought ↦ rw e | Manual ↦ rw e ]
-carry-alone s ADDD cc dd a b e = elim s [ Bought ↦ refl | Manual ↦ refl ]
-carry-alone s SUB cc dd a b e = elim s [ Bought ↦ refl | Manual ↦ refl ]
-carry-alone s SBC cc dd a b e = elim s [ Bought ↦ rw e | Manual ↦ rw e ]
-carry-alone s SUBD cc dd a b e = elim s [ Bought ↦ refl | Manual ↦ refl ]
-carry-alone s DEC cc dd a b e = elim s [ Bought ↦ refl | Manual ↦ refl ]
-carry-alone s INC cc dd a b e = elim s [ Bought ↦ refl | Manual ↦ refl ]
-carry-alone s AND cc dd a b e = elim s [ Bought ↦ refl | Manual ↦ refl ]
-carry-alone s AND16 cc dd a b e = elim s [ Bought ↦ refl | Manual ↦ refl ]
-carry-alone s OR cc dd a b e = elim s [ Bought ↦ refl | Manual ↦ refl ]
-carry-alone s EOR cc dd a b e = elim s [ Bought ↦ refl | Manual ↦ refl ]
-carry-alone s COM cc dd a b e = elim s [ Bought ↦ refl | Manual ↦ refl ]
-carry-alone s NEG cc dd a b e = elim s [ Bought ↦ refl | Manual ↦ refl ]
-carry-alone s ASL cc dd a b e = elim s [ Bought ↦ refl | Manual ↦ refl ]
-carry-alone s LSR cc dd a b e = elim s [ Bought ↦ refl | Manual ↦ refl ]
-carry-alone s ASR cc dd a b e = elim s [ Bought ↦ refl | Manual ↦ refl ]
-carry-alone s ROL cc dd a b e = elim s [ Bought ↦ rw e | Manual ↦ rw e ]
-carry-alone s ROR cc dd a b e = elim s [ Bought ↦ rw e | Manual ↦ rw e ]
-carry-alone s MUL cc dd a b e = elim s [ Bought ↦ refl | Manual ↦ refl ]
+carry-alone Bought ADD cc dd a b e = refl
+carry-alone Manual ADD cc dd a b e = refl
+carry-alone Bought ADC cc dd a b e = rw e
+carry-alone Manual ADC cc dd a b e = rw e
+carry-alone Bought ADDD cc dd a b e = refl
+carry-alone Manual ADDD cc dd a b e = refl
+carry-alone Bought SUB cc dd a b e = refl
+carry-alone Manual SUB cc dd a b e = refl
+carry-alone Bought SBC cc dd a b e = rw e
+carry-alone Manual SBC cc dd a b e = rw e
+carry-alone Bought SUBD cc dd a b e = refl
+carry-alone Manual SUBD cc dd a b e = refl
+carry-alone Bought DEC cc dd a b e = refl
+carry-alone Manual DEC cc dd a b e = refl
+carry-alone Bought INC cc dd a b e = refl
+carry-alone Manual INC cc dd a b e = refl
+carry-alone Bought AND cc dd a b e = refl
+carry-alone Manual AND cc dd a b e = refl
+carry-alone Bought AND16 cc dd a b e = refl
+carry-alone Manual AND16 cc dd a b e = refl
+carry-alone Bought OR cc dd a b e = refl
+carry-alone Manual OR cc dd a b e = refl
+carry-alone Bought EOR cc dd a b e = refl
+carry-alone Manual EOR cc dd a b e = refl
+carry-alone Bought COM cc dd a b e = refl
+carry-alone Manual COM cc dd a b e = refl
+carry-alone Bought NEG cc dd a b e = refl
+carry-alone Manual NEG cc dd a b e = refl
+carry-alone Bought ASL cc dd a b e = refl
+carry-alone Manual ASL cc dd a b e = refl
+carry-alone Bought LSR cc dd a b e = refl
+carry-alone Manual LSR cc dd a b e = refl
+carry-alone Bought ASR cc dd a b e = refl
+carry-alone Manual ASR cc dd a b e = refl
+carry-alone Bought ROL cc dd a b e = rw e
+carry-alone Manual ROL cc dd a b e = rw e
+carry-alone Bought ROR cc dd a b e = rw e
+carry-alone Manual ROR cc dd a b e = rw e
+carry-alone Bought MUL cc dd a b e = refl
+carry-alone Manual MUL cc dd a b e = refl
+
+mul-carry : (s : Flags) (cc : CCBits) (a b : ℕ) → after C s MUL cc a b ≡ bit_at 7 (a * b)
+mul-carry Bought cc a b = reads C cc ((Z := eqb (a * b) 0) ∷ []) [] _ refl
+mul-carry Manual cc a b = reads C cc ((Z := eqb (a * b) 0) ∷ []) [] _ refl
 
 pub mul-flags : MulFlags
-mul-flags s cc a b =
-    let c : after C s MUL cc a b ≡ bit_at 7 (a * b) =
-    elim s [ Bought ↦ reads C cc ((Z := eqb (a * b) 0) ∷ []) [] _ refl | Manual ↦ reads C cc ((Z := eqb (a * b) 0) ∷ []) [] _ refl ] in
-    (c, kept s MUL cc a b N refl, kept s MUL cc a b «V» refl)
+mul-flags s cc a b = (mul-carry s cc a b, kept s MUL cc a b N refl, kept s MUL cc a b «V» refl)
 
 -- a test that holds exactly where one of two bounds is passed
 passed : (p q r t : ℕ) (v : Bool) → (v ≡ true → (p < q) ⊎ (r ≤ t)) → (v ≡ false → (q ≤ p) × (t < r)) → v ≡ (ltb p q || leb r t)

@@ -9,26 +9,26 @@ use Rattle.difference.proofs.Calls.{left-refused, right-refused, list-refused, l
 use Rattle.difference.proofs.compare.Goals as goal
 
 pub returns-then-left_mem-ne65536 : goal.returns-then-left_mem-ne65536
-returns-then-left_mem-ne65536 c = rw c.refused.ensures (left-refused c.args.left c.args.right c.args.left-mem.now c.args.right-mem.now c.args.list.now c.if-left_mem-ne65536.true)
+returns-then-left_mem-ne65536 c = rw c.refused.ensures (left-refused c.args.left c.args.right c.args.left_mem.now c.args.right_mem.now c.args.list.now c.if-left_mem-ne65536.true)
 
 pub returns-then-right_mem-ne65536 : goal.returns-then-right_mem-ne65536
-returns-then-right_mem-ne65536 c = rw c.refused-then-right_mem-ne65536.ensures (right-refused c.args.left c.args.right c.args.left-mem.now c.args.right-mem.now c.args.list.now c.if-left_mem-ne65536.false c.if-right_mem-ne65536.true)
+returns-then-right_mem-ne65536 c = rw c.refused-then-right_mem-ne65536.ensures (right-refused c.args.left c.args.right c.args.left_mem.now c.args.right_mem.now c.args.list.now c.if-left_mem-ne65536.false c.if-right_mem-ne65536.true)
 
 -- both counts are small
 pub overflow_add-count : goal.overflow_add-count
 overflow_add-count c =
     let a = c.args in
-    record { fits = omega (arith, c.count.ensures, c.count-2.ensures, fields-few a.left a.right fields, runs-few a.left-mem.now a.right-mem.now) }
+    record { fits = omega (arith, c.count.ensures, c.count-2.ensures, fields-few a.left a.right fields, runs-few a.left_mem.now a.right_mem.now) }
 
 pub overflow_mul-count : goal.overflow_mul-count
 overflow_mul-count c =
     let a = c.args in
-    record { fits = omega (arith, c.count.ensures, c.count-2.ensures, fields-few a.left a.right fields, runs-few a.left-mem.now a.right-mem.now) }
+    record { fits = omega (arith, c.count.ensures, c.count-2.ensures, fields-few a.left a.right fields, runs-few a.left_mem.now a.right_mem.now) }
 
 pub returns-then-list-count : goal.returns-then-list-count
 returns-then-list-count c =
     rw c.refused-then-list-count.ensures
-    (list-refused c.args.left c.args.right c.args.left-mem.now c.args.right-mem.now c.args.list.now c.if-left_mem-ne65536.false c.if-right_mem-ne65536.false _ (rw (c.count.ensures, c.count-2.ensures)) c.if-list-count.true)
+    (list-refused c.args.left c.args.right c.args.left_mem.now c.args.right_mem.now c.args.list.now c.if-left_mem-ne65536.false c.if-right_mem-ne65536.false _ (rw (c.count.ensures, c.count-2.ensures)) c.if-list-count.true)
 
 pub put-requires : goal.put-requires
 put-requires c =
@@ -37,4 +37,4 @@ put-requires c =
 
 pub returns : goal.returns
 returns c =
-    list_written c.args.left c.args.right c.args.left-mem.now c.args.right-mem.now c.args.list.now c.if-left_mem-ne65536.false c.if-right_mem-ne65536.false _ (rw (c.count.ensures, c.count-2.ensures)) c.if-list-count.false _ _ _ c.put-at.ensures.0 c.put-at.ensures.1 c.put.ensures
+    list_written c.args.left c.args.right c.args.left_mem.now c.args.right_mem.now c.args.list.now c.if-left_mem-ne65536.false c.if-right_mem-ne65536.false _ (rw (c.count.ensures, c.count-2.ensures)) c.if-list-count.false _ _ _ c.put-at.ensures.0 c.put-at.ensures.1 c.put.ensures

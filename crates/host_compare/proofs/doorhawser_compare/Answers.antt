@@ -13,9 +13,9 @@ returns-then-is_twin c =
     let a = c.args in
     let e = rw (c.machine_of.ensures, c.machine_of-then-is_twin.ensures) at c.compare-compared.ensures in
     passes (is_twin a.left && is_twin a.right)
-    (host_compared (compared (machine_from a.left) a.left-mem.now (machine_from a.right) a.right-mem.now a.list.now))
+    (host_compared (compared (machine_from a.left) a.left_mem.now (machine_from a.right) a.right_mem.now a.list.now))
     unnamed_count
-    (list_after (machine_from a.left) a.left-mem.now (machine_from a.right) a.right-mem.now a.list.now)
+    (list_after (machine_from a.left) a.left_mem.now (machine_from a.right) a.right_mem.now a.list.now)
     a.list.now _ _
     (rw (c.is_twin.ensures, c.is_twin-2.ensures) at c.if-is_twin.true)
     (rw (c.number.ensures, e.0))
@@ -25,9 +25,9 @@ pub returns : goal.returns
 returns c =
     let a = c.args in
     refuses (is_twin a.left && is_twin a.right)
-    (host_compared (compared (machine_from a.left) a.left-mem.now (machine_from a.right) a.right-mem.now a.list.now))
+    (host_compared (compared (machine_from a.left) a.left_mem.now (machine_from a.right) a.right_mem.now a.list.now))
     unnamed_count
-    (list_after (machine_from a.left) a.left-mem.now (machine_from a.right) a.right-mem.now a.list.now)
+    (list_after (machine_from a.left) a.left_mem.now (machine_from a.right) a.right_mem.now a.list.now)
     a.list.now _
     (rw (c.is_twin.ensures, c.is_twin-2.ensures) at c.if-is_twin.false)
     c.unnamed_count.ensures

@@ -7,4 +7,4 @@ next : (r at : ℕ) → r ≡ (at + 1) % 4294967296 → r % 0x10000 ≡ (at + 1)
 next r at e = omega arith
 
 pub returns : goal.returns
-returns c = rw (c.byte_at-2.ensures, c.byte_at.ensures, next _ c.args.at c.wrapping_add_u32-next.ensures)
+returns c = rw (c.byte_at-2.ensures, c.byte_at.ensures, next _ c.args.at c.wrapping_add_u32-next.ensures.value)

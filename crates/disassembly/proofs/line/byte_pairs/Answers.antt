@@ -14,7 +14,7 @@ loop-k-preserved c =
     let a = c.args in
     let l = c.loop-k in (
       omega arith,
-      rw (c.with_byte-pairs.ensures, c.with_hex.ensures, l.invariant.1, c.read_u8-b.ensures, c.wrapping_add_u16.ensures) (pair-more l.k a.mem.now a.at),
+      rw (c.with_byte-pairs.ensures, c.with_hex.ensures, l.invariant.1, c.read_u8-b.ensures, c.wrapping_add_u16.ensures.value) (pair-more l.k a.mem.now a.at),
     )
 
 pub returns : goal.returns

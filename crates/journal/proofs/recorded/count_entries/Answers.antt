@@ -11,11 +11,12 @@ use Rattle.memory.proofs.Folds.{all-taken}
 use Rattle.journal.specs.Record.{most_stored}
 use Rattle.journal.specs.Recorded.{saved_for}
 use Rattle.journal.proofs.Laying.{saved-twelve, turn-count}
+use borrow.Author.Rules.{rules}
 use Rattle.journal.proofs.recorded.count_entries.Goals as goal
 
 pub loop-i-init : goal.loop-i-init
 unfolding saved_for
-loop-i-init c = (omega arith, (simp length-map at c.well_formed.1.0.1.1.1.0.1.0.1, λ mem. refl))
+loop-i-init c = (omega arith, (search rules, λ mem. refl))
 
 pub offset_bounds-list-i : goal.offset_bounds-list-i
 offset_bounds-list-i c = omega arith
@@ -32,10 +33,10 @@ overflow_add-n c =
     let l = c.loop-i in
     let a = c.args in
     let t : l.i < most_stored = omega arith in
-    let e : l.n + c.entries_for-n.result ≡ length (saved_for a.ram-top (take (l.i + 1) a.writes.list) []) =
+    let e : l.n + c.entries_for-n.result ≡ length (saved_for a.ram_top (take (l.i + 1) a.writes.list) []) =
     ap (λ (k : ℕ). l.n + k) (c.entries_for-n.ensures [])
-    ∙ turn-count a.ram-top a.writes.list l.i _ l.invariant.1.0 t [] l.n (l.invariant.1.1 []) in
-    let s = saved-twelve a.ram-top a.writes.list (l.i + 1) [] l.invariant.1.0 (omega arith) in
+    ∙ turn-count a.ram_top a.writes.list l.i _ l.invariant.1.0 t [] l.n (l.invariant.1.1 []) in
+    let s = saved-twelve a.ram_top a.writes.list (l.i + 1) [] l.invariant.1.0 (omega arith) in
     omega (arith, e, s)
 
 pub overflow_add-i : goal.overflow_add-i
@@ -54,7 +55,7 @@ loop-i-preserved c =
         l.invariant.1.0,
         λ mem.
             ap (λ (k : ℕ). l.n + k) (c.entries_for-n.ensures mem)
-            ∙ turn-count a.ram-top a.writes.list l.i _ l.invariant.1.0 t mem l.n (l.invariant.1.1 mem),
+            ∙ turn-count a.ram_top a.writes.list l.i _ l.invariant.1.0 t mem l.n (l.invariant.1.1 mem),
       ),
     )
 
@@ -63,7 +64,7 @@ returns-else-i-count c =
     let a = c.args in
     let l = c.loop-i in
     let e = all-taken a.writes.list l.i a.writes.count l.invariant.1.0 l.invariant.0 (inl (ltb-false _ _ c.if-i-count.false)) in
-    let s = saved-twelve a.ram-top a.writes.list l.i [] l.invariant.1.0 l.invariant.0.0 in
+    let s = saved-twelve a.ram_top a.writes.list l.i [] l.invariant.1.0 l.invariant.0.0 in
     (omega (arith, s, l.invariant.1.1 [], l.invariant.0.0), λ mem. l.invariant.1.1 mem ∙ rw e)
 
 pub returns-after-loop-i : goal.returns-after-loop-i
@@ -71,5 +72,5 @@ returns-after-loop-i c =
     let a = c.args in
     let l = c.loop-i in
     let e = all-taken a.writes.list l.i a.writes.count l.invariant.1.0 l.invariant.0 (inr c.loop-i-test.false) in
-    let s = saved-twelve a.ram-top a.writes.list l.i [] l.invariant.1.0 l.invariant.0.0 in
+    let s = saved-twelve a.ram_top a.writes.list l.i [] l.invariant.1.0 l.invariant.0.0 in
     (omega (arith, s, l.invariant.1.1 [], l.invariant.0.0), λ mem. l.invariant.1.1 mem ∙ rw e)

@@ -13,7 +13,7 @@ pub entry-requires : goal.entry-requires
 entry-requires c =
     let a = c.args in
     let e = sym c.lands.ensures ∙ c.in-Stored.is in
-    let n : length (saved_at a.mem.now (landing_of a.one.at a.ram-top a.one.system)) ≡ 1 = rw e in
+    let n : length (saved_at a.mem.now (landing_of a.one.at a.ram_top a.one.system)) ≡ 1 = rw e in
     (omega (arith, c.requires.1.0, n), c.requires.1.1)
 
 pub returns-in-Stored : goal.returns-in-Stored

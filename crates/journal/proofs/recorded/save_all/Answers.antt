@@ -11,6 +11,7 @@ use lib.Seq.{sets}
 use Rattle.journal.specs.Record.{entries, most_stored, entries_at}
 use Rattle.journal.specs.Recorded.{saved_for}
 use Rattle.journal.proofs.Laying.{saved-twelve, save-fits, turn-count, turn-laid}
+use borrow.Author.Rules.{rules}
 use Rattle.journal.proofs.recorded.save_all.Goals as goal
 
 pub loop-i-init : goal.loop-i-init
@@ -18,7 +19,7 @@ unfolding saved_for entries
 loop-i-init c = (
   omega arith,
   (
-    simp length-map at c.well_formed.1.1.1.0.1.1.1.0.1.0.1,
+    search rules,
     (refl, (refl, refl)),
   ),
 )
@@ -36,8 +37,8 @@ save-n-requires c =
     let p = c.requires in
     let t : l.i < most_stored = omega arith in
     let u : l.i + 1 ≤ a.writes.count = omega (arith, ltb-true, c) in
-    let s = saved-twelve a.ram-top a.writes.list l.i a.mem.now l.invariant.1.0 (omega arith) in
-    (omega (arith, s, l.invariant.1.1.1.0), (save-fits a.ram-top a.writes.list l.i _ l.invariant.1.0 t a.mem.now l.n a.writes.count _ l.invariant.1.1.1.0 u (omega (arith, p.0, l.invariant.1.1.0)), p.1))
+    let s = saved-twelve a.ram_top a.writes.list l.i a.mem.now l.invariant.1.0 (omega arith) in
+    (omega (arith, s, l.invariant.1.1.1.0), (save-fits a.ram_top a.writes.list l.i _ l.invariant.1.0 t a.mem.now l.n a.writes.count _ l.invariant.1.1.1.0 u (omega (arith, p.0, l.invariant.1.1.0)), p.1))
 
 pub overflow_add-i : goal.overflow_add-i
 overflow_add-i c = omega arith
@@ -57,8 +58,8 @@ loop-i-preserved c =
         (
           c.save-n.auto.rest ∙ l.invariant.1.1.0,
           (
-            s.0 ∙ turn-count a.ram-top a.writes.list l.i _ l.invariant.1.0 t a.mem.now l.n l.invariant.1.1.1.0,
-            s.1 ∙ rw l.invariant.1.1.1.1 (turn-laid a.ram-top a.writes.list l.i _ l.invariant.1.0 t a.mem.now l.n a.rest.now l.invariant.1.1.1.0),
+            s.0 ∙ turn-count a.ram_top a.writes.list l.i _ l.invariant.1.0 t a.mem.now l.n l.invariant.1.1.1.0,
+            s.1 ∙ rw l.invariant.1.1.1.1 (turn-laid a.ram_top a.writes.list l.i _ l.invariant.1.0 t a.mem.now l.n a.rest.now l.invariant.1.1.1.0),
           ),
         ),
       ),

@@ -29,4 +29,4 @@ returns c =
     let a = c.args in
     let p = c.requires in
     rw (c.save_all.ensures, c.write_header.ensures)
-    (record-laid a.machine (saved_for a.ram-top (listed a.writes) a.mem.now) a.rest.now a.n p.0 p.1.1.0)
+    (record-laid a.machine (saved_for a.ram_top (listed a.writes) a.mem.now) a.rest.now a.n p.0 p.1.1.0)

@@ -10,7 +10,7 @@ unfolding total
 loop-i-init c = (omega arith, refl)
 
 pub loop-i-preserved : goal.loop-i-preserved
-loop-i-preserved c = (omega arith, c.wrapping_add_u8-sum.ensures ∙ sum_more c.args.list.now c.loop-i.i _ _ (omega arith) c.loop-i.invariant.1 refl)
+loop-i-preserved c = (omega arith, c.wrapping_add_u8-sum.ensures.value ∙ sum_more c.args.list.now c.loop-i.i _ _ (omega arith) c.loop-i.invariant.1 refl)
 
 pub returns : goal.returns
 returns c = c.loop-i.invariant.1 ∙ rw (take_all c.loop-i.i c.args.list.now (omega arith))

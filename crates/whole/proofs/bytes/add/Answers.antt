@@ -8,4 +8,4 @@ use Rattle.whole.proofs.bytes.add.Goals as goal
 pub returns : goal.returns
 returns c =
     let x = c.args in
-    rw (c.put.ensures, c.all_flags.ensures, c.sum_by-parts.ensures.value, c.carry_in-c.ensures.value) (ap (out8 x.cc) (add-page x.cc x.a x.b x.flags x.with-carry))
+    rw (c.put.ensures, c.all_flags.ensures, c.sum_by-parts.ensures.value, c.carry_in-c.ensures.value) (ap (out8 x.cc) (add-page x.cc x.a x.b x.flags x.with_carry))

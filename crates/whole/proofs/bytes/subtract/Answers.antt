@@ -8,4 +8,4 @@ use Rattle.whole.proofs.bytes.subtract.Goals as goal
 pub returns : goal.returns
 returns c =
     let x = c.args in
-    rw (c.out.ensures, c.difference_by.ensures.value, c.carry_in-c.ensures.value) (ap (out8 x.cc) (sub-page x.cc x.a x.b x.flags x.with-carry))
+    rw (c.out.ensures, c.difference_by.ensures.value, c.carry_in-c.ensures.value) (ap (out8 x.cc) (sub-page x.cc x.a x.b x.flags x.with_carry))

@@ -10,7 +10,7 @@ use borrow.Author.Rules.{rules}
 use Rattle.whole.proofs.shifts.shift_right.Goals as goal
 
 pub halve-requires : goal.halve-requires
-halve-requires c = digit-le (c.args.keep-sign && leb 0x80 c.args.m)
+halve-requires c = digit-le (c.args.keep_sign && leb 0x80 c.args.m)
 
 pub returns : goal.returns
-returns c = let x = c.args in rw c.halve.ensures (ap (out8 x.cc) (shr-page x.cc x.m (search rules) x.keep-sign))
+returns c = let x = c.args in rw c.halve.ensures (ap (out8 x.cc) (shr-page x.cc x.m (search rules) x.keep_sign))
