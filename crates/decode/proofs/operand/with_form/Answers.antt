@@ -41,4 +41,4 @@ returns-in-Address c =
 pub returns-in-Increment1 : goal.returns-in-Increment1
 returns-in-Increment1 c =
     let x = c.args in
-    rw c.indexed_by-in-Increment1.ensures (no_byte x.mem.now x.post x.at x.form c.in-Increment1.keys7)
+    rw c.indexed_by-in-Increment1.ensures (no_byte x.mem.now x.post x.at x.form c.in-Increment1.in-Increment1-own.keys7)

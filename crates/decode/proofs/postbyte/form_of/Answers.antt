@@ -49,4 +49,4 @@ pub returns-in-0-to-15 : goal.returns-in-0-to-15
 returns-in-0-to-15 c = rw (lt-ltb (bit_and c.args.post 0x8F) 0x80 (omega (arith, c.if-low-lt16.true)))
 
 pub returns-in_default : goal.returns-in_default
-returns-in_default c = let x = c.args.post in no-form x (low-form x (search rules) (omega arith)) c.in_default-1.rest
+returns-in_default c = let x = c.args.post in no-form x (low-form x (search rules) (omega arith)) c.in_default-1.in_default-1-own.rest

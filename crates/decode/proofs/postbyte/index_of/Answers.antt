@@ -16,4 +16,4 @@ pub returns-in-2 : goal.returns-in-2
 returns-in-2 c = rw (← (field c.args.post (search rules)), c.in-2.is)
 
 pub returns-in_default : goal.returns-in_default
-returns-in_default c = let r = c.in_default.rest in let f = bit_and c.args.post 0x60 / 32 in rw (← (field c.args.post (search rules)), ne_eqb f 0 r.0.0.1, ne_eqb f 1 r.0.1, ne_eqb f 2 r.1)
+returns-in_default c = let r = c.in_default.in_default-own.rest in let f = bit_and c.args.post 0x60 / 32 in rw (← (field c.args.post (search rules)), ne_eqb f 0 r.0.0.1, ne_eqb f 1 r.0.1, ne_eqb f 2 r.1)

@@ -7,4 +7,4 @@ pub returns-in-Pull : goal.returns-in-Pull
 returns-in-Pull c = rw (c.pull_arms.ensures, c.read_u8.ensures, c.in-Pull.is)
 
 pub returns-in_default : goal.returns-in_default
-returns-in_default c = let x = c.args in no-pull x.op _ c.in_default.keys2
+returns-in_default c = let x = c.args in no-pull x.op _ c.in_default.in_default-own.keys2

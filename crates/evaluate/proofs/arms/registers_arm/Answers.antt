@@ -16,4 +16,4 @@ pub returns-in-Tfr : goal.returns-in-Tfr
 returns-in-Tfr c = rw (c.transfer_arms.ensures, c.read_u8-in-Tfr.ensures, c.in-Tfr.is)
 
 pub returns-in_default : goal.returns-in_default
-returns-in_default c = let x = c.args in no-load x.op _ c.in_default.keys5
+returns-in_default c = let x = c.args in no-load x.op _ c.in_default.in_default-own.keys5
