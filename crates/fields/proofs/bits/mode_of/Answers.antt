@@ -15,4 +15,4 @@ pub returns-in-2 : goal.returns-in-2
 returns-in-2 c = rw c.in-2.is
 
 pub returns-in_default : goal.returns-in_default
-returns-in_default c = rw (last 3 (c.args.code / 16 % 4) (omega arith) c.in_default.rest)
+returns-in_default c = rw (last 3 (c.args.code / 16 % 4) (omega arith) c.in_default.in_default-own.rest)
