@@ -1,5 +1,6 @@
 -- Eight rows, and the rows from 8 on.
 -- Assumes nothing.
+use borrow.Author.Rules.{rules}
 use Prim.Native.Nat.{ℕ, ◌/◌, ◌%◌}
 use mathlib.Core.Path.{refl, ◌∙◌}
 use mathlib.Core.List.{[], ◌∷◌}
@@ -53,4 +54,4 @@ returns-in_default c =
     let x = c.args.code in
     let k = x % 16 in
     c.place.ensures
-    ∙ rest (λ (row : ℕ). get_or (in_memory Direct k ∷ row_one k ∷ short_branch k ∷ row_three k ∷ in_accumulator A k ∷ in_accumulator B k ∷ in_memory Indexed k ∷ in_memory Extended k ∷ []) row (two_operand_place x)) (two_operand_place x) (down 8) 16 (x / 16) refl (omega arith) c.in_default.in_default-own.rest
+    ∙ rest (λ (row : ℕ). get_or (in_memory Direct k ∷ row_one k ∷ short_branch k ∷ row_three k ∷ in_accumulator A k ∷ in_accumulator B k ∷ in_memory Indexed k ∷ in_memory Extended k ∷ []) row (two_operand_place x)) (two_operand_place x) (down 8) 16 (x / 16) refl (omega arith) (search rules)

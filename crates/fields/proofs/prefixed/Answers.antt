@@ -1,5 +1,6 @@
 -- Rows 8 to F by their first bit, rows 2 and 3, and no other row.
 -- Assumes nothing.
+use borrow.Author.Rules.{rules}
 use Prim.Native.Nat.{ℕ, ◌/◌, ◌%◌}
 use mathlib.Core.Path.{refl}
 use mathlib.Core.List.{[], ◌∷◌}
@@ -30,4 +31,4 @@ returns-in_default c =
     let x = c.args in
     let k = x.code % 16 in
     rw (lt-leb 0x80 x.code c.if-code-ge128.false)
-    (rest (λ (row : ℕ). get_or (None ∷ None ∷ long_branch x.page k ∷ software_interrupt x.page k ∷ []) row None) None (3 ∷ 2 ∷ []) 16 (x.code / 16) refl (omega arith) c.in_default.in_default-own.rest)
+    (rest (λ (row : ℕ). get_or (None ∷ None ∷ long_branch x.page k ∷ software_interrupt x.page k ∷ []) row None) None (3 ∷ 2 ∷ []) 16 (x.code / 16) refl (omega arith) (search rules))

@@ -1,5 +1,6 @@
 -- Eight pairs, of which the last stands for every number from 7 on.
 -- Assumes nothing.
+use borrow.Author.Rules.{rules}
 use Prim.Native.Nat.{ℕ, ◌/◌}
 use mathlib.Core.Path.{refl, ◌∙◌}
 use mathlib.Core.List.{[], ◌∷◌}
@@ -45,4 +46,4 @@ returns-in_default c =
     let x = c.args.column in
     let pair = one_of_pair x in
     c.one_of_pair-in_default.ensures
-    ∙ rest (λ (k : ℕ). get_or (pair Ra Rn ∷ pair Hi Ls ∷ pair Cc Cs ∷ pair Ne Eq ∷ pair Vc Vs ∷ pair Pl Mi ∷ pair Ge Lt ∷ []) k (pair Gt Le)) (pair Gt Le) (down 7) 128 (x / 2) refl (omega arith) c.in_default.in_default-own.rest
+    ∙ rest (λ (k : ℕ). get_or (pair Ra Rn ∷ pair Hi Ls ∷ pair Cc Cs ∷ pair Ne Eq ∷ pair Vc Vs ∷ pair Pl Mi ∷ pair Ge Lt ∷ []) k (pair Gt Le)) (pair Gt Le) (down 7) 128 (x / 2) refl (omega arith) (search rules)

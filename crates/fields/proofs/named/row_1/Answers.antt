@@ -50,4 +50,4 @@ returns-in-15 c = rw (c.on_registers-in-15.ensures, c.in-15.is)
 
 pub returns-in_default : goal.returns-in_default
 unfolding row_one
-returns-in_default c = rest row_one None (0xf ∷ 0xe ∷ 0xd ∷ 0xc ∷ 0xa ∷ 9 ∷ 7 ∷ 6 ∷ 3 ∷ 2 ∷ []) 256 c.args.column refl (search rules) c.in_default.in_default-own.rest
+returns-in_default c = rest row_one None (0xf ∷ 0xe ∷ 0xd ∷ 0xc ∷ 0xa ∷ 9 ∷ 7 ∷ 6 ∷ 3 ∷ 2 ∷ []) 256 c.args.column refl (search rules) (search rules)

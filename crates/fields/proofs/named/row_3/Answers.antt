@@ -1,5 +1,6 @@
 -- Two groups by bits 3 and 2; every other column is in the third.
 -- Assumes nothing.
+use borrow.Author.Rules.{rules}
 use Prim.Native.Nat.{ℕ, ◌/◌}
 use mathlib.Core.Path.{refl, ◌∙◌}
 use mathlib.Core.List.{[], ◌∷◌}
@@ -23,4 +24,4 @@ unfolding row_three
 returns-in_default c =
     let x = c.args.column in
     c.by_name.ensures
-    ∙ rest (λ (k : ℕ). get_or (address_load x ∷ stack_transfer x ∷ []) k (by_name x)) (by_name x) (down 2) 64 (x / 4) refl (omega arith) c.in_default.in_default-own.rest
+    ∙ rest (λ (k : ℕ). get_or (address_load x ∷ stack_transfer x ∷ []) k (by_name x)) (by_name x) (down 2) 64 (x / 4) refl (omega arith) (search rules)

@@ -58,4 +58,4 @@ returns-in-15 c = rw c.in-15.is
 
 pub returns-in_default : goal.returns-in_default
 unfolding one_operand
-returns-in_default c = rest one_operand Nothing (0xf ∷ 0xe ∷ 0xd ∷ 0xc ∷ 0xa ∷ 9 ∷ 8 ∷ 7 ∷ 6 ∷ 4 ∷ 3 ∷ 0 ∷ []) 256 c.args.column refl (search rules) c.in_default.in_default-own.rest
+returns-in_default c = rest one_operand Nothing (0xf ∷ 0xe ∷ 0xd ∷ 0xc ∷ 0xa ∷ 9 ∷ 8 ∷ 7 ∷ 6 ∷ 4 ∷ 3 ∷ 0 ∷ []) 256 c.args.column refl (search rules) (search rules)

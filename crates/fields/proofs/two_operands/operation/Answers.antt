@@ -54,4 +54,4 @@ returns-in-11 c = rw c.in-11.is
 
 pub returns-in_default : goal.returns-in_default
 unfolding two_operands
-returns-in_default c = rest two_operands Word (0xb ∷ 0xa ∷ 9 ∷ 8 ∷ 7 ∷ 6 ∷ 5 ∷ 4 ∷ 2 ∷ 1 ∷ 0 ∷ []) 256 c.args.column refl (search rules) c.in_default.in_default-own.rest
+returns-in_default c = rest two_operands Word (0xb ∷ 0xa ∷ 9 ∷ 8 ∷ 7 ∷ 6 ∷ 5 ∷ 4 ∷ 2 ∷ 1 ∷ 0 ∷ []) 256 c.args.column refl (search rules) (search rules)

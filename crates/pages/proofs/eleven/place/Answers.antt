@@ -1,5 +1,6 @@
 -- `place` reads the row of the high digit at the low one; the rows that the page does not have are empty.
 -- Assumes nothing.
+use borrow.Author.Rules.{rules}
 use mathlib.Core.List.{[], ◌∷◌}
 use mathlib.Core.Path.{refl}
 use native.Mathlib.Omega.{arith}
@@ -31,4 +32,4 @@ returns-in-11 c = picked Eleven c.args.code c.at_digit-in-11.ensures c.row_b.ens
 
 pub returns-in_default : goal.returns-in_default
 unfolding entry_of row_of
-returns-in_default c = empty Eleven (0xB ∷ 0xA ∷ 0x9 ∷ 0x8 ∷ 0x3 ∷ []) c.args.code refl (omega arith) c.in_default.in_default-own.rest
+returns-in_default c = empty Eleven (0xB ∷ 0xA ∷ 0x9 ∷ 0x8 ∷ 0x3 ∷ []) c.args.code refl (omega arith) (search rules)

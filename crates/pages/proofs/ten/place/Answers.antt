@@ -1,5 +1,6 @@
 -- `place` reads the row of the high digit at the low one; the rows that the page does not have are empty.
 -- Assumes nothing.
+use borrow.Author.Rules.{rules}
 use mathlib.Core.List.{[], ◌∷◌}
 use mathlib.Core.Path.{refl}
 use native.Mathlib.Omega.{arith}
@@ -51,4 +52,4 @@ returns-in-15 c = picked Ten c.args.code c.at_digit-in-15.ensures c.row_f.ensure
 
 pub returns-in_default : goal.returns-in_default
 unfolding entry_of row_of
-returns-in_default c = empty Ten (0xF ∷ 0xE ∷ 0xD ∷ 0xC ∷ 0xB ∷ 0xA ∷ 0x9 ∷ 0x8 ∷ 0x3 ∷ 0x2 ∷ []) c.args.code refl (omega arith) c.in_default.in_default-own.rest
+returns-in_default c = empty Ten (0xF ∷ 0xE ∷ 0xD ∷ 0xC ∷ 0xB ∷ 0xA ∷ 0x9 ∷ 0x8 ∷ 0x3 ∷ 0x2 ∷ []) c.args.code refl (omega arith) (search rules)
