@@ -1,6 +1,6 @@
 -- What is read of a memory of bytes fits, writes in the twelve places fit where each that is added does, and memory stays one of bytes.
 -- Assumes nothing.
-use Rattle.std.proofs.Common.{◌≡◌, ℕ, zero, suc, ◌+◌, ◌*◌, ◌<◌, Bool, true, false, cond, ltb, List, [], ◌∷◌, length, get_or, take, set, mod-lt, arith, lit<, get_or-set_other, get_or-set_same}
+use Rattle.std.proofs.Common.{◌≡◌, ℕ, zero, suc, ◌+◌, ◌<◌, Bool, true, false, cond, ltb, List, [], ◌∷◌, length, get_or, take, set, mod-lt, arith, lit<, get_or-set_other, get_or-set_same}
 use native.Mathlib.Decide.{ℕ_discrete, dec_lt}
 use lib.Seq.{set_out}
 use Rattle.memory.specs.Fits.{Bytes, WriteFits, AllFit}

@@ -1,6 +1,6 @@
 -- Where an address lands, by the range that it lies in.
 -- Assumes nothing.
-use Rattle.std.proofs.Common.{◌≡◌, ℕ, ◌-◌, ◌<◌, ◌≤◌, Bool, true, false, cond, not, ◌&&◌, ltb, ◌⊎◌, sym, refl, ap, ◌∙◌, ⊎_elim, arith, le-leb}
+use Rattle.std.proofs.Common.{◌≡◌, ℕ, ◌-◌, ◌<◌, ◌≤◌, Bool, true, false, cond, not, ◌&&◌, ltb, ◌⊎◌, sym, ap, ◌∙◌, ⊎_elim, arith, le-leb}
 use borrow.Author.Tests.{lt-leb}
 use Rattle.memory.specs.Map.{place_of, landing_of}
 use Rattle.memory.specs.declared.Landing.TheVariants.{Stored, Device, Ignored}

@@ -1,12 +1,9 @@
 -- `allows`: the first i ranges do not have the place.
 -- Assumes nothing.
-use Prim.Native.Nat.{◌≤◌, ◌<◌, ◌-◌}
-use mathlib.Core.Bool.{true, false}
-use mathlib.Core.Path.{◌≡◌, refl, sym, ◌∙◌}
-use native.Mathlib.Omega.{arith}
+use Prim.Native.Nat.{◌≤◌, ◌-◌}
+use mathlib.Core.Path.{◌≡◌}
 use lib.ListN.{length, drop}
 use Rattle.machine.specs.Fence.{allows}
-use Rattle.machine.proofs.Fences.{range-turn, range-end}
 use Rattle.machine.proofs.fence.allows.Given as goal
 
 abbrev pub invariant-loop-i : goal.invariant-loop-i

@@ -1,34 +1,26 @@
 -- `bars`: the first i writes are not barred.
 -- Assumes nothing.
-use Prim.Native.Nat.{◌≤◌, ◌<◌, ◌-◌}
 use mathlib.Core.Logic.{inl, inr}
 use mathlib.Core.Bool.{true, false}
-use mathlib.Core.Path.{◌≡◌, refl, sym, ap, ◌∙◌}
+use mathlib.Core.Path.{sym, ap, ◌∙◌}
 use native.Mathlib.Omega.{arith}
-use borrow.Author.Tests.{ltb-true, ltb-false}
-use lib.ListN.{length, take, drop, length-map}
-use Rattle.machine.specs.Fence.{barred_at, barred}
+use Rattle.machine.specs.Fence.{barred_at}
 use Rattle.machine.proofs.Fences.{write-turn, write-end}
 use Rattle.machine.proofs.fence.bars.Goals as goal
-
-pub loop-i-init : goal.loop-i-init
-loop-i-init c = ((omega arith, simp length-map at c.well_formed.1.0.1.1.1.0.1.0.1), refl)
 
 pub returns-then-is_barred : goal.returns-then-is_barred
 returns-then-is_barred c =
     let a = c.args in
     let l = c.loop-i in
-    let t : l.i < a.writes.count = ltb-true _ _ c.if-i-count.true in
-    sym (l.invariant.1 ∙ write-turn a.settings.profile a.settings.ram_top a.writes.list a.writes.count l.i l.invariant.0.1 _ true (omega arith) t
+    sym (l.invariant.1 ∙ write-turn a.settings.profile a.settings.ram_top a.writes.list a.writes.count l.i l.invariant.0.1 _ true (omega arith) c.if-i-count.true
     (sym (c.is_barred.ensures ∙ ap (barred_at a.settings.profile) c.lands.ensures) ∙ c.if-is_barred.true))
 
 pub loop-i-preserved : goal.loop-i-preserved
 loop-i-preserved c =
     let a = c.args in
-    let l = c.loop-i in
-    let t : l.i < a.writes.count = ltb-true _ _ c.if-i-count.true in (
+    let l = c.loop-i in (
       (omega arith, l.invariant.0.1),
-      l.invariant.1 ∙ write-turn a.settings.profile a.settings.ram_top a.writes.list a.writes.count l.i l.invariant.0.1 _ false (omega arith) t
+      l.invariant.1 ∙ write-turn a.settings.profile a.settings.ram_top a.writes.list a.writes.count l.i l.invariant.0.1 _ false (omega arith) c.if-i-count.true
           (sym (c.is_barred.ensures ∙ ap (barred_at a.settings.profile) c.lands.ensures) ∙ c.if-is_barred.false),
     )
 
@@ -36,7 +28,7 @@ pub returns-else-i-count : goal.returns-else-i-count
 returns-else-i-count c =
     let a = c.args in
     let l = c.loop-i in
-    sym (l.invariant.1 ∙ write-end a.settings.profile a.settings.ram_top a.writes.list a.writes.count l.i l.invariant.0.1 (inl (ltb-false _ _ c.if-i-count.false)))
+    sym (l.invariant.1 ∙ write-end a.settings.profile a.settings.ram_top a.writes.list a.writes.count l.i l.invariant.0.1 (inl c.if-i-count.false))
 
 pub returns-after-loop-i : goal.returns-after-loop-i
 returns-after-loop-i c =

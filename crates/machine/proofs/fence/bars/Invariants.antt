@@ -1,14 +1,9 @@
 -- `bars`: the first i writes are not barred.
 -- Assumes nothing.
-use Prim.Native.Nat.{◌≤◌, ◌<◌, ◌-◌}
-use mathlib.Core.Logic.{inl, inr}
-use mathlib.Core.Bool.{true, false}
-use mathlib.Core.Path.{◌≡◌, refl, sym, ap, ◌∙◌}
-use native.Mathlib.Omega.{arith}
-use borrow.Author.Tests.{ltb-true, ltb-false}
-use lib.ListN.{length, take, drop, length-map}
-use Rattle.machine.specs.Fence.{barred_at, barred}
-use Rattle.machine.proofs.Fences.{write-turn, write-end}
+use Prim.Native.Nat.{◌≤◌, ◌-◌}
+use mathlib.Core.Path.{◌≡◌}
+use lib.ListN.{length, take, drop}
+use Rattle.machine.specs.Fence.{barred}
 use Rattle.machine.proofs.fence.bars.Given as goal
 
 abbrev pub invariant-loop-i : goal.invariant-loop-i

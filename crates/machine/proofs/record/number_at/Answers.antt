@@ -1,9 +1,8 @@
 -- The loop has the number of the bytes passed, which is below 256 to their count.
 -- Assumes nothing.
 use mathlib.Core.Path.{◌≡◌, refl, sym, ◌∙◌}
-use Prim.Native.Nat.{◌+◌, ◌-◌, ◌^◌, ◌≤◌, ◌<◌}
+use Prim.Native.Nat.{◌+◌}
 use native.Mathlib.Omega.{arith}
-use lib.ListN.{get_or}
 use lib.Dec.{lit<}
 use Rattle.machine.specs.Record.{number_at}
 use Rattle.machine.proofs.Header.{number_more, below_more, below-8}

@@ -1,7 +1,6 @@
 -- `read_u8_after` meets its contract.
 -- Assumes nothing.
 use Rattle.std.proofs.Common.{◌<◌, arith, rules}
-use Rattle.memory.specs.Map.{byte_at}
 use Rattle.memory.specs.Writes.{stored}
 use Rattle.memory.proofs.Folds.{turn-read}
 use Rattle.memory.proofs.writes.read_u8_after.Goals as goal

@@ -1,10 +1,8 @@
 -- `read_u8_after` meets its contract.
 -- Assumes nothing.
-use Rattle.std.proofs.Common.{◌≡◌, ◌-◌, ◌<◌, ◌≤◌, length as length', take, ◌∙◌, inl, inr, arith, ltb-false, ltb-true}
-use lib.ListN.{length-map}
+use Rattle.std.proofs.Common.{◌≡◌, ◌-◌, ◌≤◌, length as length', take}
 use Rattle.memory.specs.Map.{byte_at}
 use Rattle.memory.specs.Writes.{stored}
-use Rattle.memory.proofs.Folds.{turn-read, all-taken}
 use Rattle.memory.proofs.writes.read_u8_after.Given as goal
 
 abbrev pub invariant-loop-i : goal.invariant-loop-i

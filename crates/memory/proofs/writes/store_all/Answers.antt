@@ -1,7 +1,7 @@
 -- `store_all` meets its contract.
 -- Assumes nothing.
 use Rattle.std.proofs.Common.{◌<◌, refl, ◌∙◌, arith, rules}
-use Rattle.memory.specs.Writes.{stored, reported, writes_of}
+use Rattle.memory.specs.Writes.{stored, reported}
 use Rattle.memory.proofs.Folds.{turn-mem, turn-device, turn-other}
 use Rattle.memory.proofs.writes.store_all.Goals as goal
 use Rattle.memory.proofs.writes.store_all.Goals.{then-store, else-store}

@@ -1,9 +1,7 @@
 -- `store_all` meets its contract.
 -- Assumes nothing.
-use Rattle.std.proofs.Common.{◌≡◌, ◌-◌, ◌<◌, ◌≤◌, length, take, sym, refl, ap, ◌∙◌, inl, inr, ⊎_elim, arith, ltb-false, ltb-true}
-use lib.ListN.{length-map}
+use Rattle.std.proofs.Common.{◌≡◌, ◌-◌, ◌≤◌, length, take}
 use Rattle.memory.specs.Writes.{stored, reported, writes_of}
-use Rattle.memory.proofs.Folds.{length-stored, turn-mem, turn-device, turn-other, all-taken}
 use Rattle.memory.proofs.writes.store_all.Given as goal
 
 abbrev pub invariant-loop-i : goal.invariant-loop-i
