@@ -6,7 +6,7 @@ use mathlib.Core.List.{List, []}
 use Prim.Native.Nat.{ℕ}
 use base.Fml.{GName}
 use contract.Lifetimes.{Lfts}
-use denote.Ref.{Bor}
+use denote.Ref.{Bor, MutBor}
 use denote.Triple.Clauses.{Lasts, at_exit}
 use borrow.Fn.Kinds.{ParamKind, ResultKind, Out, Dens, res_t, ended_of}
 use Rattle.answers.specs.declared.Answer.TheVariants.{Done}
@@ -29,8 +29,12 @@ pub record Lies : Type 0 where
   pub ptr : ℕ × ℕ
   pub name : GName
 
-abbrev pub lent : Lies → List ℕ → Bor (List ℕ)
+abbrev pub lent : Lies → List ℕ → MutBor (List ℕ)
 lent l xs = record { ref_ptr = l.ptr; ghost_name = l.name; now = xs }
+
+-- one that is lent to be read only has no name
+abbrev pub shown : Lies → List ℕ → Bor (List ℕ)
+shown l xs = record { ref_ptr = l.ptr; now = xs }
 
 -- at some lifetimes, with memory and journal somewhere, the arguments being what is in hand: what the contract says of the result and of memory and journal at exit
 pub record Steps (t : Settings) (s : State) (e : Ended) : Type 0 where
@@ -59,7 +63,7 @@ pub record Undoing (s : State) (e : Ended) : Type 0 where
   pub κs : Lfts 2
   pub mem : Lies
   pub jrn : Lies
-  pub post : let a : Dens κs code.undo.Kinds.ps = (lent mem s.memory, (lent jrn s.journal, (s.twin, tt))) in
+  pub post : let a : Dens κs code.undo.Kinds.ps = (lent mem s.memory, (shown jrn s.journal, (s.twin, tt))) in
       code.undo.Reads.Post κs a (returned e) (at_exit (ended_of 2 code.undo.Kinds.ps code.undo.Kinds.r) κs a (e.state.memory, (tt, (tt, tt))))
   pub read_only : e.state.journal ≡ s.journal
 
@@ -92,14 +96,14 @@ pub record Tells (C : Contracts {0}) : Type 0 where
   pub forget : (k : ℕ) (s : State) (e : Ended) → C.forget k s e → e ≡ dropped k s
 
 tell-forward : (c : Call) (s : State) (e : Ended) → forwards c s e → (e ≡ call c s) × Typed s
-tell-forward (step t) s e m = (ends e _ m.post.0, m.post.1)
-tell-forward (interrupt t i) s e m = (ends e _ m.post.0, m.post.1)
-tell-forward (reset t) s e m = (ends e _ m.post.0, m.post.1)
+tell-forward (step t) s e m = (ends e _ m.post.leaves, m.post.typed)
+tell-forward (interrupt t i) s e m = (ends e _ m.post.leaves, m.post.typed)
+tell-forward (reset t) s e m = (ends e _ m.post.leaves, m.post.typed)
 
 pub tell : Tells generated
 tell = record {
   forward = tell-forward;
-  back = λ s e m. (ends e _ (subst (λ (j : List ℕ). Leaves (returned e) e.state.memory j (undone s)) (sym m.read_only) m.post.0), m.post.1);
+  back = λ s e m. (ends e _ (subst (λ (j : List ℕ). Leaves (returned e) e.state.memory j (undone s)) (sym m.read_only) m.post.leaves), m.post.typed);
   forget = λ k s e m. ends e _ (subst (λ (l : List ℕ). Leaves (returned e) l e.state.journal (dropped k s)) (sym m.not-lent) (m.post s.memory));
 }
 
@@ -108,9 +112,9 @@ somewhere : Lies
 somewhere = record { ptr = (0, 0); name = 0 }
 
 pub happens : Lfts 2 → (c : Call) (s : State) → Typed s → generated.forward c s (call c s)
-happens κs (step t) s h = record { κs = κs; mem = somewhere; jrn = somewhere; post = (record { result = refl; memory-is = refl; journal-is = refl }, h) }
-happens κs (interrupt t i) s h = record { κs = κs; mem = somewhere; jrn = somewhere; post = (record { result = refl; memory-is = refl; journal-is = refl }, h) }
-happens κs (reset t) s h = record { κs = κs; mem = somewhere; jrn = somewhere; post = (record { result = refl; memory-is = refl; journal-is = refl }, h) }
+happens κs (step t) s h = record { κs = κs; mem = somewhere; jrn = somewhere; post = record { leaves = record { result = refl; memory-is = refl; journal-is = refl }; typed = h } }
+happens κs (interrupt t i) s h = record { κs = κs; mem = somewhere; jrn = somewhere; post = record { leaves = record { result = refl; memory-is = refl; journal-is = refl }; typed = h } }
+happens κs (reset t) s h = record { κs = κs; mem = somewhere; jrn = somewhere; post = record { leaves = record { result = refl; memory-is = refl; journal-is = refl }; typed = h } }
 
 -- ---- at each point of a chain
 

@@ -1,14 +1,11 @@
 -- A file's lines, the first one split off; and what a line's answer says of its meaning.
 -- Assumes nothing.
-use Rattle.std.proofs.Common.{◌≡◌, ℕ, suc, ◌+◌, ◌-◌, ◌<◌, ◌≤◌, Bool, true, false, leb, List, [], ◌∷◌, map, length, get_or, take, drop, sym, refl, ap, ◌∙◌, subst, arith, length-drop, drop_of_length-le, drop-drop, eq-eqb, ne_eqb, leb-true}
+use Rattle.std.proofs.Common.{◌≡◌, ℕ, suc, ◌+◌, ◌-◌, ◌<◌, ◌≤◌, Bool, true, false, leb, List, [], ◌∷◌, map, length, get_or, take, drop, sym, refl, ap, ◌∙◌, arith, length-drop, drop_of_length-le, drop-drop, eq-eqb, ne_eqb, leb-true}
 use native.Mathlib.Decide.{ℕ_discrete}
 use lib.Seq.{sets, length-sets}
 use Rattle.srecord.specs.Line.{Meaning, heading, piece, start, refused, line_bytes, is_shaped, is_summed, line_address, data_of, meant, line_of, line_answer}
 use Rattle.srecord.specs.File.{in_front_of, lines_of, first, line_end, meanings_of, failed, ended, judged, landed}
-use denote.Enum.Declared.{tag_of}
-use types.Run.{OneOf, miss}
 use Rattle.srecord.specs.declared.line.Line.{Line}
-use Rattle.srecord.specs.contracts.line.Line.{the_type}
 use Rattle.srecord.specs.declared.line.Line.TheVariants.{Header, Data, End, Bad}
 use Rattle.srecord.specs.declared.Loaded.{Loaded}
 use Rattle.answers.specs.declared.Refusal.{Refusal}
@@ -95,23 +92,20 @@ judge-one (refused r) ms = refl
 pub judge-by : {l : Line} (m : Meaning) (ms : List Meaning) → line_answer m ≡ l → judged (m ∷ ms) ≡ answer_by l ms
 judge-by m ms e = judge-one m ms ∙ ap (λ (l : Line). answer_by l ms) e
 
--- the judge goes on after S0 and S1, by their tags
-pub passed : (l : Line) (ms : List Meaning) → OneOf (0 ∷ 1 ∷ []) (tag_of the_type l) → answer_by l ms ≡ judged ms
-passed Header ms h = refl
-passed (Data a n) ms h = refl
-passed (End a) ms h = absurd (miss (0 ∷ 1 ∷ []) 2 tt h)
-passed (Bad r) ms h = absurd (miss (0 ∷ 1 ∷ []) 3 tt h)
+-- the judge goes on after any line but S9 and one that is refused
+pub passed : (l : Line) (ms : List Meaning) → ((a : ℕ) → l ≡ End a → ⊥) → ((r : Refusal) → l ≡ Bad r → ⊥) → answer_by l ms ≡ judged ms
+passed Header ms g h = refl
+passed (Data a n) ms g h = refl
+passed (End a) ms g h = absurd (g a refl)
+passed (Bad r) ms g h = absurd (h r refl)
 
 -- any other line than S1 stores nothing
-lands-none-of : (m : Meaning) (ms : List Meaning) (mem : List ℕ) → OneOf (0 ∷ 2 ∷ 3 ∷ []) (tag_of the_type (line_answer m)) → landed (m ∷ ms) mem ≡ landed ms mem
+pub idle : {l : Line} (m : Meaning) (ms : List Meaning) (mem : List ℕ) → l ≡ line_answer m → ((a n : ℕ) → l ≡ Data a n → ⊥) → landed (m ∷ ms) mem ≡ landed ms mem
 unfolding landed
-lands-none-of (heading d) ms mem h = refl
-lands-none-of (piece a d) ms mem h = absurd (miss (0 ∷ 2 ∷ 3 ∷ []) 1 tt h)
-lands-none-of (start a) ms mem h = refl
-lands-none-of (refused r) ms mem h = refl
-
-pub idle : {l : Line} (m : Meaning) (ms : List Meaning) (mem : List ℕ) → l ≡ line_answer m → OneOf (0 ∷ 2 ∷ 3 ∷ []) (tag_of the_type l) → landed (m ∷ ms) mem ≡ landed ms mem
-idle m ms mem e h = lands-none-of m ms mem (subst (λ (l : Line). OneOf (0 ∷ 2 ∷ 3 ∷ []) (tag_of the_type l)) e h)
+idle (heading d) ms mem e h = refl
+idle (piece a d) ms mem e h = absurd (h a (length d) e)
+idle (start a) ms mem e h = refl
+idle (refused r) ms mem e h = refl
 
 pub lands-none : (mem : List ℕ) → landed [] mem ≡ mem
 unfolding landed

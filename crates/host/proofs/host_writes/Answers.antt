@@ -7,10 +7,11 @@ use native.Mathlib.Omega.{arith}
 use lib.ListN.{length, take, length-set, length-map}
 use Rattle.host.specs.Structs.{host_write}
 use Rattle.host.proofs.Laws.{turn, all_made}
+use borrow.Author.Rules.{rules}
 use Rattle.host.proofs.host_writes.Goals as goal
 
 pub loop-i-init : goal.loop-i-init
-loop-i-init c = (omega arith, (simp length-map at c.well_formed.0.1.1.1.0.1.0.1, (ap length c.no_writes-out.ensures, refl)))
+loop-i-init c = (omega arith, (search rules, (ap length c.no_writes-out.ensures, refl)))
 
 pub loop-i-preserved : goal.loop-i-preserved
 loop-i-preserved c =

@@ -7,10 +7,11 @@ use native.Mathlib.Omega.{arith}
 use lib.ListN.{length, take, length-set}
 use Rattle.host.specs.Structs.{range_from}
 use Rattle.host.proofs.Laws.{turn, all_made}
+use borrow.Author.Rules.{rules}
 use Rattle.host.proofs.profile_of.Goals as goal
 
 pub loop-i-init : goal.loop-i-init
-loop-i-init c = (omega arith, (c.well_formed.0.1.0.1, (refl, refl)))
+loop-i-init c = (omega arith, ((search rules), (refl, refl)))
 
 pub loop-i-preserved : goal.loop-i-preserved
 loop-i-preserved c =

@@ -9,6 +9,7 @@ use lib.ListN.{length}
 use Rattle.host.proofs.Back.{both}
 use Rattle.host_run.specs.Runs.{Running, running, uncounted}
 use Rattle.host_run.proofs.Laws.{at_most_one, run_more, run_ends}
+use borrow.Author.Rules.{rules}
 use Rattle.host_run.proofs.run.Goals as goal
 
 below : {n m : ℕ} → n ≤ m → m < 2 ^ 64 → n < 2 ^ 64
@@ -42,7 +43,7 @@ loop-left-preserved c =
 pub overflow_add-result : goal.overflow_add-result
 overflow_add-result c =
     let l = c.loop-left in
-    rw c.uncounted-uncarried.ensures (record { fits = below l.invariant.1.1 c.well_formed.1.1.1.0.1 })
+    rw c.uncounted-uncarried.ensures (record { fits = below l.invariant.1.1 (search rules) })
 
 pub shape_of-mem : goal.shape_of-mem
 shape_of-mem c = c.loop-left.invariant.1.0

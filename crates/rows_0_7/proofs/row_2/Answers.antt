@@ -7,4 +7,5 @@ use Rattle.opcodes.proofs.Rows.{◌∷≡◌}
 use Rattle.rows_0_7.proofs.row_2.Goals as goal
 
 pub returns : goal.returns
+unfolding entry_of row_of
 returns c = c.branch.ensures ∷≡ c.branch-2.ensures ∷≡ c.branch-3.ensures ∷≡ c.branch-4.ensures ∷≡ c.branch-5.ensures ∷≡ c.branch-6.ensures ∷≡ c.branch-7.ensures ∷≡ c.branch-8.ensures ∷≡ c.branch-9.ensures ∷≡ c.branch-10.ensures ∷≡ c.branch-11.ensures ∷≡ c.branch-12.ensures ∷≡ c.branch-13.ensures ∷≡ c.branch-14.ensures ∷≡ c.branch-15.ensures ∷≡ c.branch-16.ensures ∷≡ refl

@@ -7,4 +7,5 @@ use Rattle.opcodes.proofs.Rows.{◌∷≡◌}
 use Rattle.rows_0_7.proofs.row_3.Goals as goal
 
 pub returns : goal.returns
+unfolding entry_of row_of
 returns c = c.registers.ensures ∷≡ c.registers-2.ensures ∷≡ c.registers-3.ensures ∷≡ c.registers-4.ensures ∷≡ c.memory.ensures ∷≡ c.memory-2.ensures ∷≡ c.memory-3.ensures ∷≡ c.memory-4.ensures ∷≡ refl ∷≡ c.memory-5.ensures ∷≡ c.registers-5.ensures ∷≡ c.memory-6.ensures ∷≡ c.memory-7.ensures ∷≡ c.registers-6.ensures ∷≡ refl ∷≡ c.memory-8.ensures ∷≡ refl

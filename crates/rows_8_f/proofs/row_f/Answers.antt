@@ -7,4 +7,5 @@ use Rattle.opcodes.proofs.Rows.{◌∷≡◌}
 use Rattle.rows_8_f.proofs.row_f.Goals as goal
 
 pub returns : goal.returns
+unfolding entry_of row_of
 returns c = c.alu8.ensures ∷≡ c.alu8-2.ensures ∷≡ c.alu8-3.ensures ∷≡ c.registers.ensures ∷≡ c.alu8-4.ensures ∷≡ c.alu8-5.ensures ∷≡ c.alu8-6.ensures ∷≡ c.memory.ensures ∷≡ c.alu8-7.ensures ∷≡ c.alu8-8.ensures ∷≡ c.alu8-9.ensures ∷≡ c.alu8-10.ensures ∷≡ c.load16.ensures ∷≡ c.store16.ensures ∷≡ c.load16-2.ensures ∷≡ c.store16-2.ensures ∷≡ refl

@@ -27,7 +27,7 @@ returns-in-Ends c =
           (rw c.writes_in.ensures at c.wrapping_add_u64-writes.ensures.value)
           c.loop-left-test.true _ _
           (sym c.test.ensures ∙ c.in-Ends.is)
-          c.ended.ensures; typed = typed a.mem.now a.journal.now a.twin _ c.well_formed.1.1.0 (λ i. (c.type_inv.mem i).fits) }
+          c.ended.ensures; typed = typed a.mem.now a.journal.now a.twin _ (search rules) (λ i. (c.type_inv.mem i).fits) }
 
 pub overflow_sub-left : goal.overflow_sub-left
 overflow_sub-left c = search rules
@@ -58,4 +58,4 @@ shape_of-journal c = c.loop-left.invariant.1.1
 pub returns : goal.returns
 returns c =
     let a = c.args in
-    let l = c.loop-left in record { run_leaves = rw (c.ended-2.ensures, c.none.ensures) (used-up a.settings a.stop a.allowance (in_hand a.mem.now a.journal.now a.twin) (in_hand l.mem l.journal l.current) l.reads l.writes l.left l.invariant.0 c.loop-left-test.false); typed = typed a.mem.now a.journal.now a.twin _ c.well_formed.1.1.0 (λ i. (c.type_inv.mem i).fits) }
+    let l = c.loop-left in record { run_leaves = rw (c.ended-2.ensures, c.none.ensures) (used-up a.settings a.stop a.allowance (in_hand a.mem.now a.journal.now a.twin) (in_hand l.mem l.journal l.current) l.reads l.writes l.left l.invariant.0 c.loop-left-test.false); typed = typed a.mem.now a.journal.now a.twin _ (search rules) (λ i. (c.type_inv.mem i).fits) }

@@ -1,11 +1,9 @@
 -- The invariant: the first i bytes of the part are written. The measure is the number of bytes that are left.
 -- Assumes nothing.
 use Prim.Native.Nat.{◌-◌, ◌≤◌}
-use mathlib.Core.Path.{◌≡◌, refl, ap, ◌∙◌}
-use native.Mathlib.Omega.{arith}
+use mathlib.Core.Path.{◌≡◌}
 use lib.ListN.{length, take}
-use lib.Seq.{sets, length-sets, take_all}
-use Rattle.text.proofs.Stores.{one_more}
+use lib.Seq.{sets}
 use Rattle.text.proofs.lay.Given as goal
 
 abbrev pub invariant-loop-i : goal.invariant-loop-i

@@ -5,6 +5,7 @@ use lib.ListN.{length-map}
 use Rattle.machine.specs.declared.fence.Range.{Range}
 use Rattle.calls.specs.Decisions.{first_range, is_below, is_word_below}
 use Rattle.calls.proofs.Decided.{is-plain-by, first_of}
+use borrow.Author.Rules.{rules}
 use Rattle.calls.proofs.decisions.is_plain.Goals as goal
 
 pub returns-in-Refused : goal.returns-in-Refused
@@ -16,19 +17,19 @@ returns-in-Change c = let a = c.args in is-plain-by a.settings a.decision c.in-C
 pub returns-in-Byte : goal.returns-in-Byte
 returns-in-Byte c =
     let a = c.args in
-    let full : length a.settings.profile ≡ 8 = simp length-map at c.well_formed.1.0.1.1.1.0.1.0.1 in
+    let full : length a.settings.profile ≡ 8 = search rules in
     c.is_below.ensures ∙ (ap (λ (g : Range). is_below a.settings.ram_top g a.decision.at) (first_of a.settings.profile _ full) ∙ is-plain-by a.settings a.decision c.in-Byte.is)
 
 pub returns-in-Word : goal.returns-in-Word
 returns-in-Word c =
     let a = c.args in
-    let full : length a.settings.profile ≡ 8 = simp length-map at c.well_formed.1.0.1.1.1.0.1.0.1 in
+    let full : length a.settings.profile ≡ 8 = search rules in
     c.is_word_below.ensures ∙ (ap (λ (g : Range). is_word_below a.settings.ram_top g a.decision.at) (first_of a.settings.profile _ full) ∙ is-plain-by a.settings a.decision c.in-Word.is)
 
 pub returns-in-Push : goal.returns-in-Push
 returns-in-Push c =
     let a = c.args in
-    let full : length a.settings.profile ≡ 8 = simp length-map at c.well_formed.1.0.1.1.1.0.1.0.1 in
+    let full : length a.settings.profile ≡ 8 = search rules in
     rw (c.is_below-in-Push.ensures, c.has_room.ensures, c.word-top.ensures, c.word.ensures, first_of a.settings.profile _ full)
     (is-plain-by a.settings a.decision c.in-Push.is)
 

@@ -5,10 +5,13 @@ use Rattle.decode.specs.Decode.{located}
 use Rattle.decode.proofs.instruction.locate.Goals as goal
 
 pub returns-in-16 : goal.returns-in-16
+unfolding located
 returns-in-16 c = rw (c.second_byte.ensures, ← c.read_u8-code.ensures, c.in-16.is)
 
 pub returns-in-17 : goal.returns-in-17
+unfolding located
 returns-in-17 c = rw (c.second_byte-in-17.ensures, ← c.read_u8-code.ensures, c.in-17.is)
 
 pub returns-in_default : goal.returns-in_default
-returns-in_default c = let r = c.in_default.rest in rw (← c.read_u8-code.ensures, ne_eqb c.read_u8-code.result 0x10 r.0.1, ne_eqb c.read_u8-code.result 0x11 r.1)
+unfolding located
+returns-in_default c = let r = c.in_default.in_default-own.rest in rw (← c.read_u8-code.ensures, ne_eqb c.read_u8-code.result 0x10 r.0.1, ne_eqb c.read_u8-code.result 0x11 r.1)

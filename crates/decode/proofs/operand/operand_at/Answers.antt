@@ -10,6 +10,7 @@ use Rattle.decode.proofs.Reaching.{unwrapped, both-unwrapped}
 use Rattle.decode.proofs.operand.operand_at.Goals as goal
 
 pub returns-in-Inherent : goal.returns-in-Inherent
+unfolding operand_at
 returns-in-Inherent c = rw c.in-Inherent.is
 
 pub returns-in-Immediate8 : goal.returns-in-Immediate8
@@ -34,6 +35,7 @@ returns-in-Direct c =
     (unwrapped (λ (a : ℕ). Read (Direct (byte_at x.mem.now a)) (x.at + 1)) (Refused PastEnd) 1 x.at (lit< tt))
 
 pub returns-in-Indexed : goal.returns-in-Indexed
+unfolding operand_at
 returns-in-Indexed c = rw (c.indexed_at.ensures, c.in-Indexed.is)
 
 pub returns-in-Extended : goal.returns-in-Extended

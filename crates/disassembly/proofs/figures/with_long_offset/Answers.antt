@@ -6,7 +6,9 @@ use Rattle.disassembly.specs.Figures.{long_offset}
 use Rattle.disassembly.proofs.figures.with_long_offset.Goals as goal
 
 pub returns-then-n-lt32768 : goal.returns-then-n-lt32768
+unfolding long_offset
 returns-then-n-lt32768 c = rw (c.with_word.ensures, lt-ltb c.args.n 0x8000 c.if-n-lt32768.true)
 
 pub returns : goal.returns
+unfolding long_offset
 returns c = rw (c.with_word-2.ensures, c.with_byte.ensures, le-ltb c.args.n 0x8000 c.if-n-lt32768.false) (simp grown-grown)

@@ -5,4 +5,5 @@ use Rattle.registers.specs.ConditionCodes.{bit_at}
 use Rattle.fields.proofs.bits.is_second.Goals as goal
 
 pub returns : goal.returns
+unfolding bit_at
 returns c = refl

@@ -1,5 +1,6 @@
 -- Four fields, the last for the number that is left.
 -- Assumes nothing.
+use borrow.Author.Rules.{rules}
 use Prim.Native.Nat.{◌/◌, ◌%◌}
 use native.Mathlib.Omega.{arith}
 use Rattle.opcodes.proofs.Rows.{last}
@@ -15,4 +16,4 @@ pub returns-in-2 : goal.returns-in-2
 returns-in-2 c = rw c.in-2.is
 
 pub returns-in_default : goal.returns-in_default
-returns-in_default c = rw (last 3 (c.args.code / 16 % 4) (omega arith) c.in_default.rest)
+returns-in_default c = rw (last 3 (c.args.code / 16 % 4) (omega arith) (search rules))

@@ -27,4 +27,4 @@ pub returns-in-15 : goal.returns-in-15
 returns-in-15 c = rw (c.on_memory-in-15.ensures, c.in-15.is)
 
 pub returns-in_default : goal.returns-in_default
-returns-in_default c = rest by_name None (0xf ∷ 0xd ∷ 0xc ∷ 0xb ∷ 0xa ∷ 9 ∷ []) 256 c.args.column refl (search rules) c.in_default.rest
+returns-in_default c = rest by_name None (0xf ∷ 0xd ∷ 0xc ∷ 0xb ∷ 0xa ∷ 9 ∷ []) 256 c.args.column refl (search rules) (search rules)

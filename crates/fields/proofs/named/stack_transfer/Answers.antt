@@ -1,5 +1,6 @@
 -- Two stacks and two directions, the last for the number that is left.
 -- Assumes nothing.
+use borrow.Author.Rules.{rules}
 use Prim.Native.Nat.{◌%◌}
 use native.Mathlib.Omega.{arith}
 use Rattle.opcodes.proofs.Rows.{last}
@@ -15,4 +16,4 @@ pub returns-in-2 : goal.returns-in-2
 returns-in-2 c = rw (c.on_memory-in-2.ensures, c.in-2.is)
 
 pub returns-in_default : goal.returns-in_default
-returns-in_default c = rw (c.on_memory-in_default.ensures, last 3 (c.args.column % 4) (omega arith) c.in_default.rest)
+returns-in_default c = rw (c.on_memory-in_default.ensures, last 3 (c.args.column % 4) (omega arith) (search rules))

@@ -4,13 +4,17 @@ use Rattle.fields.specs.OneOperand.{in_memory}
 use Rattle.fields.proofs.one_operand.in_memory.Goals as goal
 
 pub returns-in-Change : goal.returns-in-Change
+unfolding in_memory
 returns-in-Change c = rw (c.entry_at.ensures, ← c.operation.ensures, c.in-Change.is)
 
 pub returns-in-Test : goal.returns-in-Test
+unfolding in_memory
 returns-in-Test c = rw (c.entry_at-in-Test.ensures, ← c.operation.ensures, c.in-Test.is)
 
 pub returns-in-Jump : goal.returns-in-Jump
+unfolding in_memory
 returns-in-Jump c = rw (c.entry_at-in-Jump.ensures, ← c.operation.ensures, c.in-Jump.is)
 
 pub returns-in-Nothing : goal.returns-in-Nothing
+unfolding in_memory
 returns-in-Nothing c = rw (← c.operation.ensures, c.in-Nothing.is)

@@ -4,4 +4,5 @@ use Rattle.fields.specs.TwoOperands.{store_byte}
 use Rattle.fields.proofs.two_operands.store_byte.Goals as goal
 
 pub returns : goal.returns
-returns c = rw (c.unless_immediate.ensures, c.entry_at.ensures, c.Mode-of.ensures, c.accumulator.ensures)
+unfolding store_byte
+returns c = rw (c.unless_immediate.ensures, c.entry_at.ensures, c.mode_of-mode.ensures, c.accumulator.ensures)

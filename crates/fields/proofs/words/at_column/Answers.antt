@@ -26,4 +26,4 @@ returns-in-15 c = rw c.in-15.is
 pub returns-in_default : goal.returns-in_default
 returns-in_default c =
     let x = c.args in
-    rest (columns x.at_3 x.at_c x.at_d x.at_e x.at_f) Nothing (0xf ∷ 0xe ∷ 0xd ∷ 0xc ∷ 3 ∷ []) 256 x.column refl (search rules) c.in_default.rest
+    rest (columns x.at_3 x.at_c x.at_d x.at_e x.at_f) Nothing (0xf ∷ 0xe ∷ 0xd ∷ 0xc ∷ 3 ∷ []) 256 x.column refl (search rules) (search rules)

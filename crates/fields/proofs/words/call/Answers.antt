@@ -8,4 +8,4 @@ pub returns-then-code-eq0 : goal.returns-then-code-eq0
 returns-then-code-eq0 c = rw (c.entry_at.ensures, c.if-code-eq0.true)
 
 pub returns : goal.returns
-returns c = rw (c.entry_at-2.ensures, c.Mode-of.ensures, ne_eqb (c.args.code / 16 % 4) 0 c.if-code-eq0.false)
+returns c = rw (c.entry_at-2.ensures, c.mode_of.ensures, ne_eqb (c.args.code / 16 % 4) 0 c.if-code-eq0.false)

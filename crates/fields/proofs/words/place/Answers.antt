@@ -4,16 +4,21 @@ use Rattle.fields.specs.TwoOperands.{word_place}
 use Rattle.fields.proofs.words.place.Goals as goal
 
 pub returns-in-Arithmetic : goal.returns-in-Arithmetic
-returns-in-Arithmetic c = rw (c.entry_at.ensures, c.Mode-of.ensures, ← c.operation.ensures, c.in-Arithmetic.is)
+unfolding word_place
+returns-in-Arithmetic c = rw (c.entry_at.ensures, c.mode_of-mode.ensures, ← c.operation.ensures, c.in-Arithmetic.is)
 
 pub returns-in-Load : goal.returns-in-Load
-returns-in-Load c = rw (c.entry_at-in-Load.ensures, c.Mode-of.ensures, ← c.operation.ensures, c.in-Load.is)
+unfolding word_place
+returns-in-Load c = rw (c.entry_at-in-Load.ensures, c.mode_of-mode.ensures, ← c.operation.ensures, c.in-Load.is)
 
 pub returns-in-Store : goal.returns-in-Store
-returns-in-Store c = rw (c.unless_immediate.ensures, c.entry_at-in-Store.ensures, c.Mode-of.ensures, ← c.operation.ensures, c.in-Store.is)
+unfolding word_place
+returns-in-Store c = rw (c.unless_immediate.ensures, c.entry_at-in-Store.ensures, c.mode_of-mode.ensures, ← c.operation.ensures, c.in-Store.is)
 
 pub returns-in-Call : goal.returns-in-Call
+unfolding word_place
 returns-in-Call c = rw (c.call.ensures, ← c.operation.ensures, c.in-Call.is)
 
 pub returns-in-Nothing : goal.returns-in-Nothing
+unfolding word_place
 returns-in-Nothing c = rw (← c.operation.ensures, c.in-Nothing.is)

@@ -11,11 +11,12 @@ use Rattle.memory.proofs.Folds.{all-taken}
 use Rattle.journal.specs.Record.{most_stored}
 use Rattle.journal.specs.Recorded.{saved_for}
 use Rattle.journal.proofs.Laying.{saved-twelve, turn-count}
+use borrow.Author.Rules.{rules}
 use Rattle.journal.proofs.recorded.count_entries.Goals as goal
 
 pub loop-i-init : goal.loop-i-init
 unfolding saved_for
-loop-i-init c = (omega arith, (simp length-map at c.well_formed.1.0.1.1.1.0.1.0.1, λ mem. refl))
+loop-i-init c = (omega arith, (search rules, λ mem. refl))
 
 pub offset_bounds-list-i : goal.offset_bounds-list-i
 offset_bounds-list-i c = omega arith

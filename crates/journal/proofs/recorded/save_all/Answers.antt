@@ -11,6 +11,7 @@ use lib.Seq.{sets}
 use Rattle.journal.specs.Record.{entries, most_stored, entries_at}
 use Rattle.journal.specs.Recorded.{saved_for}
 use Rattle.journal.proofs.Laying.{saved-twelve, save-fits, turn-count, turn-laid}
+use borrow.Author.Rules.{rules}
 use Rattle.journal.proofs.recorded.save_all.Goals as goal
 
 pub loop-i-init : goal.loop-i-init
@@ -18,7 +19,7 @@ unfolding saved_for entries
 loop-i-init c = (
   omega arith,
   (
-    simp length-map at c.well_formed.1.1.1.0.1.1.1.0.1.0.1,
+    search rules,
     (refl, (refl, refl)),
   ),
 )

@@ -5,4 +5,5 @@ use Rattle.operations.specs.Transfers.{transferable}
 use Rattle.operations.proofs.transfers.transferable.Goals as goal
 
 pub returns : goal.returns
+unfolding transferable
 returns c = refl

@@ -1,5 +1,6 @@
 -- `place` reads the row of the high digit at the low one; the rows that the page does not have are empty.
 -- Assumes nothing.
+use borrow.Author.Rules.{rules}
 use mathlib.Core.List.{[], ◌∷◌}
 use mathlib.Core.Path.{refl}
 use native.Mathlib.Omega.{arith}
@@ -10,19 +11,25 @@ use Rattle.pages.proofs.Reading.{picked, empty}
 use Rattle.pages.proofs.eleven.place.Goals as goal
 
 pub returns-in-3 : goal.returns-in-3
+unfolding entry_of row_of
 returns-in-3 c = picked Eleven c.args.code c.at_digit.ensures c.row_3.ensures c.in-3.is
 
 pub returns-in-8 : goal.returns-in-8
+unfolding entry_of row_of
 returns-in-8 c = picked Eleven c.args.code c.at_digit-in-8.ensures c.row_8.ensures c.in-8.is
 
 pub returns-in-9 : goal.returns-in-9
+unfolding entry_of row_of
 returns-in-9 c = picked Eleven c.args.code c.at_digit-in-9.ensures c.row_9.ensures c.in-9.is
 
 pub returns-in-10 : goal.returns-in-10
+unfolding entry_of row_of
 returns-in-10 c = picked Eleven c.args.code c.at_digit-in-10.ensures c.row_a.ensures c.in-10.is
 
 pub returns-in-11 : goal.returns-in-11
+unfolding entry_of row_of
 returns-in-11 c = picked Eleven c.args.code c.at_digit-in-11.ensures c.row_b.ensures c.in-11.is
 
 pub returns-in_default : goal.returns-in_default
-returns-in_default c = empty Eleven (0xB ∷ 0xA ∷ 0x9 ∷ 0x8 ∷ 0x3 ∷ []) c.args.code refl (omega arith) c.in_default.rest
+unfolding entry_of row_of
+returns-in_default c = empty Eleven (0xB ∷ 0xA ∷ 0x9 ∷ 0x8 ∷ 0x3 ∷ []) c.args.code refl (omega arith) (search rules)

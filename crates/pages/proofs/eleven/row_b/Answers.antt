@@ -7,4 +7,5 @@ use Rattle.opcodes.proofs.Rows.{◌∷≡◌}
 use Rattle.pages.proofs.eleven.row_b.Goals as goal
 
 pub returns : goal.returns
+unfolding entry_of row_of
 returns c = refl ∷≡ refl ∷≡ refl ∷≡ c.compare16.ensures ∷≡ refl ∷≡ refl ∷≡ refl ∷≡ refl ∷≡ refl ∷≡ refl ∷≡ refl ∷≡ refl ∷≡ c.compare16-2.ensures ∷≡ refl ∷≡ refl ∷≡ refl ∷≡ refl

@@ -1,5 +1,6 @@
 -- `place` reads the row of the high digit at the low one.
 -- Assumes nothing.
+use borrow.Author.Rules.{rules}
 use Prim.Native.Nat.{◌/◌}
 use native.Mathlib.Omega.{arith}
 use Rattle.opcodes.specs.declared.Page.TheVariants.{Plain}
@@ -53,4 +54,4 @@ pub returns-in-14 : goal.returns-in-14
 returns-in-14 c = picked Plain c.args.code c.at_digit-in-14.ensures c.row_e.ensures c.in-14.is
 
 pub returns-in_default : goal.returns-in_default
-returns-in_default c = picked Plain c.args.code c.at_digit-in_default.ensures c.row_f.ensures (last 15 (c.args.code / 16) (omega arith) c.in_default.rest)
+returns-in_default c = picked Plain c.args.code c.at_digit-in_default.ensures c.row_f.ensures (last 15 (c.args.code / 16) (omega arith) (search rules))

@@ -7,4 +7,5 @@ use Rattle.opcodes.proofs.Rows.{◌∷≡◌}
 use Rattle.pages.proofs.ten.row_d.Goals as goal
 
 pub returns : goal.returns
+unfolding entry_of row_of
 returns c = refl ∷≡ refl ∷≡ refl ∷≡ refl ∷≡ refl ∷≡ refl ∷≡ refl ∷≡ refl ∷≡ refl ∷≡ refl ∷≡ refl ∷≡ refl ∷≡ refl ∷≡ refl ∷≡ c.load16.ensures ∷≡ c.store16.ensures ∷≡ refl

@@ -1,50 +1,50 @@
 -- `judge`: the lines before `from` do not decide, and the answer is that of the lines from there on.
 -- Assumes nothing.
-use Rattle.std.proofs.Common.{◌≡◌, ◌-◌, ◌<◌, ◌≤◌, length, drop, sym, refl, ap, ◌∙◌, arith}
+use Rattle.std.proofs.Common.{◌≡◌, ◌<◌, ◌≤◌, length, drop, sym, refl, ap, ◌∙◌, arith}
 use Rattle.srecord.proofs.Lines.{line-fits, next-line, no_lines, answer_by, judge-by, passed}
 use Rattle.srecord.specs.File.{meanings_of, judged, ended}
 use Rattle.srecord.specs.declared.line.Line.{Line}
 use Rattle.srecord.proofs.file.judge.Goals as goal
+use Rattle.srecord.proofs.file.judge.Goals.{After-line_end-end, After-line_of}
 
-fits : (c : tie.After-line-end invariant-loop decreases-loop) → (c.before.before.loop.from < c.line-end.result) × (c.line-end.result ≤ length c.before.before.before.before.args.file.now)
-fits c = rw c.line-end.ensures (line-fits c.before.before.before.before.args.file.now c.before.before.loop.from c.before.loop-test.true)
+fits : (c : After-line_end-end) → (c.loop-from.from < c.line_end-end.result) × (c.line_end-end.result ≤ length c.args.file.now)
+fits c = rw c.line_end-end.ensures (line-fits c.args.file.now c.loop-from.from c.loop-from-test.true)
 
 -- the file's answer, by what the line at hand shows
-answer : (c : tie.After-line-of invariant-loop decreases-loop) {l : Line} → c.line-of.result ≡ l
-    → answer_by l (meanings_of (drop c.before.before.line-end.result c.before.before.before.before.before.before.args.file.now)) ≡ judged (meanings_of c.before.before.before.before.before.before.args.file.now)
+answer : (c : After-line_of) {l : Line} → c.line_of.result ≡ l → answer_by l (meanings_of (drop c.line_end-end.result c.args.file.now)) ≡ judged (meanings_of c.args.file.now)
 answer c e =
-    sym (ap judged (next-line c.before.before.before.before.before.before.args.file.now c.before.before.before.before.loop.from c.before.before.before.loop-test.true _ c.before.before.line-end.ensures) ∙ judge-by _ _ (sym c.line-of.ensures ∙ e))
-    ∙ c.before.before.before.before.loop.invariant.1
+    sym (ap judged (next-line c.args.file.now c.loop-from.from c.loop-from-test.true _ c.line_end-end.ensures) ∙ judge-by _ _ (sym c.line_of.ensures ∙ e))
+    ∙ c.loop-from.invariant.1
 
 pub loop-from-init : goal.loop-from-init
 loop-from-init c = (omega arith, refl)
 
 pub slice_bounds-line_of-count : goal.slice_bounds-line_of-count
-slice_bounds-line_of-count c = omega (arith, fits c)
+slice_bounds-line_of-count c = omega (arith, fits (goal.at.slice_bounds-line_of-count c).After-line_end-end)
 
 pub slice_bounds-line_of-start : goal.slice_bounds-line_of-start
-slice_bounds-line_of-start c = omega (arith, fits c)
+slice_bounds-line_of-start c = omega (arith, fits (goal.at.slice_bounds-line_of-start c).After-line_end-end)
 
 pub slice_bounds-line_of-end : goal.slice_bounds-line_of-end
-slice_bounds-line_of-end c = omega (arith, fits c)
+slice_bounds-line_of-end c = omega (arith, fits (goal.at.slice_bounds-line_of-end c).After-line_end-end)
 
 pub returns-then-end-file : goal.returns-then-end-file
 returns-then-end-file c =
     c.refused.ensures
     ∙ sym (ap (ended _) (next-line c.args.file.now c.line_end-end.result c.if-end-file.true _ refl))
-    ∙ answer c c.in-End.is
+    ∙ answer (goal.at.returns-then-end-file c).After-line_of c.in-End.is
 
 pub returns-in-End : goal.returns-in-End
-returns-in-End c = sym (ap (ended _) (no_lines c.args.file.now c.line_end-end.result c.if-end-file.false)) ∙ answer c c.in-End.is
+returns-in-End c = sym (ap (ended _) (no_lines c.args.file.now c.line_end-end.result c.if-end-file.false)) ∙ answer (goal.at.returns-in-End c).After-line_of c.in-End.is
 
 pub returns-in-Bad : goal.returns-in-Bad
-returns-in-Bad c = c.refused-in-Bad.ensures ∙ answer c c.in-Bad.is
+returns-in-Bad c = c.refused-in-Bad.ensures ∙ answer (goal.at.returns-in-Bad c).After-line_of c.in-Bad.is
 
 pub loop-from-smaller : goal.loop-from-smaller
-loop-from-smaller c = omega (arith, fits c)
+loop-from-smaller c = omega (arith, fits (goal.at.loop-from-smaller c).After-line_end-end)
 
 pub loop-from-preserved : goal.loop-from-preserved
-loop-from-preserved c = (omega (arith, fits c), sym (passed c.line_of.result _ c.in_default.keys3) ∙ answer c refl)
+loop-from-preserved c = (omega (arith, fits (goal.at.loop-from-preserved c).After-line_end-end), sym (passed c.line_of.result _ c.in_default.not-End c.in_default.not-Bad) ∙ answer (goal.at.loop-from-preserved c).After-line_of refl)
 
 pub returns : goal.returns
 unfolding judged

@@ -1,9 +1,7 @@
 -- `judge`: the lines before `from` do not decide, and the answer is that of the lines from there on.
 -- Assumes nothing.
-use Rattle.std.proofs.Common.{◌≡◌, ◌-◌, ◌<◌, ◌≤◌, length, drop, sym, refl, ap, ◌∙◌, arith}
-use Rattle.srecord.proofs.Lines.{line-fits, next-line, no_lines, answer_by, judge-by, passed}
-use Rattle.srecord.specs.File.{meanings_of, judged, ended}
-use Rattle.srecord.specs.declared.line.Line.{Line}
+use Rattle.std.proofs.Common.{◌≡◌, ◌-◌, ◌≤◌, length, drop}
+use Rattle.srecord.specs.File.{meanings_of, judged}
 use Rattle.srecord.proofs.file.judge.Given as goal
 
 abbrev pub invariant-loop-from : goal.invariant-loop-from

@@ -1,8 +1,7 @@
 -- `line_end`: no line feed before i, so that the line ends where one that starts at i does.
 -- Assumes nothing.
-use Rattle.std.proofs.Common.{◌≡◌, ◌-◌, length, refl, arith}
+use Rattle.std.proofs.Common.{refl, arith}
 use Rattle.srecord.proofs.Scan.{end-found, end_on, end_none}
-use Rattle.srecord.specs.File.{line_end}
 use Rattle.srecord.proofs.file.line_end.Goals as goal
 
 pub loop-i-init : goal.loop-i-init

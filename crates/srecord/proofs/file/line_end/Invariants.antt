@@ -1,7 +1,6 @@
 -- `line_end`: no line feed before i, so that the line ends where one that starts at i does.
 -- Assumes nothing.
-use Rattle.std.proofs.Common.{◌≡◌, ◌-◌, length, refl, arith}
-use Rattle.srecord.proofs.Scan.{end-found, end_on, end_none}
+use Rattle.std.proofs.Common.{◌≡◌, ◌-◌, length}
 use Rattle.srecord.specs.File.{line_end}
 use Rattle.srecord.proofs.file.line_end.Given as goal
 

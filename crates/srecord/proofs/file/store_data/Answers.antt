@@ -1,10 +1,9 @@
 -- `store_data`: the first i data bytes are stored.
 -- Assumes nothing.
-use Rattle.std.proofs.Common.{◌≡◌, ◌-◌, ◌≤◌, length, take, drop, sym, refl, ◌∙◌, arith, length-set, take_all}
+use Rattle.std.proofs.Common.{take, drop, sym, refl, ◌∙◌, arith, length-set, take_all}
 use Rattle.srecord.proofs.Laying.{sets_more}
 use Rattle.srecord.proofs.Bytes.{data-length, data-at}
 use Rattle.srecord.specs.Line.{line_bytes}
-use lib.Seq.{sets}
 use Rattle.srecord.proofs.file.store_data.Goals as goal
 
 pub loop-i-init : goal.loop-i-init

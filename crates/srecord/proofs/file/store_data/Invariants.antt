@@ -1,8 +1,6 @@
 -- `store_data`: the first i data bytes are stored.
 -- Assumes nothing.
-use Rattle.std.proofs.Common.{◌≡◌, ◌-◌, ◌≤◌, length, take, drop, sym, refl, ◌∙◌, arith, length-set, take_all}
-use Rattle.srecord.proofs.Laying.{sets_more}
-use Rattle.srecord.proofs.Bytes.{data-length, data-at}
+use Rattle.std.proofs.Common.{◌≡◌, ◌-◌, ◌≤◌, length, take, drop}
 use Rattle.srecord.specs.Line.{line_bytes}
 use lib.Seq.{sets}
 use Rattle.srecord.proofs.file.store_data.Given as goal

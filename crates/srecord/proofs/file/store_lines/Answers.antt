@@ -5,47 +5,48 @@ use Rattle.srecord.proofs.Lines.{line-fits, next-line, no_lines, data-line, data
 use Rattle.srecord.specs.File.{meanings_of, landed}
 use Rattle.srecord.specs.Line.{Meaning, line_of}
 use Rattle.srecord.proofs.file.store_lines.Goals as goal
+use Rattle.srecord.proofs.file.store_lines.Goals.{After-line_end-end}
 
-fits : (c : tie.After-line-end invariant-loop decreases-loop) → (c.before.before.loop.from < c.line-end.result) × (c.line-end.result ≤ length c.before.before.before.before.before.args.file.now)
-fits c = rw c.line-end.ensures (line-fits c.before.before.before.before.before.args.file.now c.before.before.loop.from c.before.loop-test.true)
+fits : (c : After-line_end-end) → (c.loop-from.from < c.line_end-end.result) × (c.line_end-end.result ≤ length c.args.file.now)
+fits c = rw c.line_end-end.ensures (line-fits c.args.file.now c.loop-from.from c.loop-from-test.true)
 
 -- the line at hand, and those after it
-step : (c : tie.After-line-end invariant-loop decreases-loop)
-    → landed (line_of (take (c.line-end.result - c.before.before.loop.from) (drop c.before.before.loop.from c.before.before.before.before.before.args.file.now)) ∷ meanings_of (drop c.line-end.result c.before.before.before.before.before.args.file.now)) c.before.before.loop.mem
-    ≡ landed (meanings_of c.before.before.before.before.before.args.file.now) c.before.before.before.before.before.args.mem.now
+step : (c : After-line_end-end)
+    → landed (line_of (take (c.line_end-end.result - c.loop-from.from) (drop c.loop-from.from c.args.file.now)) ∷ meanings_of (drop c.line_end-end.result c.args.file.now)) c.loop-from.mem
+    ≡ landed (meanings_of c.args.file.now) c.args.mem.now
 step c =
-    ap (λ (ms : List Meaning). landed ms c.before.before.loop.mem) (sym (next-line c.before.before.before.before.before.args.file.now c.before.before.loop.from c.before.loop-test.true _ c.line-end.ensures))
-    ∙ c.before.before.loop.invariant.1.1
+    ap (λ (ms : List Meaning). landed ms c.loop-from.mem) (sym (next-line c.args.file.now c.loop-from.from c.loop-from-test.true _ c.line_end-end.ensures))
+    ∙ c.loop-from.invariant.1.1
 
 pub loop-from-init : goal.loop-from-init
 loop-from-init c = (omega arith, (omega arith, refl))
 
 pub slice_bounds-text-count : goal.slice_bounds-text-count
-slice_bounds-text-count c = omega (arith, fits c)
+slice_bounds-text-count c = omega (arith, fits (goal.at.slice_bounds-text-count c).After-line_end-end)
 
 pub slice_bounds-text-start : goal.slice_bounds-text-start
-slice_bounds-text-start c = omega (arith, fits c)
+slice_bounds-text-start c = omega (arith, fits (goal.at.slice_bounds-text-start c).After-line_end-end)
 
 pub slice_bounds-text-end : goal.slice_bounds-text-end
-slice_bounds-text-end c = omega (arith, fits c)
+slice_bounds-text-end c = omega (arith, fits (goal.at.slice_bounds-text-end c).After-line_end-end)
 
 pub store_data-requires : goal.store_data-requires
 store_data-requires c = let d = data-line _ _ _ (sym c.line_of.ensures ∙ c.in-Data.is) in (omega arith, omega arith)
 
 pub loop-from-smaller-in-Data : goal.loop-from-smaller-in-Data
-loop-from-smaller-in-Data c = omega (arith, fits c)
+loop-from-smaller-in-Data c = omega (arith, fits (goal.at.loop-from-smaller-in-Data c).After-line_end-end)
 
 pub loop-from-preserved-in-Data : goal.loop-from-preserved-in-Data
 loop-from-preserved-in-Data c =
     let d = data-line _ _ _ (sym c.line_of.ensures ∙ c.in-Data.is) in
     let s = c.store_data.ensures in
-    (omega (arith, fits c), (data-kept _ _ _ _ _ d c.loop-from.invariant.1.0 s, rw s (sym (lands _ _ _ _ _ d.means) ∙ step c)))
+    (omega (arith, fits (goal.at.loop-from-preserved-in-Data c).After-line_end-end), (data-kept _ _ _ _ _ d c.loop-from.invariant.1.0 s, rw s (sym (lands _ _ _ _ _ d.means) ∙ step (goal.at.loop-from-preserved-in-Data c).After-line_end-end)))
 
 pub loop-from-smaller : goal.loop-from-smaller
-loop-from-smaller c = omega (arith, fits c)
+loop-from-smaller c = omega (arith, fits (goal.at.loop-from-smaller c).After-line_end-end)
 
 pub loop-from-preserved : goal.loop-from-preserved
-loop-from-preserved c = (omega (arith, fits c), (c.loop-from.invariant.1.0, sym (idle _ _ _ c.line_of.ensures c.in_default.keys2) ∙ step c))
+loop-from-preserved c = (omega (arith, fits (goal.at.loop-from-preserved c).After-line_end-end), (c.loop-from.invariant.1.0, sym (idle _ _ _ c.line_of.ensures c.in_default.not-Data) ∙ step (goal.at.loop-from-preserved c).After-line_end-end))
 
 pub shape_of-mem : goal.shape_of-mem
 shape_of-mem c = omega arith

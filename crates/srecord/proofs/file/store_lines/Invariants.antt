@@ -1,9 +1,7 @@
 -- `store_lines`: memory is as the lines before `from` leave it, and the lines from there on lead to the same memory.
 -- Assumes nothing.
-use Rattle.std.proofs.Common.{◌≡◌, ◌-◌, ◌<◌, ◌≤◌, List, ◌∷◌, length, take, drop, sym, refl, ap, ◌∙◌, arith}
-use Rattle.srecord.proofs.Lines.{line-fits, next-line, no_lines, data-line, data-kept, lands, lands-none, idle}
+use Rattle.std.proofs.Common.{◌≡◌, ◌-◌, ◌≤◌, length, drop}
 use Rattle.srecord.specs.File.{meanings_of, landed}
-use Rattle.srecord.specs.Line.{Meaning, line_of}
 use Rattle.srecord.proofs.file.store_lines.Given as goal
 
 abbrev pub invariant-loop-from : goal.invariant-loop-from

@@ -1,9 +1,6 @@
 -- `paired`: the characters before i are pairs of digits, so that the answer is that of the rest.
 -- Assumes nothing.
-use Rattle.std.proofs.Common.{◌≡◌, ◌+◌, ◌-◌, ◌≤◌, Bool, ◌&&◌, length, get_or, drop, sym, refl, ◌∙◌, arith}
-use borrow.Author.Tests.{not-true, not-false}
-use Rattle.srecord.proofs.Scan.{paired-not, paired-on, paired-last, paired_none}
-use Rattle.text.specs.Hex.{is_digit}
+use Rattle.std.proofs.Common.{◌≡◌, ◌-◌, ◌≤◌, length, drop}
 use Rattle.srecord.specs.Layout.{is_paired}
 use Rattle.srecord.proofs.layout.paired.Given as goal
 

@@ -1,6 +1,6 @@
 -- `sum_of`: the sum of the first i bytes, modulo 256.
 -- Assumes nothing.
-use Rattle.std.proofs.Common.{◌≡◌, ◌-◌, ◌%◌, ◌≤◌, length, take, refl, ◌∙◌, arith, take_all}
+use Rattle.std.proofs.Common.{refl, ◌∙◌, arith, take_all}
 use Rattle.srecord.proofs.Scan.{sum_more}
 use Rattle.srecord.specs.Layout.{total}
 use Rattle.srecord.proofs.layout.sum_of.Goals as goal

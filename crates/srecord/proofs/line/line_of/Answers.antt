@@ -1,7 +1,6 @@
 -- `line_of` tests shape, then checksum; the commonest S9 line is computed.
 -- Assumes nothing.
 use Rattle.std.proofs.Common.{ℕ, List, sym, ap, ◌∙◌}
-use borrow.Author.Tests.{not-true, not-false}
 use Rattle.srecord.proofs.Lines.{sound}
 use Rattle.text.specs.Hex.{digit_value}
 use Rattle.srecord.specs.Layout.{is_paired, paired_bytes, total}
@@ -14,13 +13,13 @@ returns-then-same c = sym (ap (λ (l : List ℕ). line_answer (line_of l)) (c.sa
 
 pub returns-then-not-shaped : goal.returns-then-not-shaped
 unfolding line_of
-returns-then-not-shaped c = rw (sym c.shaped.ensures ∙ not-true _ c.if-not-shaped.true)
+returns-then-not-shaped c = rw (sym c.shaped.ensures ∙ c.if-not-shaped.true)
 
 pub returns-then-not-summed : goal.returns-then-not-summed
 unfolding line_of
-returns-then-not-summed c = rw (sym c.shaped.ensures ∙ not-false _ c.if-not-shaped.false, sym c.summed.ensures ∙ not-true _ c.if-not-summed.true)
+returns-then-not-summed c = rw (sym c.shaped.ensures ∙ c.if-not-shaped.false, sym c.summed.ensures ∙ c.if-not-summed.true)
 
 pub returns : goal.returns
 returns c =
     c.meaning.ensures
-    ∙ ap line_answer (sym (sound c.args.text.now (sym c.shaped.ensures ∙ not-false _ c.if-not-shaped.false) (sym c.summed.ensures ∙ not-false _ c.if-not-summed.false)))
+    ∙ ap line_answer (sym (sound c.args.text.now (sym c.shaped.ensures ∙ c.if-not-shaped.false) (sym c.summed.ensures ∙ c.if-not-summed.false)))

@@ -1,6 +1,6 @@
 -- `meaning` by the kind: S0, S9, and S1 with its last address tested.
 -- Assumes nothing.
-use Rattle.std.proofs.Common.{◌+◌, length, get_or, arith, ne_eqb, le-leb}
+use Rattle.std.proofs.Common.{◌+◌, ◌≢◌, length, get_or, arith, ne_eqb, le-leb}
 use borrow.Author.Tests.{lt-leb}
 use Rattle.srecord.specs.Line.{line_bytes, line_address, data_of}
 use Rattle.srecord.proofs.Shapes.{is-shaped}
@@ -25,10 +25,14 @@ pub returns-then-address-count-le65536 : goal.returns-then-address-count-le65536
 returns-then-address-count-le65536 c =
     let t = c.args.text.now in
     let s = is-shaped t c.requires in
-    rw (ne_eqb (get_or t 1 0) 48 c.in_default.rest.0.1, ne_eqb (get_or t 1 0) 57 c.in_default.rest.1, le-leb (line_address (line_bytes t) + length (data_of (line_bytes t))) 65536 (omega arith), s.width, c.byte.ensures, c.byte-2.ensures, c.size-count.ensures)
+    let n : get_or t 1 0 ≢ 48 = omega arith in
+    let m : get_or t 1 0 ≢ 57 = omega arith in
+    rw (ne_eqb (get_or t 1 0) 48 n, ne_eqb (get_or t 1 0) 57 m, le-leb (line_address (line_bytes t) + length (data_of (line_bytes t))) 65536 (omega arith), s.width, c.byte.ensures, c.byte-2.ensures, c.size-count.ensures)
 
 pub returns-else-address-count-le65536 : goal.returns-else-address-count-le65536
 returns-else-address-count-le65536 c =
     let t = c.args.text.now in
     let s = is-shaped t c.requires in
-    rw (ne_eqb (get_or t 1 0) 48 c.in_default.rest.0.1, ne_eqb (get_or t 1 0) 57 c.in_default.rest.1, lt-leb (line_address (line_bytes t) + length (data_of (line_bytes t))) 65536 (omega arith))
+    let n : get_or t 1 0 ≢ 48 = omega arith in
+    let m : get_or t 1 0 ≢ 57 = omega arith in
+    rw (ne_eqb (get_or t 1 0) 48 n, ne_eqb (get_or t 1 0) 57 m, lt-leb (line_address (line_bytes t) + length (data_of (line_bytes t))) 65536 (omega arith))

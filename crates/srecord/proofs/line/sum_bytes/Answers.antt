@@ -1,6 +1,6 @@
 -- `sum_bytes` adds byte i in turn i.
 -- Assumes nothing.
-use Rattle.std.proofs.Common.{◌≡◌, ◌-◌, ◌%◌, ◌≤◌, take, refl, ◌∙◌, arith}
+use Rattle.std.proofs.Common.{◌≡◌, refl, ◌∙◌, arith}
 use Rattle.srecord.proofs.Scan.{sum_more}
 use Rattle.srecord.specs.Layout.{total}
 use Rattle.srecord.specs.Line.{line_bytes}

@@ -1,7 +1,6 @@
 -- `all_zero`: the bytes before i are zero, so that the answer is that of the rest.
 -- Assumes nothing.
-use Rattle.std.proofs.Common.{◌≡◌, ◌-◌, length, drop, sym, refl, ◌∙◌}
-use Rattle.srecord.proofs.Scan.{zero-not, zero-on, zero-none}
+use Rattle.std.proofs.Common.{◌≡◌, ◌-◌, length, drop}
 use Rattle.srecord.specs.Written.{is_zero}
 use Rattle.srecord.proofs.written.all_zero.Given as goal
 

@@ -1,7 +1,6 @@
 -- `put_pairs`: the digits of the first i bytes are stored.
 -- Assumes nothing.
-use Rattle.std.proofs.Common.{◌≡◌, ◌-◌, ◌≤◌, length, take, refl, ap, ◌∙◌, arith, length-set, take_all}
-use Rattle.srecord.proofs.Laying.{pairs-more}
+use Rattle.std.proofs.Common.{◌≡◌, ◌-◌, ◌≤◌, length, take}
 use Rattle.srecord.specs.Layout.{pairs}
 use lib.Seq.{sets}
 use Rattle.srecord.proofs.written.put_pairs.Given as goal

@@ -1,9 +1,7 @@
 -- `put_rows`: the text of the first k rows is stored, and `at` is its length.
 -- Assumes nothing.
-use Rattle.std.proofs.Common.{◌≡◌, ℕ, ◌+◌, ◌-◌, ◌≤◌, Bool, false, List, length, sym, refl, ap, ◌∙◌, ⊎_elim, arith}
-use borrow.Author.Tests.{not-true, not-false}
-use Rattle.srecord.proofs.Rows.{row-part, row-width, row-length, rows_none, rows_grow, turn_more, turn-skip}
-use Rattle.srecord.specs.Written.{bytes_of_row, is_zero, rows_text}
+use Rattle.std.proofs.Common.{◌≡◌, ◌-◌, ◌≤◌, length}
+use Rattle.srecord.specs.Written.{rows_text}
 use lib.Seq.{sets}
 use Rattle.srecord.proofs.written.put_rows.Given as goal
 

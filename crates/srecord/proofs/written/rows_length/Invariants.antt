@@ -1,9 +1,7 @@
 -- `rows_length`: 75 characters for each row of the first k that is not all zero.
 -- Assumes nothing.
-use Rattle.std.proofs.Common.{◌≡◌, ◌-◌, ◌*◌, ◌≤◌, length, sym, refl, ap, ◌∙◌, ⊎_elim, arith}
-use borrow.Author.Tests.{not-true, not-false}
-use Rattle.srecord.proofs.Rows.{row-part, row-length, row-skip}
-use Rattle.srecord.specs.Written.{is_zero, rows_text}
+use Rattle.std.proofs.Common.{◌≡◌, ◌-◌, ◌*◌, ◌≤◌, length}
+use Rattle.srecord.specs.Written.{rows_text}
 use Rattle.srecord.proofs.written.rows_length.Given as goal
 
 abbrev pub invariant-loop-k : goal.invariant-loop-k

@@ -1,8 +1,8 @@
 -- `pull_all`: what is still to be pulled gives, at every turn of the loops, what the whole pull gives.
 -- Assumes nothing.
-use Rattle.std.proofs.Common.{◌≡◌, ◌-◌, ◌≤◌, sym, refl, ◌∙◌, ⊎_elim, arith}
+use Rattle.std.proofs.Common.{◌≡◌, ◌-◌, ◌≤◌}
 use Rattle.stack.specs.Pulling.{pulled_to}
-use Rattle.stack.proofs.Emptying.{from, all-pulled, turn-off, turn_byte, turn-word}
+use Rattle.stack.proofs.Emptying.{from}
 use Rattle.stack.proofs.pulling.pull_all.Given as goal
 
 abbrev pub invariant-loop-k : goal.invariant-loop-k

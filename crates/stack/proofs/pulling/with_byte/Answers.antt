@@ -14,6 +14,5 @@ returns-in-1 c = rw c.in-1.is
 
 pub returns-in_default : goal.returns-in_default
 returns-in_default c =
-    let r = c.in_default.rest in
     let z : c.args.k ≡ 0 = omega arith in
     rw (c.set_from_byte-regs.ensures, z)

@@ -14,6 +14,5 @@ returns-in-5 c = rw c.in-5.is
 
 pub returns-in_default : goal.returns-in_default
 returns-in_default c =
-    let r = c.in_default.rest in
     let z : c.args.k ≡ 4 = omega arith in
     rw z

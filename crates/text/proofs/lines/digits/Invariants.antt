@@ -1,11 +1,9 @@
 -- The invariant: the digits counted, and those of what is left, are all and one more. The measure is what is left.
 -- Assumes nothing.
 use Prim.Native.Nat.{◌+◌, ◌≤◌}
-use mathlib.Core.Path.{◌≡◌, ap}
-use native.Mathlib.Omega.{arith}
+use mathlib.Core.Path.{◌≡◌}
 use lib.ListN.{length}
 use Rattle.text.specs.Lines.{decimal}
-use Rattle.text.proofs.Decimals.{short, one_more, at-most-twenty}
 use Rattle.text.proofs.lines.digits.Given as goal
 
 abbrev pub invariant-loop-rest : goal.invariant-loop-rest

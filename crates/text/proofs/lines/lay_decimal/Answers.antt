@@ -1,10 +1,10 @@
 -- The invariant: the digits after those of what is left are written (`Filled`). The measure is what is left.
 -- Assumes nothing.
-use Prim.Native.Nat.{◌/◌, ◌≤◌}
+use Prim.Native.Nat.{◌/◌}
 use native.Mathlib.Omega.{arith}
 use lib.ListN.{length-set}
 use Rattle.text.proofs.Decimals.{one_more, one-or-more}
-use Rattle.text.proofs.Filling.{Filled, at_first, same_size, inside, turn, done}
+use Rattle.text.proofs.Filling.{at_first, same_size, inside, turn, done}
 use Rattle.text.proofs.lines.lay_decimal.Goals as goal
 
 pub overflow_add-end : goal.overflow_add-end

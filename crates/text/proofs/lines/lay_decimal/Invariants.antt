@@ -1,10 +1,7 @@
 -- The invariant: the digits after those of what is left are written (`Filled`). The measure is what is left.
 -- Assumes nothing.
-use Prim.Native.Nat.{◌/◌, ◌≤◌}
-use native.Mathlib.Omega.{arith}
-use lib.ListN.{length-set}
-use Rattle.text.proofs.Decimals.{one_more, one-or-more}
-use Rattle.text.proofs.Filling.{Filled, at_first, same_size, inside, turn, done}
+use Prim.Native.Nat.{◌≤◌}
+use Rattle.text.proofs.Filling.{Filled}
 use Rattle.text.proofs.lines.lay_decimal.Given as goal
 
 abbrev pub invariant-loop-rest : goal.invariant-loop-rest

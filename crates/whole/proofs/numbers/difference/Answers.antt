@@ -7,4 +7,5 @@ use Rattle.whole.proofs.Signed.{back}
 use Rattle.whole.proofs.numbers.difference.Goals as goal
 
 pub returns : goal.returns
+unfolding diff_out
 returns c = record { value = rw (c.is_outside.ensures, back c.signed_difference.result c.signed_difference.ensures.result_bound, c.signed_difference.ensures.value); value_bound = mod-lt _ (omega (arith, c.requires.width.some)) }

@@ -7,4 +7,5 @@ use Rattle.whole.proofs.Signed.{back}
 use Rattle.whole.proofs.numbers.sum.Goals as goal
 
 pub returns : goal.returns
+unfolding sum_out
 returns c = record { value = rw (c.is_outside.ensures, back c.signed_sum.result c.signed_sum.ensures.result_bound, c.signed_sum.ensures.value); value_bound = mod-lt _ (omega (arith, c.requires.width.some)) }
