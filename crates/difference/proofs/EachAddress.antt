@@ -13,8 +13,8 @@ use lib.ListN.{length, get_or, length-append, get_or-eq_default}
 use lib.Seq.{ext_get_or}
 use borrow.Author.Tests.{eq-eqb, ne_eqb, lt-ltb, le-ltb, le-leb, lt-leb, ltb-true, ltb-false}
 use Rattle.difference.specs.Differences.{Difference, of_field, of_run, run_up_to, runs_from, runs}
-use Rattle.difference.specs.Laws.{runs_with, Rise, RunsRise, Maximal, RunsMaximal, exchanged}
-use Rattle.difference.proofs.Tests.{same_or_not, eqb_swap, none-so-equal}
+use Rattle.difference.specs.Laws.{runs_with, Rise, Maximal, exchanged}
+use Rattle.difference.proofs.Tests.{same_or_not, none-so-equal}
 
 -- ---- one run
 

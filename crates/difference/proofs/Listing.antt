@@ -1,19 +1,17 @@
 -- The list in bytes: 17 for each entry, one after the other, and read back.
 -- Assumes nothing.
-use Prim.Native.Nat.{ℕ, zero, suc, ◌+◌, ◌-◌, ◌*◌, ◌/◌, ◌^◌, ◌≤◌, ◌<◌}
+use Prim.Native.Nat.{ℕ, suc, ◌+◌, ◌-◌, ◌*◌, ◌/◌, ◌<◌}
 use mathlib.Core.List.{List, [], ◌∷◌, ◌++◌, append_assoc}
-use mathlib.Core.Path.{◌≡◌, refl, sym, ap, ◌∙◌}
+use mathlib.Core.Path.{◌≡◌, refl, sym, ◌∙◌}
 use native.Mathlib.Numerals.{add-one}
 use native.Mathlib.Omega.{arith}
 use lib.ListN.{length, get_or, set, take, drop, length-append, length-drop}
-use lib.Seq.{sets, sets-eq, length-sets, take_all, get_or-drop, get_or-append-add}
+use lib.Seq.{sets, take_all, get_or-drop}
 use Rattle.text.proofs.Stores.{sets-append}
 use borrow.Author.Tests.{lt-ltb}
-use Rattle.machine.specs.Machine.{MachineFits}
 use Rattle.machine.specs.Record.{bytes, number_at, counter}
-use Rattle.machine.specs.declared.Machine.{Machine}
-use Rattle.machine.proofs.Header.{counter-back, length-counter, number-drop}
-use Rattle.difference.specs.Differences.{Difference, of_field, of_run, differences}
+use Rattle.machine.proofs.Header.{length-counter, number-drop}
+use Rattle.difference.specs.Differences.{Difference}
 use Rattle.difference.specs.Compare.{as_entry, entry_bytes, entry_size, laid_out, entry_at}
 use Rattle.difference.specs.Laws.{ListLength}
 use Rattle.difference.specs.declared.entries.Entry.{Entry}

@@ -1,20 +1,20 @@
 -- The entries of a list are read back as they were written.
 -- Assumes nothing.
-use Prim.Native.Nat.{ℕ, zero, suc, ◌+◌, ◌-◌, ◌*◌, ◌/◌, ◌^◌, ◌≤◌, ◌<◌}
+use Prim.Native.Nat.{ℕ, zero, suc, ◌+◌, ◌*◌, ◌/◌, ◌^◌, ◌≤◌, ◌<◌}
 use mathlib.Core.Bool.{Bool, true, false, cond}
 use mathlib.Core.List.{List, [], ◌∷◌, ◌++◌, append_assoc}
 use mathlib.Core.Logic.{⊎_elim}
-use mathlib.Core.Path.{◌≡◌, refl, sym, ap, ◌∙◌}
+use mathlib.Core.Path.{◌≡◌, sym, ◌∙◌}
 use native.Mathlib.Nat.{eq-or-lt_of_le}
 use native.Mathlib.Omega.{arith}
 use lib.Dec.{eqb}
-use lib.ListN.{length, get_or, drop, length-append}
+use lib.ListN.{length, get_or, drop}
 use lib.Seq.{sets, sets-eq, length-sets, drop-append_seam, get_or-append-add}
 use borrow.Author.Tests.{lt-ltb}
 use Rattle.machine.specs.Machine.{MachineFits}
 use Rattle.machine.specs.Record.{Field, A, B, X, Y, U, S, PC, DP, CC, Waiting, Armed, Cycles, Instructions, fields, field_of, bytes, number_at, counter}
 use Rattle.machine.specs.declared.Machine.{Machine}
-use Rattle.machine.proofs.Header.{counter-back, length-counter, number-drop, wait-small, mark-small}
+use Rattle.machine.proofs.Header.{counter-back, number-drop, wait-small, mark-small}
 use Rattle.difference.specs.Differences.{Difference, of_field, of_run, field_apart, fields_apart, run_up_to, runs_from, runs, differences}
 use Rattle.difference.specs.Compare.{as_entry, entry_bytes, entry_size, laid_out, entry_at}
 use Rattle.difference.specs.Laws.{EntriesBack}

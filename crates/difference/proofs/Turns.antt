@@ -3,7 +3,7 @@
 use Prim.Native.Nat.{ℕ, zero, suc, ◌+◌, ◌-◌, ◌*◌, ◌≤◌, ◌<◌}
 use mathlib.Core.Bool.{Bool, true, false, cond, not}
 use mathlib.Core.List.{List, [], ◌∷◌, ◌++◌, map}
-use mathlib.Core.Path.{◌≡◌, refl, sym, ap, ◌∙◌}
+use mathlib.Core.Path.{◌≡◌, refl, sym, ◌∙◌}
 use native.Mathlib.Numerals.{add-one}
 use native.Mathlib.Omega.{arith}
 use lib.Dec.{eqb, ltb}
@@ -13,9 +13,8 @@ use mir.Val.{bool_byte}
 use Rattle.text.proofs.Stores.{sets-append}
 use Rattle.machine.specs.Record.{Field, A, fields, rank, field_of}
 use Rattle.machine.specs.declared.Machine.{Machine}
-use Rattle.difference.specs.Differences.{Difference, of_field, of_run, field_apart, fields_apart, run_up_to, runs_from, runs}
+use Rattle.difference.specs.Differences.{Difference, of_field, of_run, field_apart, fields_apart, run_up_to, runs_from}
 use Rattle.difference.specs.Compare.{as_entry, entry_bytes, entry_size, laid_out}
-use Rattle.difference.specs.declared.entries.Entry.{Entry}
 use Rattle.difference.proofs.EachAddress.{on-equal, on-apart}
 use Rattle.difference.proofs.Listing.{length-entry, list_length, listed-append}
 

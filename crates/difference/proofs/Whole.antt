@@ -6,7 +6,6 @@ use mathlib.Core.Path.{◌≡◌, refl, sym, ap, ◌∙◌}
 use native.Mathlib.Omega.{arith}
 use lib.ListN.{length, length-append}
 use Rattle.machine.specs.Record.{fields}
-use Rattle.machine.specs.declared.Machine.{Machine}
 use Rattle.difference.specs.Differences.{Difference, fields_apart, runs, differences}
 use Rattle.difference.specs.Laws.{EmptyExactly, EachFieldOnce, EachAddressOnce, RunsRise, RunsMaximal, OtherWayRound, Ceiling}
 use Rattle.difference.proofs.EachAddress.{held-append, runs-rise, runs-few, runs-exchanged, runs-once, runs-maximal, equal-so, none_so, map-append}

@@ -1,6 +1,6 @@
 -- What holds of the differences of two machines, field by field and address by address.
 -- Assumes nothing.
-use Rattle.std.specs.Prelude.{ℕ, suc, ◌+◌, ◌*◌, ◌^◌, ◌≤◌, ◌<◌, cond, ◌&&◌, List, [], ◌∷◌, map, ◌≡◌, eqb, leb, length, get_or}
+use Rattle.std.specs.Prelude.{ℕ, suc, ◌+◌, ◌*◌, ◌≤◌, ◌<◌, cond, ◌&&◌, List, [], ◌∷◌, map, ◌≡◌, eqb, leb, length, get_or}
 use Rattle.std.proofs.lemmas.List.Edits.{sets}
 use Rattle.machine.specs.Machine.{MachineFits}
 use Rattle.machine.specs.Record.{Field, rank}

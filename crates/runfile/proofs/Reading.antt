@@ -2,11 +2,11 @@
 -- Assumes nothing.
 use Prim.Native.Nat.{ℕ, ◌+◌, ◌-◌, ◌≤◌, ◌<◌}
 use mathlib.Core.Path.{◌≡◌, refl, sym, ◌∙◌}
-use mathlib.Core.Bool.{Bool, true, false, cond, not, ◌&&◌}
+use mathlib.Core.Bool.{Bool, true, false, cond, ◌&&◌}
 use mathlib.Core.List.{List}
 use native.Mathlib.Decide.{dec_le}
 use native.Mathlib.Omega.{arith}
-use borrow.Author.Tests.{leb-true, leb-false, le-leb, lt-leb, not-true, not-false}
+use borrow.Author.Tests.{leb-true, leb-false, le-leb, lt-leb}
 use lib.Dec.{eqb, leb}
 use lib.ListN.{length, get_or, take, drop}
 use Rattle.runfile.specs.Format.{file_settings, Read, got, missing, and_then, room, word_in, two_bytes_at, default_flags, flagged_at, settings_at, settled, sections_of, span_at, piece_at, operation_at, operation_numbered, Piece}
@@ -22,11 +22,11 @@ by_difference a n s h = go (dec_le (a + n) s)
 
 -- what `has` tells
 module _ (file : List ℕ) (at n : ℕ) {b : Bool} (e : b ≡ room file at n) where
-  pub in-room : not b ≡ false → at + n ≤ length file
-  in-room h = leb-true (at + n) (length file) (sym e ∙ not-false b h)
+  pub in-room : b ≡ true → at + n ≤ length file
+  in-room h = leb-true (at + n) (length file) (sym e ∙ h)
 
-  pub no_room : not b ≡ true → length file < at + n
-  no_room h = leb-false (at + n) (length file) (sym e ∙ not-true b h)
+  pub no_room : b ≡ false → length file < at + n
+  no_room h = leb-false (at + n) (length file) (sym e ∙ h)
 
 pub one_byte : {at n : ℕ} → at < n → leb (at + 1) n ≡ true
 one_byte {at} {n} h = le-leb (at + 1) n (omega arith)

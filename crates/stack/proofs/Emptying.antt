@@ -1,6 +1,6 @@
 -- What is still to be pulled, register by register from the end of the order of pushing.
 -- Assumes nothing.
-use Rattle.std.proofs.Common.{◌≡◌, ℕ, zero, suc, ◌+◌, ◌-◌, ◌%◌, ◌<◌, true, false, cond, List, [], ◌∷◌, reverse, get_or, drop, sym, refl, ap, ◌∙◌, add-one, arith, drop-cons}
+use Rattle.std.proofs.Common.{◌≡◌, ℕ, zero, suc, ◌+◌, ◌-◌, ◌%◌, ◌<◌, true, false, cond, List, ◌∷◌, reverse, get_or, drop, sym, refl, ap, ◌∙◌, add-one, arith, drop-cons}
 use Rattle.u8oru16.specs.declared.u8u16.TheVariants.{u8, u16}
 use Rattle.registers.specs.ConditionCodes.{bit_at}
 use Rattle.registers.specs.Names.{register_size}

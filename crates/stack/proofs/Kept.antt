@@ -8,7 +8,6 @@ use Rattle.registers.specs.declared.CCBits.{CCBits}
 use Rattle.registers.specs.declared.Name.{Name}
 use Rattle.registers.specs.declared.Name.TheVariants.{A, B, D, X, Y, U as US, S as SP, PC, DP, CC}
 use Rattle.registers.specs.declared.Set.{Set}
-use Rattle.registers.specs.declared.Stack.{Stack}
 use Rattle.registers.specs.declared.Stack.TheVariants.{S, U}
 use Rattle.stack.specs.Pushing.{chosen}
 use Rattle.stack.specs.Pulling.{pulled_to, pulled_into, pulls, pulled}

@@ -12,7 +12,6 @@ use Rattle.registers.specs.declared.CCBit.TheVariants.{E}
 use Rattle.registers.specs.declared.Set.{Set}
 use Rattle.registers.specs.declared.Stack.{Stack}
 use Rattle.registers.specs.declared.Stack.TheVariants.{S}
-use Rattle.memory.specs.Writes.{listed}
 use Rattle.memory.specs.declared.writes.Writes.{Writes}
 use Rattle.memory.proofs.Folds.{listed_back}
 use Rattle.machine.specs.Effect.{stores, refuses}

@@ -4,4 +4,5 @@ use Rattle.addressing.specs.Address.{through_pointer}
 use Rattle.addressing.proofs.through_pointer.Goals as goal
 
 pub returns : goal.returns
+unfolding through_pointer
 returns c = rw (c.at_address.ensures, c.read_u16.ensures)

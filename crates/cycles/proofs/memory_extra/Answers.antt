@@ -9,7 +9,7 @@ returns-in-Rti c = rw (c.return_extra.ensures, c.in-Rti.is)
 pub returns-in-Push : goal.returns-in-Push
 returns-in-Push c =
     let x = c.args in
-    rw (c.bytes_of.ensures, c.read_u8.ensures) (stacks x.op x.mem.now x.regs x.ea c.in-Push.keys2)
+    rw (c.bytes_of.ensures, c.read_u8.ensures) (stacks x.op x.mem.now x.regs x.ea c.in-Push.in-Push-own.keys2)
 
 pub returns-in_default : goal.returns-in_default
-returns-in_default c = let x = c.args in no-pull x.op x.mem.now x.regs x.ea c.in_default.keys3
+returns-in_default c = let x = c.args in no-pull x.op x.mem.now x.regs x.ea c.in_default.in_default-own.keys3

@@ -7,4 +7,4 @@ pub returns-in-Indexed : goal.returns-in-Indexed
 returns-in-Indexed c = rw (c.form_extra.ensures, c.is_indirect.ensures, c.in-Indexed.is)
 
 pub returns-in_default : goal.returns-in_default
-returns-in_default c = no_index c.args.operand c.in_default.keys2
+returns-in_default c = no_index c.args.operand c.in_default.in_default-own.keys2

@@ -1,6 +1,5 @@
 -- Both lengths, then the room for the entries, which are counted; then they are written.
 -- Assumes nothing.
-use mathlib.Core.Path.{◌≡◌, refl, sym, ap, ◌∙◌}
 use native.Mathlib.Omega.{arith}
 use Rattle.machine.specs.Record.{fields}
 use Rattle.difference.proofs.EachAddress.{runs-few}

@@ -7,4 +7,4 @@ pub returns-in-Immediate : goal.returns-in-Immediate
 returns-in-Immediate c = rw c.in-Immediate.is
 
 pub returns-in_default : goal.returns-in_default
-returns-in_default c = no-immediate c.args.operand c.in_default.keys2
+returns-in_default c = no-immediate c.args.operand c.in_default.in_default-own.keys2

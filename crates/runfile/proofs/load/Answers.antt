@@ -1,6 +1,8 @@
 -- The length, then the first section; the other two are `load_after`'s.
 -- Assumes nothing.
 use mathlib.Core.Path.{refl}
+use Rattle.std.proofs.Common.{◌≢◌}
+use native.Mathlib.Omega.{arith}
 use borrow.Author.Tests.{le-leb, lt-leb, ne_eqb}
 use lib.ListN.{length}
 use Rattle.runfile.specs.Format.{parsed}
@@ -36,4 +38,6 @@ unfolding parsed
 returns-in_default c =
     let f = c.args.file.now in
     let n = c.word.result in
-    rw (le-leb (length f) 32768 c.if-file-gt-LONGEST.false, headed f (in-room f 0 4 c.has.ensures c.if-not-has.false), ← c.word.ensures, ne_eqb n 2 c.in_default.rest.0.1, ne_eqb n 3 c.in_default.rest.1) (refl, refl)
+    let m : n ≢ 2 = omega arith in
+    let o : n ≢ 3 = omega arith in
+    rw (le-leb (length f) 32768 c.if-file-gt-LONGEST.false, headed f (in-room f 0 4 c.has.ensures c.if-not-has.false), ← c.word.ensures, ne_eqb n 2 m, ne_eqb n 3 o) (refl, refl)

@@ -1,6 +1,7 @@
 -- A flag byte of 0 or 1.
 -- Assumes nothing.
 use mathlib.Core.Path.{refl}
+use Rattle.std.proofs.Common.{◌≢◌}
 use native.Mathlib.Omega.{arith}
 use borrow.Author.Tests.{lt-leb, ne_eqb}
 use lib.ListN.{length, get_or}
@@ -26,4 +27,6 @@ pub returns-in_default : goal.returns-in_default
 unfolding flag_at
 returns-in_default c =
     let b = get_or c.args.file.now 4 0 in
-    rw (one_byte c.if-file-le4.false, ne_eqb b 0 c.in_default.rest.0.1, ne_eqb b 1 c.in_default.rest.1) (refl, refl)
+    let m : b ≢ 0 = omega arith in
+    let o : b ≢ 1 = omega arith in
+    rw (one_byte c.if-file-le4.false, ne_eqb b 0 m, ne_eqb b 1 o) (refl, refl)

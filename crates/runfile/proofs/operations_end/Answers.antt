@@ -3,8 +3,7 @@
 use Prim.Native.Nat.{suc, ◌-◌}
 use mathlib.Core.Path.{◌≡◌, refl, sym, ◌∙◌}
 use native.Mathlib.Omega.{arith}
-use lib.ListN.{length}
-use Rattle.runfile.specs.Format.{operations_at, end_of}
+use Rattle.runfile.specs.Format.{operations_at}
 use Rattle.runfile.proofs.Sections.{no-operation, operation-end}
 use Rattle.runfile.proofs.operations_end.Goals as goal
 

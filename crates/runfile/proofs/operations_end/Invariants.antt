@@ -1,11 +1,8 @@
 -- The invariant: the operations that are left end where all end. The measure is their number.
 -- Assumes nothing.
-use Prim.Native.Nat.{suc, ◌-◌}
-use mathlib.Core.Path.{◌≡◌, refl, sym, ◌∙◌}
-use native.Mathlib.Omega.{arith}
+use mathlib.Core.Path.{◌≡◌}
 use lib.ListN.{length}
 use Rattle.runfile.specs.Format.{operations_at, end_of}
-use Rattle.runfile.proofs.Sections.{no-operation, operation-end}
 use Rattle.runfile.proofs.operations_end.Given as goal
 
 abbrev pub invariant-loop-left : goal.invariant-loop-left

@@ -3,8 +3,7 @@
 use Prim.Native.Nat.{suc, ◌-◌}
 use mathlib.Core.Path.{◌≡◌, refl, sym, ◌∙◌}
 use native.Mathlib.Omega.{arith}
-use lib.ListN.{length}
-use Rattle.runfile.specs.Format.{pieces_at, end_of}
+use Rattle.runfile.specs.Format.{pieces_at}
 use Rattle.runfile.proofs.Sections.{piece-end}
 use Rattle.runfile.proofs.pieces_end.Goals as goal
 

@@ -1,15 +1,10 @@
 -- The invariant: the pieces that are left stand in the file, and laid after those that were laid they give what all give. The measure is their number.
 -- Assumes nothing.
 -- one piece, whose end is `end`
-use Prim.Native.Nat.{ℕ, suc, ◌+◌, ◌-◌, ◌≤◌, ◌<◌}
-use mathlib.Core.Path.{◌≡◌, refl, sym, ap, ◌∙◌}
-use native.Mathlib.Omega.{arith}
-use mathlib.Core.List.{List}
-use lib.ListN.{length, take, drop}
-use lib.Seq.{sets, length-sets}
-use Rattle.runfile.specs.Format.{got, word_in, piece_at, pieces_at, end_of, laid_of}
-use Rattle.runfile.proofs.Reading.{this, size}
-use Rattle.runfile.proofs.Sections.{piece-end, piece-stands, piece-laid}
+use Prim.Native.Nat.{◌≤◌}
+use mathlib.Core.Path.{◌≡◌}
+use lib.ListN.{length}
+use Rattle.runfile.specs.Format.{pieces_at, end_of, laid_of}
 use Rattle.runfile.proofs.place.Given as goal
 
 abbrev pub invariant-loop-left : goal.invariant-loop-left

@@ -1,16 +1,12 @@
 -- The fields before the k-th that differ are counted, and those from it on are still to come.
 -- Assumes nothing.
-use Prim.Native.Nat.{ℕ, ◌+◌, ◌-◌, ◌≤◌}
-use mathlib.Core.Path.{◌≡◌, refl, sym, ap, ◌∙◌}
-use native.Mathlib.Omega.{arith}
-use mathlib.Core.Bool.{not}
-use lib.Dec.{eqb}
-use lib.ListN.{length, get_or, drop}
+use Prim.Native.Nat.{◌+◌, ◌-◌, ◌≤◌}
+use mathlib.Core.Path.{◌≡◌}
+use lib.ListN.{length, drop}
 use Rattle.machine.specs.Record.{fields}
 use Rattle.machine.specs.declared.Machine.{Machine}
 use Rattle.difference.specs.Differences.{fields_apart}
-use Rattle.difference.proofs.Turns.{values, one_at_most, count-field}
-use borrow.Author.Rules.{rules}
+use Rattle.difference.proofs.Turns.{values}
 use Rattle.difference.proofs.fields.count.Given as goal
 
 abbrev pub invariant-loop-k : goal.invariant-loop-k

@@ -1,16 +1,12 @@
 -- The entries of the fields before the k-th are written, and those from it on are still to come.
 -- Assumes nothing.
-use Prim.Native.Nat.{ℕ, ◌+◌, ◌-◌, ◌*◌, ◌≤◌}
-use mathlib.Core.Path.{◌≡◌, refl, sym, ap, ◌∙◌}
+use mathlib.Core.Path.{◌≡◌, refl, ap, ◌∙◌}
 use native.Mathlib.Omega.{arith}
 use lib.Dec.{eqb}
-use lib.ListN.{length, get_or, drop}
-use lib.Seq.{sets}
-use Rattle.machine.specs.Record.{fields}
-use Rattle.machine.specs.declared.Machine.{Machine}
+use lib.ListN.{length, get_or}
 use Rattle.difference.specs.Differences.{fields_apart}
-use Rattle.difference.specs.Compare.{entry_bytes, entry_size, laid_out}
-use Rattle.difference.proofs.Turns.{values, width-field, put-field, width-at-most, length-put}
+use Rattle.difference.specs.Compare.{entry_bytes, laid_out}
+use Rattle.difference.proofs.Turns.{width-field, put-field, width-at-most, length-put}
 use borrow.Author.Rules.{rules}
 use Rattle.difference.proofs.fields.put.Goals as goal
 

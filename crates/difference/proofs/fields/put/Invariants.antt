@@ -1,17 +1,14 @@
 -- The entries of the fields before the k-th are written, and those from it on are still to come.
 -- Assumes nothing.
-use Prim.Native.Nat.{ℕ, ◌+◌, ◌-◌, ◌*◌, ◌≤◌}
-use mathlib.Core.Path.{◌≡◌, refl, sym, ap, ◌∙◌}
-use native.Mathlib.Omega.{arith}
-use lib.Dec.{eqb}
-use lib.ListN.{length, get_or, drop}
+use Prim.Native.Nat.{◌+◌, ◌-◌, ◌*◌, ◌≤◌}
+use mathlib.Core.Path.{◌≡◌}
+use lib.ListN.{length, drop}
 use lib.Seq.{sets}
 use Rattle.machine.specs.Record.{fields}
 use Rattle.machine.specs.declared.Machine.{Machine}
 use Rattle.difference.specs.Differences.{fields_apart}
-use Rattle.difference.specs.Compare.{entry_bytes, entry_size, laid_out}
-use Rattle.difference.proofs.Turns.{values, width-field, put-field, width-at-most, length-put}
-use borrow.Author.Rules.{rules}
+use Rattle.difference.specs.Compare.{entry_size, laid_out}
+use Rattle.difference.proofs.Turns.{values}
 use Rattle.difference.proofs.fields.put.Given as goal
 
 abbrev pub invariant-loop-k : goal.invariant-loop-k

@@ -1,7 +1,7 @@
 -- Nothing where the values are equal, an entry where they are not.
 -- Assumes nothing.
 use borrow.Author.Tests.{eq-eqb, ne_eqb}
-use mathlib.Core.Path.{◌≡◌, refl, sym, ap, ◌∙◌}
+use mathlib.Core.Path.{refl}
 use native.Mathlib.Omega.{arith}
 use Rattle.difference.proofs.fields.put_one.Goals as goal
 

@@ -1,14 +1,13 @@
 -- The runs that ended before i are counted, and those that end from i on are still to come.
 -- Assumes nothing.
-use Prim.Native.Nat.{ℕ, ◌+◌, ◌-◌, ◌≤◌}
-use mathlib.Core.Path.{◌≡◌, refl, sym, ap, ◌∙◌}
-use mathlib.Core.Logic.{⊎_elim}
+use Prim.Native.Nat.{◌-◌}
+use mathlib.Core.Path.{◌≡◌, ◌∙◌}
 use native.Mathlib.Omega.{arith}
 use lib.Dec.{ltb}
-use lib.ListN.{length}
 use Rattle.difference.specs.Differences.{runs_from, runs}
 use Rattle.difference.proofs.Turns.{one_at_most, up-byte, count-equal, apart-on}
 use Rattle.difference.proofs.runs.count.Goals as goal
+use Rattle.difference.proofs.runs.count.Goals.{then-a-i, else-a-i}
 
 pub loop-i-init : goal.loop-i-init
 unfolding runs
@@ -22,15 +21,6 @@ overflow_add-n c =
     let l = c.loop-i in
     record { fits = omega (arith, one_at_most (ltb l.first l.i)) }
 
-pub loop-i-preserved : goal.loop-i-preserved
-loop-i-preserved c =
-    let l = c.loop-i in
-    let a = c.args in
-    ⊎_elim
-    (λ v. (omega arith, (omega (arith, v.1, one_at_most (ltb l.first l.i)), rw (v.1, v.2) (count-equal a.a.now a.b.now l.first l.i (omega arith) v.0.taken l.n ∙ l.invariant.1.1))))
-    (λ v. (omega arith, (omega (arith, v.1), rw (v.1, v.2, apart-on a.a.now a.b.now l.first l.i (omega arith) v.0.left) l.invariant.1.1)))
-    c.if-a-i.branch
-
 pub overflow_cast-result : goal.overflow_cast-result
 overflow_cast-result c = tt
 
@@ -43,3 +33,12 @@ returns c =
     let l = c.loop-i in
     let z : 65536 - l.i ≡ 0 = omega arith in
     omega (arith, rw z at l.invariant.1.1, up-byte l.first l.i)
+
+pub loop-i-preserved : goal.loop-i-preserved
+loop-i-preserved c =
+    let l = c.loop-i in
+    let a = c.args in
+    elim c.if-a-i.branch [
+      | then-a-i w ↦ (omega arith, (omega (arith, w.n-is, one_at_most (ltb l.first l.i)), rw (w.n-is, w.first-is) (count-equal a.a.now a.b.now l.first l.i (omega arith) w.if-a-i.true l.n ∙ l.invariant.1.1)))
+      | else-a-i w ↦ (omega arith, (omega (arith, w.n-is), rw (w.n-is, w.first-is, apart-on a.a.now a.b.now l.first l.i (omega arith) w.if-a-i.false) l.invariant.1.1))
+    ]

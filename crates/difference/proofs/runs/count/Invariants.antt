@@ -1,13 +1,9 @@
 -- The runs that ended before i are counted, and those that end from i on are still to come.
 -- Assumes nothing.
-use Prim.Native.Nat.{ℕ, ◌+◌, ◌-◌, ◌≤◌}
-use mathlib.Core.Path.{◌≡◌, refl, sym, ap, ◌∙◌}
-use mathlib.Core.Logic.{⊎_elim}
-use native.Mathlib.Omega.{arith}
-use lib.Dec.{ltb}
+use Prim.Native.Nat.{◌+◌, ◌-◌, ◌≤◌}
+use mathlib.Core.Path.{◌≡◌}
 use lib.ListN.{length}
 use Rattle.difference.specs.Differences.{runs_from, runs}
-use Rattle.difference.proofs.Turns.{one_at_most, up-byte, count-equal, apart-on}
 use Rattle.difference.proofs.runs.count.Given as goal
 
 abbrev pub invariant-loop-i : goal.invariant-loop-i

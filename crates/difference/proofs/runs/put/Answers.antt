@@ -1,16 +1,16 @@
 -- The entries of the runs that ended before i are written, and those that end from i on are still to come.
 -- Assumes nothing.
-use Prim.Native.Nat.{ℕ, ◌+◌, ◌-◌, ◌*◌, ◌≤◌}
-use mathlib.Core.Path.{◌≡◌, refl, sym, ap, ◌∙◌}
-use mathlib.Core.Logic.{⊎_elim}
+use Prim.Native.Nat.{◌-◌}
+use mathlib.Core.Path.{◌≡◌, refl, ap, ◌∙◌}
 use native.Mathlib.Omega.{arith}
 use lib.Dec.{ltb}
 use lib.ListN.{length}
-use lib.Seq.{sets, length-sets}
+use lib.Seq.{length-sets}
 use Rattle.difference.specs.Differences.{run_up_to, runs_from, runs}
-use Rattle.difference.specs.Compare.{entry_size, laid_out}
+use Rattle.difference.specs.Compare.{laid_out}
 use Rattle.difference.proofs.Turns.{one_at_most, up-byte, put-equal, apart-on}
 use Rattle.difference.proofs.runs.put.Goals as goal
+use Rattle.difference.proofs.runs.put.Goals.{then-a-i, else-a-i}
 
 pub loop-i-init : goal.loop-i-init
 unfolding runs
@@ -18,26 +18,6 @@ loop-i-init c = (omega arith, (omega arith, (refl, refl)))
 
 pub put_one-at-requires : goal.put_one-at-requires
 put_one-at-requires c = omega arith
-
-pub loop-i-preserved : goal.loop-i-preserved
-loop-i-preserved c =
-    let l = c.loop-i in
-    let a = c.args in
-    ⊎_elim
-    (λ v.
-    let list = v.5 ∙ v.2.ensures.1 in
-    let at = v.6 ∙ v.2.ensures.0 in (
-      omega arith,
-      (
-        omega (arith, at, up-byte l.first l.i, one_at_most (ltb l.first l.i)),
-        (
-          ap length list ∙ length-sets l.list l.at (laid_out (run_up_to l.first l.i)) ∙ l.invariant.1.1.0,
-          rw (list, at, v.7) (put-equal a.a.now a.b.now l.first l.i (omega arith) v.0.taken l.at l.list ∙ l.invariant.1.1.1),
-        ),
-      ),
-    ))
-    (λ v. (omega arith, (omega (arith, v.2), (ap length v.1 ∙ l.invariant.1.1.0, rw (v.1, v.2, v.3, apart-on a.a.now a.b.now l.first l.i (omega arith) v.0.left) l.invariant.1.1.1))))
-    c.if-a-i.branch
 
 pub put_one-requires : goal.put_one-requires
 put_one-requires c = omega arith
@@ -51,3 +31,24 @@ returns c =
     let l = c.loop-i in
     let z : 65536 - l.i ≡ 0 = omega arith in
     c.put_one.ensures.1 ∙ rw z at l.invariant.1.1.1
+
+pub loop-i-preserved : goal.loop-i-preserved
+loop-i-preserved c =
+    let l = c.loop-i in
+    let a = c.args in
+    elim c.if-a-i.branch [
+      | then-a-i w ↦
+          (let list = w.list-is ∙ w.put_one-at.ensures.1 in
+          let at = w.at-is ∙ w.put_one-at.ensures.0 in (
+            omega arith,
+            (
+              omega (arith, at, up-byte l.first l.i, one_at_most (ltb l.first l.i)),
+              (
+                ap length list ∙ length-sets l.list l.at (laid_out (run_up_to l.first l.i)) ∙ l.invariant.1.1.0,
+                rw (list, at, w.first-is) (put-equal a.a.now a.b.now l.first l.i (omega arith) w.if-a-i.true l.at l.list ∙ l.invariant.1.1.1),
+              ),
+            ),
+          ))
+      | else-a-i w ↦
+          (omega arith, (omega (arith, w.at-is), (ap length w.list-is ∙ l.invariant.1.1.0, rw (w.list-is, w.at-is, w.first-is, apart-on a.a.now a.b.now l.first l.i (omega arith) w.if-a-i.false) l.invariant.1.1.1)))
+    ]

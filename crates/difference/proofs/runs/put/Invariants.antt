@@ -1,15 +1,11 @@
 -- The entries of the runs that ended before i are written, and those that end from i on are still to come.
 -- Assumes nothing.
-use Prim.Native.Nat.{ℕ, ◌+◌, ◌-◌, ◌*◌, ◌≤◌}
-use mathlib.Core.Path.{◌≡◌, refl, sym, ap, ◌∙◌}
-use mathlib.Core.Logic.{⊎_elim}
-use native.Mathlib.Omega.{arith}
-use lib.Dec.{ltb}
+use Prim.Native.Nat.{◌+◌, ◌-◌, ◌*◌, ◌≤◌}
+use mathlib.Core.Path.{◌≡◌}
 use lib.ListN.{length}
-use lib.Seq.{sets, length-sets}
-use Rattle.difference.specs.Differences.{run_up_to, runs_from, runs}
+use lib.Seq.{sets}
+use Rattle.difference.specs.Differences.{runs_from, runs}
 use Rattle.difference.specs.Compare.{entry_size, laid_out}
-use Rattle.difference.proofs.Turns.{one_at_most, up-byte, put-equal, apart-on}
 use Rattle.difference.proofs.runs.put.Given as goal
 
 abbrev pub invariant-loop-i : goal.invariant-loop-i

@@ -13,4 +13,4 @@ returns-in-Immediate16 c = rw (c.with_word.ensures, c.read_u16.ensures, c.with_b
 pub returns-in_default : goal.returns-in_default
 returns-in_default c =
     let a = c.args in
-    rw c.empty-in_default.ensures (not-immediate a.mode a.op a.mem.now a.at c.in_default.keys3)
+    rw c.empty-in_default.ensures (not-immediate a.mode a.op a.mem.now a.at c.in_default.in_default-own.keys3)

@@ -4,7 +4,7 @@ use Rattle.disassembly.proofs.Arms.{two-named, none_named}
 use Rattle.disassembly.proofs.operands.names_two.Goals as goal
 
 pub returns-in-Exg : goal.returns-in-Exg
-returns-in-Exg c = two-named c.args.op c.in-Exg.keys1
+returns-in-Exg c = two-named c.args.op c.in-Exg.in-Exg-own.keys1
 
 pub returns-in_default : goal.returns-in_default
-returns-in_default c = none_named c.args.op c.in_default.keys2
+returns-in_default c = none_named c.args.op c.in_default.in_default-own.keys2

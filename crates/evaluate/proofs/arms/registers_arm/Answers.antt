@@ -1,6 +1,5 @@
--- LD and LEA by the register that they name, EXG and TFR by their post-byte; no other operation arms.
+-- LD and LEA by the register that they name, EXG and TFR by their post-byte.
 -- Assumes nothing.
-use Rattle.evaluate.proofs.Arming.{no-load}
 use Rattle.evaluate.proofs.arms.registers_arm.Goals as goal
 
 pub returns-in-Load16 : goal.returns-in-Load16
@@ -14,6 +13,3 @@ returns-in-Exg c = rw (c.exchange_arms.ensures, c.read_u8.ensures, c.in-Exg.is)
 
 pub returns-in-Tfr : goal.returns-in-Tfr
 returns-in-Tfr c = rw (c.transfer_arms.ensures, c.read_u8-in-Tfr.ensures, c.in-Tfr.is)
-
-pub returns-in_default : goal.returns-in_default
-returns-in_default c = let x = c.args in no-load x.op _ c.in_default.keys5

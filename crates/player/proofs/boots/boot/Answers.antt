@@ -23,5 +23,5 @@ returns-in-1 c =
 
 pub returns-in_default : goal.returns-in_default
 returns-in_default c =
-    let r = c.in_default.rest in
+    let r = c.in_default.in_default-own.rest in
     rw (other-flags c.args.input.now c.if-input-lt-HEAD.false c.if-input-gt-LONGEST.false r.0.1 r.1) c.put_refusal-in_default.ensures

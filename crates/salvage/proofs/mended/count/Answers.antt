@@ -7,10 +7,11 @@ use lib.ListN.{length}
 use Rattle.salvage.proofs.Walk.{Turned, turned}
 use Rattle.salvage.proofs.Tallies.{Counted, at_first, keeps, drops, at_last}
 use Rattle.salvage.proofs.mended.count.Goals as goal
+use Rattle.salvage.proofs.mended.count.Goals.{After-next-turned}
 
 -- the turn at hand
-here : (c : tie.After-next invariant-loop decreases-loop) → Turned c.before.before.before.before.before.before.args.file.now c.before.before.before.loop.at c.next.result
-here c = turned _ _ _ c.before.if1.true c.next.ensures
+here : (c : After-next-turned) → Turned c.args.file.now c.loop-at.at c.next-turned.result
+here c = turned _ _ _ c.loop-at-test.true c.next-turned.ensures
 
 pub loop-at-init : goal.loop-at-init
 loop-at-init c = at_first _ _ c.first-at.ensures
@@ -19,25 +20,25 @@ pub next-turned-requires : goal.next-turned-requires
 next-turned-requires c = (c.loop-at-test.true, c.loop-at.invariant.few)
 
 pub overflow_sub-bytes : goal.overflow_sub-bytes
-overflow_sub-bytes c = let w = here c in omega (arith, w.on)
+overflow_sub-bytes c = let w = here (goal.at.overflow_sub-bytes c).After-next-turned in omega (arith, w.on)
 
 pub overflow_add-bytes : goal.overflow_add-bytes
-overflow_add-bytes c = let w = here c in let k = c.loop-at.invariant in omega (arith, w.on, w.fits, k.less)
+overflow_add-bytes c = let w = here (goal.at.overflow_add-bytes c).After-next-turned in let k = c.loop-at.invariant in omega (arith, w.on, w.fits, k.less)
 
 pub overflow_add-numbers : goal.overflow_add-numbers
-overflow_add-numbers c = let w = here c in let k = c.loop-at.invariant in omega (arith, w.on, w.fits, k.few, k.fewer)
+overflow_add-numbers c = let w = here (goal.at.overflow_add-numbers c).After-next-turned in let k = c.loop-at.invariant in omega (arith, w.on, w.fits, k.few, k.fewer)
 
 pub loop-at-smaller-in-Keep : goal.loop-at-smaller-in-Keep
-loop-at-smaller-in-Keep c = let w = here c in omega (arith, w.on, w.fits)
+loop-at-smaller-in-Keep c = let w = here (goal.at.loop-at-smaller-in-Keep c).After-next-turned in omega (arith, w.on, w.fits)
 
 pub loop-at-preserved-in-Keep : goal.loop-at-preserved-in-Keep
-loop-at-preserved-in-Keep c = keeps _ _ _ _ _ (here c) c.loop-at.invariant c.in-Keep.is
+loop-at-preserved-in-Keep c = keeps _ _ _ _ _ (here (goal.at.loop-at-preserved-in-Keep c).After-next-turned) c.loop-at.invariant c.in-Keep.is
 
 pub loop-at-smaller : goal.loop-at-smaller
-loop-at-smaller c = let w = here c in omega (arith, w.on, w.fits)
+loop-at-smaller c = let w = here (goal.at.loop-at-smaller c).After-next-turned in omega (arith, w.on, w.fits)
 
 pub loop-at-preserved : goal.loop-at-preserved
-loop-at-preserved c = drops _ _ _ _ _ (here c) c.loop-at.invariant _ c.in-Drop.is
+loop-at-preserved c = drops _ _ _ _ _ (here (goal.at.loop-at-preserved c).After-next-turned) c.loop-at.invariant _ c.in-Drop.is
 
 pub returns : goal.returns
 returns c = at_last _ _ _ _ c.loop-at.invariant c.loop-at-test.false

@@ -1,6 +1,5 @@
 -- Its four parts, one after the other.
 -- Assumes nothing.
--- a number has at most twenty digits
 use Prim.Native.Nat.{◌≤◌}
 use mathlib.Core.Path.{◌≡◌, sym, ap, ◌∙◌}
 use native.Mathlib.Omega.{arith}
@@ -9,9 +8,6 @@ use Rattle.answers.specs.Numbers.{number_of}
 use Rattle.text.proofs.Decimals.{at-most-twenty}
 use Rattle.salvage.proofs.Telling.{said-decimal, said-alone, alone-short, dropped-put}
 use Rattle.salvage.proofs.printed.put_dropped.Goals as goal
-
-few : (c : tie.After-put2) → c.put2.result ≤ 20
-few c = omega (arith, c.put2.ensures.0, ap length (said-decimal _ _ c.before.before.decimal.ensures), at-most-twenty c.before.before.before.before.before.before.before.before.before.args.number)
 
 pub returns : goal.returns
 returns c =

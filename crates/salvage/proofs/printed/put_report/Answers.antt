@@ -8,10 +8,11 @@ use lib.ListN.{length}
 use Rattle.salvage.proofs.Walk.{Turned, turned}
 use Rattle.salvage.proofs.Telling.{line-fits, added-short, Told, at_first, keeps, drops, at_last}
 use Rattle.salvage.proofs.printed.put_report.Goals as goal
+use Rattle.salvage.proofs.printed.put_report.Goals.{After-next-turned}
 
 -- the turn at hand
-here : (c : tie.After-next invariant-loop decreases-loop) → Turned c.before.before.before.before.before.before.before.args.file.now c.before.before.before.loop.at c.next.result
-here c = turned _ _ _ c.before.if1.true c.next.ensures
+here : (c : After-next-turned) → Turned c.args.file.now c.loop-at.at c.next-turned.result
+here c = turned _ _ _ c.loop-at-test.true c.next-turned.ensures
 
 pub loop-at-init : goal.loop-at-init
 loop-at-init c = at_first _ _ _ c.first-at.ensures
@@ -28,18 +29,18 @@ overflow_add-used c =
     omega (arith, k.within, k.few, k.small, c.requires, c.put_dropped-used.ensures.0, line-fits _ _ _ c.put_dropped-used.ensures.0)
 
 pub loop-at-smaller-in-Keep : goal.loop-at-smaller-in-Keep
-loop-at-smaller-in-Keep c = let w = here c in omega (arith, w.on, w.fits)
+loop-at-smaller-in-Keep c = let w = here (goal.at.loop-at-smaller-in-Keep c).After-next-turned in omega (arith, w.on, w.fits)
 
 pub loop-at-preserved-in-Keep : goal.loop-at-preserved-in-Keep
-loop-at-preserved-in-Keep c = keeps _ _ _ _ _ _ (here c) c.loop-at.invariant c.in-Keep.is
+loop-at-preserved-in-Keep c = keeps _ _ _ _ _ _ (here (goal.at.loop-at-preserved-in-Keep c).After-next-turned) c.loop-at.invariant c.in-Keep.is
 
 pub loop-at-smaller : goal.loop-at-smaller
-loop-at-smaller c = let w = here c in omega (arith, w.on, w.fits)
+loop-at-smaller c = let w = here (goal.at.loop-at-smaller c).After-next-turned in omega (arith, w.on, w.fits)
 
 pub loop-at-preserved : goal.loop-at-preserved
 loop-at-preserved c =
     let p = c.put_dropped-used.ensures in
-    drops _ _ _ _ _ _ (here c) c.loop-at.invariant _ _ _ c.in-Drop.is p.0 p.1
+    drops _ _ _ _ _ _ (here (goal.at.loop-at-preserved c).After-next-turned) c.loop-at.invariant _ _ _ c.in-Drop.is p.0 p.1
 
 pub overflow_add-result : goal.overflow_add-result
 overflow_add-result c =

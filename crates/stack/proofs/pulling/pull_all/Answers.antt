@@ -1,8 +1,8 @@
 -- `pull_all`: what is still to be pulled gives, at every turn of the loops, what the whole pull gives.
 -- Assumes nothing.
-use Rattle.std.proofs.Common.{◌≡◌, ◌-◌, ◌≤◌, sym, refl, ◌∙◌, arith}
+use Rattle.std.proofs.Common.{◌≡◌, sym, refl, ◌∙◌, arith}
 use Rattle.stack.specs.Pulling.{pulled_to}
-use Rattle.stack.proofs.Emptying.{from, all-pulled, turn-off, turn_byte, turn-word}
+use Rattle.stack.proofs.Emptying.{all-pulled, turn-off, turn_byte, turn-word}
 use Rattle.stack.proofs.pulling.pull_all.Goals as goal
 use Rattle.stack.proofs.pulling.pull_all.Goals.{then-bit, else-bit, then-bit-2, else-bit-2}
 
@@ -17,8 +17,8 @@ loop-k-preserved c =
     let b = c.bit.ensures in (
       omega arith,
       elim c.if-bit.branch [
-        then-bit w ↦ turn_byte a.mem.now a.stack a.mask l.k (omega arith) l.regs l.at (sym b ∙ w.if-bit.true) t w.read_u8.result c.if-bit.regs c.if-bit.at w.read_u8.ensures (w.regs-is ∙ w.with_byte-regs.ensures) (w.at-is ∙ w.wrapping_add_u16-at.ensures.value)
-      | else-bit w ↦ rw (w.regs-is, w.at-is) (turn-off a.mem.now a.stack a.mask l.k (omega arith) (sym b ∙ w.if-bit.false) (pulled_to l.regs l.at))
+        | then-bit w ↦ turn_byte a.mem.now a.stack a.mask l.k (omega arith) l.regs l.at (sym b ∙ w.if-bit.true) t w.read_u8.result c.if-bit.regs c.if-bit.at w.read_u8.ensures (w.regs-is ∙ w.with_byte-regs.ensures) (w.at-is ∙ w.wrapping_add_u16-at.ensures.value)
+        | else-bit w ↦ rw (w.regs-is, w.at-is) (turn-off a.mem.now a.stack a.mask l.k (omega arith) (sym b ∙ w.if-bit.false) (pulled_to l.regs l.at))
       ] ∙ l.invariant.1,
     )
 
@@ -37,8 +37,8 @@ loop-k-2-preserved c =
     let b = c.bit-in-loop-k-2.ensures in (
       (omega arith, omega arith),
       elim c.if-bit-2.branch [
-        then-bit-2 w ↦ turn-word a.mem.now a.stack a.mask l.k (omega arith) l.regs l.at (sym b ∙ w.if-bit-2.true) (omega arith) w.read_u16.result c.if-bit-2.regs c.if-bit-2.at w.read_u16.ensures (w.regs-is ∙ w.with_word-regs.ensures) (w.at-is ∙ w.wrapping_add_u16-at-then-bit-2.ensures.value)
-      | else-bit-2 w ↦ rw (w.regs-is, w.at-is) (turn-off a.mem.now a.stack a.mask l.k (omega arith) (sym b ∙ w.if-bit-2.false) (pulled_to l.regs l.at))
+        | then-bit-2 w ↦ turn-word a.mem.now a.stack a.mask l.k (omega arith) l.regs l.at (sym b ∙ w.if-bit-2.true) (omega arith) w.read_u16.result c.if-bit-2.regs c.if-bit-2.at w.read_u16.ensures (w.regs-is ∙ w.with_word-regs.ensures) (w.at-is ∙ w.wrapping_add_u16-at-then-bit-2.ensures.value)
+        | else-bit-2 w ↦ rw (w.regs-is, w.at-is) (turn-off a.mem.now a.stack a.mask l.k (omega arith) (sym b ∙ w.if-bit-2.false) (pulled_to l.regs l.at))
       ] ∙ l.invariant.1,
     )
 

@@ -1,9 +1,9 @@
 -- `push_all` fills the list as `pushes` lists it: the invariant says so of the registers that the loops have passed.
 -- Assumes nothing.
-use Rattle.std.proofs.Common.{◌≡◌, ◌+◌, ◌-◌, ◌*◌, ◌≤◌, length, sym, ap, ◌∙◌, arith, length-set, rules}
+use Rattle.std.proofs.Common.{◌≡◌, ◌-◌, length, sym, ap, ◌∙◌, arith, length-set, rules}
 use Rattle.memory.specs.Writes.{twelve}
 use Rattle.memory.specs.declared.writes.Writes.{Writes}
-use Rattle.stack.proofs.Filling.{Filled, empty, turn-off, word_room, byte-room, turn-word, turn_byte, all-filled}
+use Rattle.stack.proofs.Filling.{empty, turn-off, word_room, byte-room, turn-word, turn_byte, all-filled}
 use Rattle.stack.proofs.pushing.push_all.Goals as goal
 
 pub loop-k-init : goal.loop-k-init

@@ -12,6 +12,6 @@ returns-in-17 c = rw (c.after_prefix-in-17.ensures, ← c.read_u8-code.ensures, 
 
 pub returns-in_default : goal.returns-in_default
 returns-in_default c =
-    let r = c.in_default.rest in
+    let r = c.in_default.in_default-own.rest in
     let x = c.read_u8-code.result in
     rw (c.on_page.ensures, ← c.read_u8-code.ensures, ne_eqb x 0x10 r.0.1, ne_eqb x 0x11 r.1)

@@ -8,4 +8,4 @@ pub returns : goal.returns
 returns c =
     let x = c.args in
     let s = c.signed in
-    rw (c.put-2.ensures, back s.result (omega (arith, s.ensures.1, c.requires.0.most)), s.ensures.0, negative x.half x.value c.requires.1, c.put.ensures)
+    rw (c.put-2.ensures, back s.result (omega (arith, s.ensures.result_bound, c.requires.0.most)), s.ensures.value, negative x.half x.value c.requires.1, c.put.ensures)

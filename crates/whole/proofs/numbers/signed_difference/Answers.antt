@@ -11,4 +11,6 @@ pub overflow_sub-result-2 : goal.overflow_sub-result-2
 overflow_sub-result-2 c = three-fit neg_ℤ mag-neg c.args.half c.args.c c.signed.result c.signed-2.result c.requires.width.most c.signed.ensures.result_bound c.signed-2.ensures.result_bound c.requires.carry
 
 pub returns : goal.returns
-returns c = rw (← c.signed.ensures.value, ← c.signed-2.ensures.value) (three_back neg_ℤ mag-neg c.args.half c.args.c c.signed.result c.signed-2.result c.requires.width.most c.signed.ensures.result_bound c.signed-2.ensures.result_bound c.requires.carry)
+returns c =
+    let h = three_back neg_ℤ mag-neg c.args.half c.args.c c.signed.result c.signed-2.result c.requires.width.most c.signed.ensures.result_bound c.signed-2.ensures.result_bound c.requires.carry in
+    rw (← c.signed.ensures.value, ← c.signed-2.ensures.value) (record { value = h.0; result_bound = h.1 })
