@@ -1,5 +1,6 @@
 -- Two prefixes, and every other byte is an opcode of the plain page.
 -- Assumes nothing.
+use borrow.Author.Rules.{rules}
 use Rattle.std.proofs.Common.{ne_eqb}
 use Rattle.decode.specs.Decode.{located}
 use Rattle.decode.proofs.instruction.locate.Goals as goal
@@ -14,4 +15,4 @@ returns-in-17 c = rw (c.second_byte-in-17.ensures, ← c.read_u8-code.ensures, c
 
 pub returns-in_default : goal.returns-in_default
 unfolding located
-returns-in_default c = let r = c.in_default.in_default-own.rest in rw (← c.read_u8-code.ensures, ne_eqb c.read_u8-code.result 0x10 r.0.1, ne_eqb c.read_u8-code.result 0x11 r.1)
+returns-in_default c = rw (← c.read_u8-code.ensures, ne_eqb c.read_u8-code.result 0x10 (search rules), ne_eqb c.read_u8-code.result 0x11 (search rules))

@@ -1,5 +1,6 @@
 -- An arm for each form with an offset, and one for the eight that have none.
 -- Assumes nothing.
+use borrow.Author.Rules.{rules}
 use Rattle.decode.specs.Operand.{with_form}
 use Rattle.decode.specs.declared.postbyte.Form.TheVariants.{Offset8, Offset16, Program8, Program16, Address}
 use Rattle.decode.proofs.Forms.{one_byte, two_bytes, no_byte}
@@ -48,4 +49,4 @@ pub returns-in-Increment1 : goal.returns-in-Increment1
 unfolding with_form
 returns-in-Increment1 c =
     let x = c.args in
-    rw c.indexed_by-in-Increment1.ensures (no_byte x.mem.now x.post x.at x.form c.in-Increment1.in-Increment1-own.keys7)
+    rw c.indexed_by-in-Increment1.ensures (no_byte x.mem.now x.post x.at x.form (search rules))

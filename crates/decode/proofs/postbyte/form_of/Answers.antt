@@ -60,8 +60,8 @@ returns-in-143 c = rw (c.only_as_9f.ensures, c.in-143.is)
 
 pub returns-in-0-to-15 : goal.returns-in-0-to-15
 unfolding form_of
-returns-in-0-to-15 c = rw (lt-ltb (bit_and c.args.post 0x8F) 0x80 (omega (arith, c.if-low-lt16.true)))
+returns-in-0-to-15 c = rw (lt-ltb (bit_and c.args.post 0x8F) 0x80 (omega arith))
 
 pub returns-in_default : goal.returns-in_default
 unfolding form_of
-returns-in_default c = let x = c.args.post in no-form x (low-form x (search rules) (omega arith)) c.in_default-1.rest
+returns-in_default c = let x = c.args.post in no-form x (low-form x (search rules) (omega arith)) (search rules)

@@ -20,4 +20,4 @@ returns-in-2 c = rw (← (field c.args.post (search rules)), c.in-2.is)
 
 pub returns-in_default : goal.returns-in_default
 unfolding index_of
-returns-in_default c = let r = c.in_default.in_default-own.rest in let f = bit_and c.args.post 0x60 / 32 in rw (← (field c.args.post (search rules)), ne_eqb f 0 r.0.0.1, ne_eqb f 1 r.0.1, ne_eqb f 2 r.1)
+returns-in_default c = let f = bit_and c.args.post 0x60 / 32 in rw (← (field c.args.post (search rules)), ne_eqb f 0 (search rules), ne_eqb f 1 (search rules), ne_eqb f 2 (search rules))

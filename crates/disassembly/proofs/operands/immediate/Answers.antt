@@ -2,6 +2,7 @@
 -- Assumes nothing.
 use Rattle.text.proofs.Texts.{grown-grown, text-grows}
 use Rattle.disassembly.proofs.Arms.{not-immediate}
+use borrow.Author.Rules.{rules}
 use Rattle.disassembly.proofs.operands.immediate.Goals as goal
 
 pub returns-in-Immediate8 : goal.returns-in-Immediate8
@@ -13,4 +14,4 @@ returns-in-Immediate16 c = rw (c.with_word.ensures, c.read_u16.ensures, c.with_b
 pub returns-in_default : goal.returns-in_default
 returns-in_default c =
     let a = c.args in
-    rw c.empty-in_default.ensures (not-immediate a.mode a.op a.mem.now a.at c.in_default.in_default-own.keys3)
+    rw c.empty-in_default.ensures (not-immediate a.mode a.op a.mem.now a.at (search rules))
