@@ -1,8 +1,8 @@
 -- Every text fits its buffer.
 -- Assumes nothing.
-use Prim.Native.Nat.{ℕ, ◌+◌, ◌*◌, ◌≤◌}
+use Prim.Native.Nat.{ℕ, ◌*◌, ◌≤◌}
 use mathlib.Core.Bool.{Bool, true, false, cond, ◌&&◌}
-use mathlib.Core.List.{List, [], ◌∷◌, ◌++◌}
+use mathlib.Core.List.{List, [], ◌∷◌}
 use mathlib.Core.Path.{◌≡◌, sym}
 use native.Mathlib.Omega.{arith}
 use lib.ListN.{length, length-append, replicate, length-replicate}
@@ -15,7 +15,7 @@ use Rattle.difference.specs.Differences.{Difference}
 use Rattle.difference.specs.Compare.{as_entry}
 use Rattle.difference.proofs.Whole.{ceiling}
 use Rattle.dump.specs.Dumps.{is_dump, memory_in}
-use Rattle.dump.specs.Told.{left_dump, right_dump, dump_differences, entry_line, told_lines, differences_told, ToldFits}
+use Rattle.dump.specs.Told.{left_dump, right_dump, dump_differences, told_lines, differences_told, ToldFits}
 use Rattle.dump.proofs.Parts.{line-short}
 
 lines_fit : (ds : List Difference) → length (told_lines ds) ≤ 48 * length ds

@@ -1,25 +1,24 @@
 -- A dump is written in four parts, judged by its length, wait state and mark, and reads back.
 -- Assumes nothing.
 use Prim.Native.Nat.{ℕ, suc, ◌+◌, ◌-◌, ◌*◌, ◌/◌, ◌%◌, ◌^◌, ◌≤◌, ◌<◌}
-use mathlib.Core.Bool.{Bool, true, false, cond, ◌&&◌}
-use mathlib.Core.List.{List, [], ◌∷◌, ◌++◌, append-nil, append_assoc}
-use mathlib.Core.Path.{◌≡◌, refl, sym, ap, ◌∙◌}
-use native.Mathlib.Nat.{zero-add}
+use mathlib.Core.Bool.{Bool, true, false, ◌&&◌}
+use mathlib.Core.List.{List, ◌++◌, append-nil}
+use mathlib.Core.Path.{◌≡◌, refl, sym, ◌∙◌}
 use native.Mathlib.Omega.{arith}
-use lib.Dec.{eqb, ltb}
+use lib.Dec.{ltb}
 use lib.ListN.{length, get_or, take, drop, length-append, length-drop, drop_of_length-le}
 use lib.Seq.{sets, sets-eq, take_all, drop_at}
-use borrow.Author.Tests.{eq-eqb, ne_eqb, lt-ltb, le-ltb, eqb-true, ltb-true}
+use borrow.Author.Tests.{eq-eqb, ne_eqb, lt-ltb, le-ltb, eqb-true}
 use Rattle.answers.specs.declared.Answer.TheVariants.{Done}
 use Rattle.answers.specs.declared.Refusal.TheVariants.{MemoryLength, Malformed, OutputShort}
 use Rattle.text.proofs.Stores.{sets-append}
 use Rattle.memory.specs.Fits.{Bytes}
 use Rattle.machine.specs.Machine.{MachineFits}
-use Rattle.machine.specs.Record.{Waiting, Armed, wait_byte, mark_byte, bytes, number_at, header, front, counter, header_length, held, machine_of}
+use Rattle.machine.specs.Record.{wait_byte, mark_byte, bytes, number_at, header, front, counter, header_length, machine_of}
 use Rattle.machine.specs.declared.Machine.{Machine}
 use Rattle.machine.specs.declared.Wait.{Wait}
 use Rattle.machine.specs.declared.Wait.TheVariants.{Running, Cwai, Sync}
-use Rattle.machine.proofs.Header.{single, wait-small, mark-small, header-in-parts, length_front, length-counter, length-header, header-back}
+use Rattle.machine.proofs.Header.{single, header-in-parts, length_front, length-counter, length-header, header-back}
 use Rattle.dump.specs.Dumps.{dump_of, dump_length, is_dump, memory_in, not_dumped, dumped, output_dumped, not_undumped, undumped, memory_undumped, DumpBack}
 use Rattle.dump.specs.declared.Dumped.{Dumped}
 use Rattle.dump.specs.declared.Undumped.{Undumped}

@@ -1,7 +1,7 @@
 -- What is printed of two dumps: a line for each entry of their differences. A field has its name and both values, a run its first and its last
 -- address. The wait state and the mark are words, every other number is hexadecimal, two digits for each byte that the record has for it.
 -- Assumes nothing.
-use Rattle.std.specs.Prelude.{ℕ, zero, suc, ◌+◌, ◌*◌, ◌≤◌, cond, ◌&&◌, List, [], ◌∷◌, ◌++◌, eqb, ltb, length, get_or, take, drop}
+use Rattle.std.specs.Prelude.{ℕ, zero, suc, ◌*◌, ◌≤◌, cond, ◌&&◌, List, [], ◌∷◌, ◌++◌, eqb, ltb, length, get_or, take, drop}
 use Rattle.answers.specs.Numbers.{number_of}
 use Rattle.answers.specs.declared.Refusal.TheVariants.{Malformed}
 use Rattle.text.specs.Hex.{hex2}

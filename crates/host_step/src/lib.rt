@@ -1,5 +1,5 @@
-// The recorded step for a host. It is a crate of its own, hence an archive of its own: with one call site in its archive the step is
-// compiled into it (docs/PERFORMANCE.md).
+// The recorded step for a host. It is a crate of its own, hence an archive of its own, host_step_c: with one call site in its archive the step
+// is compiled into it (docs/PERFORMANCE.md).
 #![tactic(auto)]
 
 ghost use Rattle.journal.specs.Recorded.{stepped};

@@ -1,5 +1,6 @@
-// The recorded step for hosts in C and Rust. Each crate whose name ends in _c is an archive of its own: with one call site in its archive the step
-// is compiled into it (docs/PERFORMANCE.md). A function here calls the library's function of the same name, and promises the same.
+// The recorded step for hosts in C and Rust. A crate is a library or an archive, so each library of such calls has a thin archive over it, whose
+// functions call the library's of the same names and promise the same. With one call site in its archive the step is compiled into it
+// (docs/PERFORMANCE.md).
 #![tactic(auto)]
 
 ghost use Rattle.journal.specs.Recorded.{stepped};

@@ -2,6 +2,7 @@
 -- Assumes nothing.
 use mathlib.Core.Path.{◌∙◌}
 use Rattle.bus.proofs.Arms.{no-fetch}
+use borrow.Author.Rules.{rules}
 use Rattle.bus.proofs.memory_count.Goals as goal
 
 pub returns-in-Rts : goal.returns-in-Rts
@@ -17,4 +18,4 @@ pub returns-in-Pull : goal.returns-in-Pull
 returns-in-Pull c = rw (c.in-Pull.is, c.bytes_of.ensures, c.read_u8.ensures)
 
 pub returns-in_default : goal.returns-in_default
-returns-in_default c = let x = c.args in no-fetch x.op x.mem.now x.regs x.ea c.in_default.in_default-own.keys5
+returns-in_default c = let x = c.args in no-fetch x.op x.mem.now x.regs x.ea (search rules)

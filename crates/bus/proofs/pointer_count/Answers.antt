@@ -3,6 +3,7 @@
 use mathlib.Core.Bool.{true, false}
 use mathlib.Core.Path.{◌∙◌}
 use Rattle.bus.proofs.Arms.{no_index, chosen}
+use borrow.Author.Rules.{rules}
 use Rattle.bus.proofs.pointer_count.Goals as goal
 
 pub returns-then-is_indirect : goal.returns-then-is_indirect
@@ -12,4 +13,4 @@ pub returns-else-is_indirect : goal.returns-else-is_indirect
 returns-else-is_indirect c = chosen _ _ 2 0 c.is_indirect.ensures false c.if-is_indirect.false ∙ rw c.in-Indexed.is
 
 pub returns-in_default : goal.returns-in_default
-returns-in_default c = no_index c.args.operand c.in_default.in_default-own.keys2
+returns-in_default c = no_index c.args.operand (search rules)

@@ -1,8 +1,7 @@
 -- By the answer: a memory of another length, no dump, and the memory of the dump in place of all bytes.
 -- Assumes nothing.
-use mathlib.Core.Path.{◌≡◌, sym, ◌∙◌}
+use mathlib.Core.Path.{sym, ◌∙◌}
 use native.Mathlib.Omega.{arith}
-use borrow.Author.Tests.{not-true, not-false}
 use Rattle.dump.proofs.Writing.{dump-length, read_length, read-malformed, read_done}
 use Rattle.dump.proofs.read.Goals as goal
 
@@ -11,14 +10,14 @@ returns-then-mem-ne-MEMORY c = rw c.not_undumped.ensures (read_length c.args.d.n
 
 pub returns-then-not-is_dump : goal.returns-then-not-is_dump
 returns-then-not-is_dump c =
-    rw c.not_undumped-then-not-is_dump.ensures (read-malformed c.args.d.now c.args.mem.now c.if-mem-ne-MEMORY.false (sym c.is_dump.ensures ∙ not-true _ c.if-not-is_dump.true))
+    rw c.not_undumped-then-not-is_dump.ensures (read-malformed c.args.d.now c.args.mem.now c.if-mem-ne-MEMORY.false (sym c.is_dump.ensures ∙ c.if-not-is_dump.true))
 
 pub slice_bounds-put-count : goal.slice_bounds-put-count
-slice_bounds-put-count c = omega (arith, dump-length c.args.d.now (sym c.is_dump.ensures ∙ not-false _ c.if-not-is_dump.false))
+slice_bounds-put-count c = omega (arith, dump-length c.args.d.now (sym c.is_dump.ensures ∙ c.if-not-is_dump.false))
 
 pub slice_bounds-put-start : goal.slice_bounds-put-start
-slice_bounds-put-start c = omega (arith, dump-length c.args.d.now (sym c.is_dump.ensures ∙ not-false _ c.if-not-is_dump.false))
+slice_bounds-put-start c = omega (arith, dump-length c.args.d.now (sym c.is_dump.ensures ∙ c.if-not-is_dump.false))
 
 pub returns : goal.returns
 returns c =
-    read_done c.args.d.now c.args.mem.now c.if-mem-ne-MEMORY.false (sym c.is_dump.ensures ∙ not-false _ c.if-not-is_dump.false) _ _ c.machine_of.ensures c.put.ensures
+    read_done c.args.d.now c.args.mem.now c.if-mem-ne-MEMORY.false (sym c.is_dump.ensures ∙ c.if-not-is_dump.false) _ _ c.machine_of.ensures c.put.ensures

@@ -1,6 +1,5 @@
 -- By the answer: a memory of another length, an output too short, and four parts.
 -- Assumes nothing.
-use mathlib.Core.Path.{◌∙◌}
 use Rattle.dump.proofs.Writing.{dump-parts, write-length, write-short, write_done}
 use Rattle.dump.proofs.write.Goals as goal
 

@@ -1,9 +1,11 @@
 -- The head is judged as the definition judges it: its length, then where to begin.
 -- Assumes nothing.
 use native.Mathlib.Omega.{arith}
+use Rattle.std.proofs.Common.{◌≢◌}
 use Rattle.answers.specs.Numbers.{number_of}
 use Rattle.answers.specs.declared.Refusal.TheVariants.{Malformed}
 use Rattle.text.proofs.Texts.{alone-fits}
+use Rattle.listing.specs.Listing.{from_byte}
 use Rattle.listing.proofs.Files.{short-head, too_long, tail, other-start, from-reset, from-given}
 use Rattle.listing.proofs.list.Goals as goal
 
@@ -31,6 +33,8 @@ returns-in-1 c =
 
 pub returns-in_default : goal.returns-in_default
 returns-in_default c =
-    let r = c.in_default.rest in
+    let l = c.args.input.now in
+    let f : from_byte l ≢ 0 = omega arith in
+    let g : from_byte l ≢ 1 = omega arith in
     let p = c.put_refusal-in_default.ensures in
-    rw (other-start c.args.input.now c.if-input-lt-HEAD.false c.if-input-gt-LONGEST.false r.0.1 r.1) (p.0, (p.1, omega (arith, p.0, alone-fits (number_of Malformed))))
+    rw (other-start l c.if-input-lt-HEAD.false c.if-input-gt-LONGEST.false f g) (p.0, (p.1, omega (arith, p.0, alone-fits (number_of Malformed))))

@@ -15,18 +15,18 @@ loop-left-init c = let a = c.args in (omega arith, at_first a.mem.now a.out.now 
 pub slice_bounds-put-end : goal.slice_bounds-put-end
 slice_bounds-put-end c =
     let l = c.loop-left in
-    sym (ap length c.line_at_lem.ensures.0 ∙ line-of-49 c.args.mem.now l.at c.requires (λ k. omega (arith, c.type_inv.mem k)) l.invariant.0)
+    sym (ap length c.line_at-told.ensures.0 ∙ line-of-49 c.args.mem.now l.at c.requires (λ k. omega (arith, c.type_inv.mem k)) l.invariant.0)
 
 pub overflow_add-used-in-loop-left : goal.overflow_add-used-in-loop-left
 overflow_add-used-in-loop-left c = omega (arith, c.loop-left.invariant.1.room, c.loop-left-test.true)
 
 pub loop-left-smaller : goal.loop-left-smaller
-loop-left-smaller c = omega (arith, c.left_after-left.ensures, fewer c.loop-left.left c.line_at_lem.result.next, c.loop-left-test.true)
+loop-left-smaller c = omega (arith, c.left_after-left.ensures, fewer c.loop-left.left c.line_at-told.result.next, c.loop-left-test.true)
 
 pub loop-left-preserved : goal.loop-left-preserved
 loop-left-preserved c =
     let l = c.loop-left in
-    let t = c.line_at_lem.ensures in (
+    let t = c.line_at-told.ensures in (
       omega arith,
       turn c.args.mem.now c.requires (λ k. omega (arith, c.type_inv.mem k)) c.args.out.now (listing c.args.count c.args.mem.now c.args.from)
           l.left l.used l.out l.at l.invariant.0 l.invariant.1 c.loop-left-test.true t.0 t.1 c.put.ensures c.left_after-left.ensures,

@@ -16,7 +16,7 @@ returns c =
     let h = c.hex2-pair.ensures in
     let r = c.read_u8.ensures in
     let f : said c.decimal.result ≡ decimal n = rw (c.decimal.ensures, c.number.ensures) (text-is-whole (decimal n) (omega (arith, at-most-twenty n))) in
-    refused-laid a.mem.now a.at a.refusal c.put.new.out c.put-2.new.out c.put-3.new.out c.put-7.new.1.0
+    refused-laid a.mem.now a.at a.refusal c.put.new.out c.put-2.new.out c.put-3.new.out c.put-7.new.out
     (rw (c.blank-line.ensures, c.hex4-address.ensures) at c.put.ensures)
     (rw (h, r) at c.put-2.ensures)
     c.put-3.ensures

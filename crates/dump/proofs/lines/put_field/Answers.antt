@@ -1,6 +1,6 @@
 -- Six parts, each right after the one before; each is short, so that no place is too far.
 -- Assumes nothing.
-use mathlib.Core.Path.{◌≡◌, ◌∙◌, ap}
+use mathlib.Core.Path.{◌∙◌, ap}
 use mathlib.Core.List.{List}
 use Prim.Native.Nat.{ℕ}
 use native.Mathlib.Omega.{arith}
@@ -9,6 +9,18 @@ use lib.Seq.{sets}
 use Rattle.dump.specs.Told.{field_text, value_text, field_at}
 use Rattle.dump.proofs.Parts.{Six, line-put, line-long, name-short, value-short, field-line}
 use Rattle.dump.proofs.lines.put_field.Goals as goal
+
+pub overflow_add-left : goal.overflow_add-left
+overflow_add-left c = record { fits = omega (arith, c.put_value.ensures.0, value-short (field_at c.args.entry.what) c.args.entry.left, c.put_text.ensures.0, c.put_name.ensures.0, name-short (field_at c.args.entry.what)) }
+
+pub overflow_add-second : goal.overflow_add-second
+overflow_add-second c = record { fits = omega (arith, c.put_text-2.ensures.0, c.put_value.ensures.0, value-short (field_at c.args.entry.what) c.args.entry.left, c.put_text.ensures.0, c.put_name.ensures.0, name-short (field_at c.args.entry.what)) }
+
+pub overflow_add-right : goal.overflow_add-right
+overflow_add-right c = record { fits = omega (arith, c.put_value-2.ensures.0, value-short (field_at c.args.entry.what) c.args.entry.right, c.put_text-2.ensures.0, c.put_value.ensures.0, value-short (field_at c.args.entry.what) c.args.entry.left, c.put_text.ensures.0, c.put_name.ensures.0, name-short (field_at c.args.entry.what)) }
+
+pub overflow_add-end : goal.overflow_add-end
+overflow_add-end c = record { fits = omega (arith, c.put_text-3.ensures.0, c.put_value-2.ensures.0, value-short (field_at c.args.entry.what) c.args.entry.right, c.put_text-2.ensures.0, c.put_value.ensures.0, value-short (field_at c.args.entry.what) c.args.entry.left, c.put_text.ensures.0, c.put_name.ensures.0, name-short (field_at c.args.entry.what)) }
 
 pub put_value-requires : goal.put_value-requires
 put_value-requires c = (c.requires.0, omega (arith, c.put_text.ensures.0, c.put_name.ensures.0, name-short (field_at c.args.entry.what)))

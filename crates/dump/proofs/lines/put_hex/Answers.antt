@@ -1,14 +1,13 @@
 -- The digits of the first j bytes are written, those of the others are still to come.
 -- Assumes nothing.
-use Prim.Native.Nat.{ℕ, ◌+◌, ◌-◌, ◌*◌, ◌≤◌}
-use mathlib.Core.List.{List}
+use Prim.Native.Nat.{◌+◌, ◌-◌, ◌*◌}
 use mathlib.Core.Path.{◌≡◌, refl, sym, ap, ◌∙◌}
 use native.Mathlib.Omega.{arith}
-use lib.ListN.{length, get_or, drop, drop_of_length-le}
-use lib.Seq.{sets, length-sets}
+use lib.ListN.{length, get_or, drop_of_length-le}
+use lib.Seq.{length-sets}
 use Rattle.text.specs.Hex.{hex2}
 use Rattle.machine.proofs.Header.{length-counter}
-use Rattle.dump.specs.Told.{hex_bytes, hex_of}
+use Rattle.dump.specs.Told.{hex_bytes}
 use Rattle.dump.proofs.Parts.{hex-of-length, low-bytes, hex-more}
 use Rattle.dump.proofs.lines.put_hex.Goals as goal
 

@@ -1,6 +1,6 @@
 -- Six parts, each right after the one before; each is short, so that no place is too far.
 -- Assumes nothing.
-use mathlib.Core.Path.{◌≡◌, ◌∙◌, ap}
+use mathlib.Core.Path.{◌∙◌, ap}
 use mathlib.Core.List.{List}
 use Prim.Native.Nat.{ℕ}
 use native.Mathlib.Omega.{arith}
@@ -10,6 +10,18 @@ use Rattle.registers.specs.ConditionCodes.{ascii}
 use Rattle.dump.specs.Told.{hex_of}
 use Rattle.dump.proofs.Parts.{Six, line-put, line-long, hex-of-length, run-line}
 use Rattle.dump.proofs.lines.put_run.Goals as goal
+
+pub overflow_add-left : goal.overflow_add-left
+overflow_add-left c = record { fits = omega (arith, c.put_hex.ensures.0, hex-of-length 2 c.args.entry.left, c.put_text-2.ensures.0, c.put_text.ensures.0) }
+
+pub overflow_add-second : goal.overflow_add-second
+overflow_add-second c = record { fits = omega (arith, c.put_text-3.ensures.0, c.put_hex.ensures.0, hex-of-length 2 c.args.entry.left, c.put_text-2.ensures.0, c.put_text.ensures.0) }
+
+pub overflow_add-right : goal.overflow_add-right
+overflow_add-right c = record { fits = omega (arith, c.put_hex-2.ensures.0, hex-of-length 2 c.args.entry.right, c.put_text-3.ensures.0, c.put_hex.ensures.0, hex-of-length 2 c.args.entry.left, c.put_text-2.ensures.0, c.put_text.ensures.0) }
+
+pub overflow_add-end : goal.overflow_add-end
+overflow_add-end c = record { fits = omega (arith, c.put_text-4.ensures.0, c.put_hex-2.ensures.0, hex-of-length 2 c.args.entry.right, c.put_text-3.ensures.0, c.put_hex.ensures.0, hex-of-length 2 c.args.entry.left, c.put_text-2.ensures.0, c.put_text.ensures.0) }
 
 pub put_hex-requires-2 : goal.put_hex-requires-2
 put_hex-requires-2 c = (omega arith, omega (arith, c.put_text-3.ensures.0, c.put_hex.ensures.0, hex-of-length 2 c.args.entry.left, c.put_text-2.ensures.0, c.put_text.ensures.0))

@@ -1,9 +1,7 @@
 -- The wait state, the mark, or so many bytes.
 -- Assumes nothing.
-use Prim.Native.Nat.{ℕ}
-use mathlib.Core.Path.{◌≡◌, sym, ap, ◌∙◌}
 use native.Mathlib.Omega.{arith}
-use Rattle.dump.specs.Told.{hex_of, field_at}
+use Rattle.dump.specs.Told.{field_at}
 use Rattle.dump.proofs.Parts.{width-at, width_small, value-wait, value-mark, value-hex}
 use Rattle.dump.proofs.lines.put_value.Goals as goal
 

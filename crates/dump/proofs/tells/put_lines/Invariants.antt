@@ -1,15 +1,10 @@
 -- The lines of the first k entries are written, and those from the k-th on are still to come.
 -- Assumes nothing.
-use Prim.Native.Nat.{ℕ, ◌+◌, ◌-◌, ◌*◌, ◌≤◌}
-use mathlib.Core.Path.{◌≡◌, refl, sym, ap, ◌∙◌}
-use native.Mathlib.Nat.{zero-add}
-use native.Mathlib.Omega.{arith}
+use Prim.Native.Nat.{◌+◌, ◌-◌, ◌*◌, ◌≤◌}
+use mathlib.Core.Path.{◌≡◌}
 use lib.ListN.{length}
-use lib.Seq.{sets, length-sets}
-use Rattle.difference.specs.Compare.{entry_at}
-use Rattle.dump.specs.Told.{entry_line, list_lines}
-use Rattle.dump.proofs.Parts.{line-short}
-use Rattle.dump.proofs.Listed.{line-counted, line-written}
+use lib.Seq.{sets}
+use Rattle.dump.specs.Told.{list_lines}
 use Rattle.dump.proofs.tells.put_lines.Given as goal
 
 abbrev pub invariant-loop-k : goal.invariant-loop-k

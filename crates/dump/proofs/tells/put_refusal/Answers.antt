@@ -1,7 +1,5 @@
 -- The number in a line of its own, which is whole.
 -- Assumes nothing.
-use mathlib.Core.Path.{◌∙◌}
-use native.Mathlib.Omega.{arith}
 use Rattle.answers.specs.Numbers.{number_of}
 use Rattle.answers.specs.declared.Refusal.TheVariants.{Malformed}
 use Rattle.text.specs.Lines.{alone}

@@ -1,14 +1,8 @@
 -- The length, the left dump, the right one; and then their differences.
 -- Assumes nothing.
-use Prim.Native.Nat.{ℕ, ◌-◌}
-use mathlib.Core.Bool.{true, false}
-use mathlib.Core.Path.{◌≡◌, sym, ap, ◌∙◌}
+use mathlib.Core.Path.{sym, ◌∙◌}
 use native.Mathlib.Omega.{arith}
-use lib.ListN.{length, take, drop}
 use lib.Seq.{length-take-le}
-use borrow.Author.Tests.{not-true, not-false}
-use Rattle.dump.specs.Dumps.{is_dump, dump_length}
-use Rattle.dump.specs.Told.{left_dump, right_dump}
 use Rattle.dump.proofs.Telling.{too_short, left-malformed, right-malformed, both_told, right-part}
 use Rattle.dump.proofs.tells.tell.Goals as goal
 
@@ -19,17 +13,17 @@ pub slice_bounds-left-end : goal.slice_bounds-left-end
 slice_bounds-left-end c = sym (length-take-le 65568 c.args.input.now (omega arith))
 
 pub returns-then-not-is_dump : goal.returns-then-not-is_dump
-returns-then-not-is_dump c = rw (left-malformed c.args.input.now (sym c.is_dump.ensures ∙ not-true _ c.if-not-is_dump.true)) c.put_refusal-then-not-is_dump.ensures
+returns-then-not-is_dump c = rw (left-malformed c.args.input.now (sym c.is_dump.ensures ∙ c.if-not-is_dump.true)) c.put_refusal-then-not-is_dump.ensures
 
 pub returns-then-not-is_dump-2 : goal.returns-then-not-is_dump-2
 returns-then-not-is_dump-2 c =
-    rw (right-malformed c.args.input.now (sym c.is_dump.ensures ∙ not-false _ c.if-not-is_dump.false) (rw (right-part c.args.input.now) at (sym c.is_dump-2.ensures) ∙ not-true _ c.if-not-is_dump-2.true))
+    rw (right-malformed c.args.input.now (sym c.is_dump.ensures ∙ c.if-not-is_dump.false) (rw (right-part c.args.input.now) at (sym c.is_dump-2.ensures) ∙ c.if-not-is_dump-2.true))
     c.put_refusal-then-not-is_dump-2.ensures
 
 pub put_differences-requires : goal.put_differences-requires
-put_differences-requires c = (sym c.is_dump.ensures ∙ not-false _ c.if-not-is_dump.false, sym c.is_dump-2.ensures ∙ not-false _ c.if-not-is_dump-2.false)
+put_differences-requires c = (sym c.is_dump.ensures ∙ c.if-not-is_dump.false, sym c.is_dump-2.ensures ∙ c.if-not-is_dump-2.false)
 
 pub returns : goal.returns
 returns c =
-    rw (both_told c.args.input.now (sym c.is_dump.ensures ∙ not-false _ c.if-not-is_dump.false) (rw (right-part c.args.input.now) at (sym c.is_dump-2.ensures) ∙ not-false _ c.if-not-is_dump-2.false))
+    rw (both_told c.args.input.now (sym c.is_dump.ensures ∙ c.if-not-is_dump.false) (rw (right-part c.args.input.now) at (sym c.is_dump-2.ensures) ∙ c.if-not-is_dump-2.false))
     (rw (right-part c.args.input.now) at c.put_differences.ensures)
