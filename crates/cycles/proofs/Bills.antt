@@ -3,7 +3,7 @@
 use Prim.Native.Nat.{ℕ, ◌+◌, ◌≤◌, ◌<◌}
 use mathlib.Core.Path.{◌≡◌, refl, subst}
 use mathlib.Core.Bool.{Bool, true, false, cond, ◌&&◌}
-use mathlib.Core.List.{List, [], ◌∷◌}
+use mathlib.Core.List.{List}
 use native.Mathlib.Omega.{arith}
 use lib.Dec.{T, leb, leb→le, lit≤}
 use Rattle.answers.specs.declared.Refusal.TheVariants.{PastEnd}
@@ -11,13 +11,11 @@ use Rattle.registers.specs.ConditionCodes.{coded, flag, bit_at}
 use Rattle.registers.specs.declared.CCBit.TheVariants.{E}
 use Rattle.registers.specs.declared.CCBits.{CCBits}
 use Rattle.registers.specs.declared.Set.{Set}
-use Rattle.memory.specs.Fits.{Bytes}
 use Rattle.memory.specs.Map.{byte_at}
 use Rattle.opcodes.specs.Manual.{entry_of}
 use Rattle.opcodes.specs.Rows.{values}
 use Rattle.opcodes.specs.declared.Cond.{Cond}
 use Rattle.opcodes.specs.declared.Entry.{Entry}
-use Rattle.opcodes.specs.declared.MemoryOp.{MemoryOp}
 use Rattle.opcodes.specs.declared.MemoryOp.TheVariants.{OnMemory, Store8, Store16, Bsr, Jsr, Rts, Rti, Swi, Cwai, Sync, Push, Pull}
 use Rattle.opcodes.specs.declared.Mode.{Mode}
 use Rattle.opcodes.specs.declared.Mode.TheVariants.{Inherent, Immediate8, Immediate16, Direct, Indexed, Extended, Relative8, Relative16}
@@ -37,7 +35,6 @@ use Rattle.decode.specs.PostByte.{is_indirect, form_of}
 use Rattle.decode.specs.declared.instruction.Decoded.{Decoded}
 use Rattle.decode.specs.declared.instruction.Decoded.TheVariants.{Instruction as Taken, Refused as NotDecoded}
 use Rattle.decode.specs.declared.instruction.Instruction.{Instruction}
-use Rattle.decode.specs.declared.operand.Operand.{Operand}
 use Rattle.decode.specs.declared.operand.Operand.TheVariants.{Inherent as Nothing, Immediate as ByValue, Direct as InPage, Indexed as ByIndex, Extended as AtAddress, Relative as ByOffset}
 use Rattle.decode.specs.declared.operand.OperandRead.{OperandRead}
 use Rattle.decode.specs.declared.operand.OperandRead.TheVariants.{Operand as Read, Refused as NotRead}
@@ -47,7 +44,7 @@ use Rattle.decode.proofs.Origin.{decode-origin}
 use Rattle.operations.specs.Branches.{condition}
 use Rattle.stack.proofs.Laws.{none_dropped}
 use Rattle.cycles.specs.Bills.{Bounded, BoundedAt, InstructionBounded, by_form, post_byte_extra, PostByteExtras}
-use Rattle.cycles.specs.Cycles.{form_extra, operand_extra, is_conditional, branch_extra, registers_extra, memory_extra, operation_extra, extra_of, cycles_of}
+use Rattle.cycles.specs.Cycles.{form_extra, operand_extra, is_conditional, branch_extra, registers_extra, operation_extra, cycles_of}
 
 -- ---- the most that an operand and an operation add
 

@@ -1,7 +1,6 @@
 -- The origin of a decoded instruction.
 -- Assumes nothing.
 use Rattle.std.proofs.Common.{◌≡◌, ℕ, ◌<◌, List, refl}
-use Rattle.memory.specs.Fits.{Bytes}
 use Rattle.opcodes.specs.Manual.{entry_of}
 use Rattle.opcodes.specs.declared.Entry.{Entry}
 use Rattle.opcodes.specs.declared.Page.{Page}

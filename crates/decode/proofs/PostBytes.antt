@@ -1,6 +1,6 @@
 -- The masks of the post-byte: laws over all 256 bytes, each shown by one test that antt computes.
 -- Assumes nothing.
-use Rattle.std.proofs.Common.{◌≡◌, ℕ, ◌/◌, ◌%◌, ◌<◌, ◌≤◌, true, cond, ◌||◌, eqb, ltb, leb, [], ◌∷◌, refl, le-ltb, ne_eqb, leb-true}
+use Rattle.std.proofs.Common.{◌≡◌, ℕ, ◌/◌, ◌%◌, ◌<◌, ◌≤◌, true, cond, ◌||◌, eqb, leb, [], ◌∷◌, refl, le-ltb, ne_eqb, leb-true}
 use borrow.Author.Tests.{lt-leb}
 use lib.Bits.{bit_and, bit_or}
 use Rattle.registers.specs.ConditionCodes.{bit_at}

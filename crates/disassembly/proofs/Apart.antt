@@ -1,6 +1,6 @@
 -- The bytes' column tells the bytes: two lists of pairs that are the same are of the same bytes.
 -- Assumes nothing.
-use Rattle.std.proofs.Common.{◌≡◌, ℕ, zero, suc, ◌+◌, ◌*◌, ◌/◌, ◌%◌, ◌<◌, List, [], ◌∷◌, ◌++◌, length, get_or, take, drop, sym, refl, ap, ◌∙◌, take_at, drop_at}
+use Rattle.std.proofs.Common.{◌≡◌, ℕ, zero, suc, ◌+◌, ◌*◌, ◌/◌, ◌%◌, ◌<◌, List, [], ◌∷◌, ◌++◌, get_or, take, drop, sym, refl, ap, ◌∙◌, take_at, drop_at}
 use Rattle.text.specs.Hex.{glyph, hex2, byte_of}
 use Rattle.text.proofs.Digits.{byte-of-hex2}
 use Rattle.memory.specs.Fits.{Bytes}

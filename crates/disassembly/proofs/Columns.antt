@@ -1,8 +1,8 @@
 -- Texts laid over spaces, column by column, and how long the line is.
 -- Assumes nothing.
-use Rattle.std.proofs.Common.{◌≡◌, ℕ, zero, suc, ◌+◌, ◌-◌, ◌*◌, ◌≤◌, List, [], ◌∷◌, ◌++◌, length, take, drop, replicate, sym, refl, ap, ◌∙◌, append_assoc, append-nil, arith, length-append, length-drop, take_all, take_at, drop_at}
+use Rattle.std.proofs.Common.{◌≡◌, ℕ, zero, suc, ◌+◌, ◌-◌, ◌*◌, ◌≤◌, List, [], ◌++◌, length, take, drop, replicate, refl, ap, ◌∙◌, append_assoc, append-nil, arith, length-append, length-drop, take_all, take_at, drop_at}
 use lib.ListN.{length-replicate}
-use lib.Seq.{sets, length-sets, sets-eq, drop-length, take-append_seam, drop-append-add, drop-append-le}
+use lib.Seq.{sets, length-sets, sets-eq, drop-length, drop-append-add, drop-append-le}
 use Rattle.disassembly.specs.Line.{space, line_length, columns, byte_pairs, line_with}
 
 pub pairs-length : (n : ℕ) (mem : List ℕ) (at : ℕ) → length (byte_pairs n mem at) ≡ 3 * n

@@ -1,6 +1,6 @@
 -- Texts that grow by a name or by a pair of digits.
 -- Assumes nothing.
-use Rattle.std.proofs.Common.{◌≡◌, ℕ, suc, ◌+◌, ◌%◌, List, [], ◌∷◌, ◌++◌, get_or, refl, ◌∙◌, append_assoc, add-one, arith}
+use Rattle.std.proofs.Common.{◌≡◌, ℕ, ◌+◌, ◌%◌, List, [], ◌∷◌, get_or, refl, append_assoc, add-one, arith}
 use Rattle.text.specs.Hex.{hex2}
 use Rattle.text.specs.Lines.{text_of, grown}
 use Rattle.text.specs.declared.lines.Text.{Text}

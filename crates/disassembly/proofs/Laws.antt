@@ -1,9 +1,8 @@
 -- The laws of a line.
 -- Assumes nothing.
-use Rattle.std.proofs.Common.{◌≡◌, ℕ, ◌+◌, ◌-◌, ◌*◌, ◌<◌, ◌≤◌, Bool, true, false, cond, eqb, ltb, leb, List, [], ◌∷◌, ◌++◌, length, take, drop, replicate, sym, refl, ap, ◌∙◌, subst, append_assoc, arith, take_at, drop_at, leb-true}
+use Rattle.std.proofs.Common.{◌≡◌, ℕ, ◌+◌, ◌-◌, ◌*◌, ◌<◌, ◌≤◌, Bool, true, false, cond, eqb, ltb, leb, List, ◌++◌, length, take, drop, replicate, sym, refl, ap, ◌∙◌, subst, append_assoc, arith, take_at, drop_at, leb-true}
 use Rattle.text.specs.Hex.{hex4}
-use Rattle.answers.specs.declared.Refusal.{Refusal}
-use Rattle.answers.specs.declared.Refusal.TheVariants.{MemoryLength, PastEnd, TransferCode, LineShort}
+use Rattle.answers.specs.declared.Refusal.TheVariants.{MemoryLength, PastEnd, TransferCode}
 use Rattle.memory.specs.Fits.{Bytes}
 use Rattle.decode.specs.Decode.{decoded_at}
 use Rattle.decode.specs.declared.instruction.Decoded.{Decoded}
@@ -14,7 +13,6 @@ use Rattle.disassembly.specs.Operands.{operand_text}
 use Rattle.disassembly.specs.Line.{space, line_length, columns, byte_pairs, mnemonic_text, line_with, instruction_line}
 use Rattle.disassembly.specs.Disassembly.{immediate_at, taken_as_step, judged_from, legible, answered, disassembled_of, written_to, line_after}
 use Rattle.disassembly.specs.Laws.{TextOf48, RefusedLine, LinesApart}
-use Rattle.disassembly.specs.declared.Disassembled.{Disassembled}
 use Rattle.disassembly.specs.declared.Disassembled.TheVariants.{Line, Refused}
 use Rattle.disassembly.proofs.Spans.{one-to-five}
 use Rattle.disassembly.proofs.Widths.{operand_short, mnemonic-short}

@@ -1,6 +1,6 @@
 -- An instruction has 1 to 5 bytes: a prefix, the opcode, and up to three bytes after it.
 -- Assumes nothing.
-use Rattle.std.proofs.Common.{◌≡◌, ℕ, ◌+◌, ◌<◌, ◌≤◌, Bool, true, false, cond, leb, List, subst, arith, lit≤}
+use Rattle.std.proofs.Common.{◌≡◌, ℕ, ◌+◌, ◌≤◌, Bool, true, false, cond, leb, List, subst, arith, lit≤}
 use Rattle.answers.specs.declared.Refusal.TheVariants.{PastEnd}
 use Rattle.opcodes.specs.declared.Mode.{Mode}
 use Rattle.opcodes.specs.declared.Mode.TheVariants.{Inherent, Immediate8, Immediate16, Direct, Indexed, Extended, Relative8, Relative16}
@@ -10,7 +10,6 @@ use Rattle.decode.specs.Laws.{prefix_bytes, SizedAt, offset_bytes_of, Instructio
 use Rattle.decode.specs.Operand.{signed_byte, operand_number, operand_bytes, operand_at}
 use Rattle.decode.specs.Origin.{Origin, OriginOf}
 use Rattle.decode.specs.PostByte.{offset_bytes}
-use Rattle.decode.specs.declared.operand.Operand.{Operand}
 use Rattle.decode.specs.declared.operand.Operand.TheVariants.{Inherent as Nothing, Immediate as ByValue, Direct as InPage, Indexed as ByIndex, Extended as AtAddress, Relative as Branched}
 use Rattle.decode.specs.declared.operand.OperandRead.{OperandRead}
 use Rattle.decode.specs.declared.operand.OperandRead.TheVariants.{Operand as Read, Refused as NotRead}

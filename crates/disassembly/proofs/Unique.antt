@@ -1,6 +1,6 @@
 -- No second answer, and no second line at exit, fits.
 -- Assumes nothing.
-use Rattle.std.proofs.Common.{ℕ, List, sym, refl, ap, ◌∙◌}
+use Rattle.std.proofs.Common.{ℕ, List, sym, ap, ◌∙◌}
 use Rattle.answers.proofs.Determined.{Determines}
 use Rattle.disassembly.proofs.disassemble
 

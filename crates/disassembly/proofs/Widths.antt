@@ -1,10 +1,9 @@
 -- How long a mnemonic and an operand can be.
 -- Assumes nothing.
-use Rattle.std.proofs.Common.{◌≡◌, ℕ, ◌+◌, ◌-◌, ◌/◌, ◌%◌, ◌≤◌, Bool, true, false, cond, eqb, ltb, List, [], ◌∷◌, ◌++◌, length, take, replicate, sym, refl, ap, ◌∙◌, arith, lit≤, length-append, length-take}
+use Rattle.std.proofs.Common.{◌≡◌, ℕ, ◌+◌, ◌-◌, ◌/◌, ◌%◌, ◌≤◌, Bool, true, false, cond, eqb, ltb, List, [], ◌∷◌, ◌++◌, length, replicate, ap, ◌∙◌, arith, lit≤, length-append, length-take}
 use Prim.Native.Char.{code}
 use lib.ListN.{length-replicate}
-use Rattle.text.specs.Hex.{hex2, hex4}
-use Rattle.memory.specs.Map.{byte_at, word_at}
+use Rattle.memory.specs.Map.{byte_at}
 use Rattle.registers.specs.ConditionCodes.{ascii}
 use Rattle.registers.specs.Names.{word_name, index_word, stack_word, other_stack}
 use Rattle.registers.specs.declared.Name.{Name}
@@ -37,7 +36,7 @@ use Rattle.decode.specs.declared.postbyte.Form.{Form}
 use Rattle.decode.specs.declared.postbyte.Form.TheVariants.{Offset5, Increment1, Increment2, Decrement1, Decrement2, NoOffset, OffsetB, OffsetA, Offset8, Offset16, OffsetD, Program8, Program16, Address}
 use Rattle.operations.specs.Refusals.{names_two}
 use Rattle.operations.specs.Transfers.{transfer_name}
-use Rattle.disassembly.specs.Figures.{byte_text, word_text, short_offset, long_offset, target}
+use Rattle.disassembly.specs.Figures.{byte_text, word_text, short_offset, long_offset}
 use Rattle.disassembly.specs.Names.{name_text, comma, transfer_text, slot_text, list_text}
 use Rattle.disassembly.specs.Operands.{immediate_byte, memory_byte_text, byte_operand, immediate_text, form_text, bracketed, indexed_text, operand_text_of, operand_text}
 use Rattle.disassembly.specs.Line.{mnemonic_text}

@@ -1,8 +1,7 @@
 -- The stem of a unary operation has three letters and a condition has two; an arm of a match that gives letters.
 -- Assumes nothing.
-use Prim.Native.Nat.{ℕ}
 use mathlib.Core.Path.{◌≡◌, refl, sym, ap, ◌∙◌}
-use mathlib.Core.List.{List, [], ◌∷◌}
+use mathlib.Core.List.{[], ◌∷◌}
 use lib.ListN.{get_or}
 use Rattle.registers.specs.ConditionCodes.{ascii}
 use Rattle.mnemonics.specs.Mnemonics.{unary_text, cond_text}

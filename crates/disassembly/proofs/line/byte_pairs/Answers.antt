@@ -1,6 +1,6 @@
 -- The invariant: the first k bytes are written. The measure is the number of bytes that are left.
 -- Assumes nothing.
-use Rattle.std.proofs.Common.{◌≡◌, ℕ, ◌-◌, ◌≤◌, ap, ◌∙◌, arith}
+use Rattle.std.proofs.Common.{◌≡◌, ℕ, ap, ◌∙◌, arith}
 use Rattle.text.specs.Lines.{text_of}
 use Rattle.disassembly.specs.Line.{byte_pairs}
 use Rattle.disassembly.proofs.Growing.{no_pairs, pair-more}

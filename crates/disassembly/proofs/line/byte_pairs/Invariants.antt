@@ -1,9 +1,8 @@
 -- The invariant: the first k bytes are written. The measure is the number of bytes that are left.
 -- Assumes nothing.
-use Rattle.std.proofs.Common.{◌≡◌, ℕ, ◌-◌, ◌≤◌, ap, ◌∙◌, arith}
+use Rattle.std.proofs.Common.{◌≡◌, ◌-◌, ◌≤◌}
 use Rattle.text.specs.Lines.{text_of}
 use Rattle.disassembly.specs.Line.{byte_pairs}
-use Rattle.disassembly.proofs.Growing.{no_pairs, pair-more}
 use Rattle.disassembly.proofs.line.byte_pairs.Given as goal
 
 abbrev pub invariant-loop-k : goal.invariant-loop-k

@@ -1,7 +1,6 @@
 -- At most five letters.
 -- Assumes nothing.
-use Rattle.std.proofs.Common.{◌≡◌, ltb, length, sym, arith, length-take-le}
-use Rattle.mnemonics.specs.Mnemonics.{mnemonic_of}
+use Rattle.std.proofs.Common.{ltb, sym, arith, length-take-le}
 use Rattle.disassembly.specs.Line.{mnemonic_text}
 use Rattle.disassembly.proofs.Widths.{Five, five}
 use Rattle.disassembly.proofs.line.put_mnemonic.Goals as goal

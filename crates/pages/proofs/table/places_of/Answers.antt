@@ -1,6 +1,5 @@
 -- The loop fills the page from its start: `code` places are written.
 -- Assumes nothing.
-use Prim.Native.Nat.{◌≤◌, ◌-◌}
 use mathlib.Core.Path.{◌≡◌, ap, ◌∙◌}
 use native.Mathlib.Omega.{arith}
 use Rattle.pages.proofs.Reading.{filled, at_first, one_more, at_last}

@@ -1,9 +1,8 @@
 -- The loop fills the page from its start: `code` places are written.
 -- Assumes nothing.
 use Prim.Native.Nat.{◌≤◌, ◌-◌}
-use mathlib.Core.Path.{◌≡◌, ap, ◌∙◌}
-use native.Mathlib.Omega.{arith}
-use Rattle.pages.proofs.Reading.{filled, at_first, one_more, at_last}
+use mathlib.Core.Path.{◌≡◌}
+use Rattle.pages.proofs.Reading.{filled}
 use Rattle.pages.proofs.table.places_of.Given as goal
 
 abbrev pub invariant-loop-code : goal.invariant-loop-code
