@@ -66,7 +66,7 @@ fn bit(byte: u8, k: u8) -> bool
 // By the manual: V = a7·m7·r̄7 + ā7·m̄7·r7, with a and m for the operands and r for the result, which has the carry in it.
 // As bought: the carry is added first, and either partial sum may leave the range.
 pub fn add_v(flags: Flags, a: u8, b: u8, c: u8) -> bool
-    ensures { (cc : CCBits) (asked : Bool) → carry_in asked cc ≡ c → result ≡ after «V» flags (adding asked) cc a b }
+    ensures { (ccr : CCBits) (asked : Bool) → carry_in asked ccr ≡ c → result ≡ after «V» flags (adding asked) ccr a b }
 {
     match flags {
         Flags::Manual => {
@@ -88,7 +88,7 @@ pub fn add_v(flags: Flags, a: u8, b: u8, c: u8) -> bool
 // V after a difference, likewise; c is the borrow.
 // By the manual: V = a7·m̄7·r̄7 + ā7·m7·r7. As bought: the borrow is taken off first.
 pub fn sub_v(flags: Flags, a: u8, b: u8, c: u8) -> bool
-    ensures { (cc : CCBits) (asked : Bool) → carry_in asked cc ≡ c → result ≡ after «V» flags (subtracting asked) cc a b }
+    ensures { (ccr : CCBits) (asked : Bool) → carry_in asked ccr ≡ c → result ≡ after «V» flags (subtracting asked) ccr a b }
 {
     match flags {
         Flags::Manual => {
@@ -109,7 +109,7 @@ pub fn sub_v(flags: Flags, a: u8, b: u8, c: u8) -> bool
 
 // H after a sum, with r for its result: H = a3·m3 + m3·r̄3 + r̄3·a3. It is the same in both settings, and the formula serves both.
 pub fn add_h(a: u8, m: u8, r: u8) -> bool
-    ensures { (s : Flags) (cc : CCBits) (asked : Bool) → (by s (adding asked) cc a m).value ≡ r → result ≡ after half_carry s (adding asked) cc a m }
+    ensures { (s : Flags) (ccr : CCBits) (asked : Bool) → (by s (adding asked) ccr a m).value ≡ r → result ≡ after half_carry s (adding asked) ccr a m }
 {
     let a3 = bit(a, 3);
     let m3 = bit(m, 3);
@@ -122,7 +122,7 @@ pub fn add_h(a: u8, m: u8, r: u8) -> bool
 
 // V of the setting's page after DEC and INC, whatever the condition codes were. As bought: by the unsigned rule.
 pub fn dec_v(flags: Flags, val: u8) -> bool
-    ensures { (cc : CCBits) → result ≡ after «V» flags DEC cc val 0 }
+    ensures { (ccr : CCBits) → result ≡ after «V» flags DEC ccr val 0 }
 {
     match flags {
         Flags::Manual => val == 0x80,
@@ -131,7 +131,7 @@ pub fn dec_v(flags: Flags, val: u8) -> bool
 }
 
 pub fn inc_v(flags: Flags, val: u8) -> bool
-    ensures { (cc : CCBits) → result ≡ after «V» flags INC cc val 0 }
+    ensures { (ccr : CCBits) → result ≡ after «V» flags INC ccr val 0 }
 {
     match flags {
         Flags::Manual => val == 0x7F,

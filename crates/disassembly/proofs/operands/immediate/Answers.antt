@@ -1,8 +1,6 @@
 -- A byte, a word, or no immediate operand.
 -- Assumes nothing.
 use Rattle.text.proofs.Texts.{grown-grown, text-grows}
-use Rattle.disassembly.proofs.Arms.{not-immediate}
-use borrow.Author.Rules.{rules}
 use Rattle.disassembly.proofs.operands.immediate.Goals as goal
 
 pub returns-in-Immediate8 : goal.returns-in-Immediate8
@@ -10,8 +8,3 @@ returns-in-Immediate8 c = rw (c.byte_operand.ensures, c.read_u8.ensures, c.in-Im
 
 pub returns-in-Immediate16 : goal.returns-in-Immediate16
 returns-in-Immediate16 c = rw (c.with_word.ensures, c.read_u16.ensures, c.with_byte.ensures, c.empty.ensures, c.in-Immediate16.is) (simp (grown-grown, text-grows))
-
-pub returns-in_default : goal.returns-in_default
-returns-in_default c =
-    let a = c.args in
-    rw c.empty-in_default.ensures (not-immediate a.mode a.op a.mem.now a.at (search rules))

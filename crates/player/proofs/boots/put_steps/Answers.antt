@@ -25,7 +25,7 @@ loop-left-preserved c =
     let s = c.step-stepped in
     let p = c.put_call-used in (
       turn a.settings a.out.now a.at (step_lines a.settings a.count a.mem.now a.machine) l.left l.used l.out l.mem l.current l.invariant.0 c.loop-left-test.true s.ensures.0 s.ensures.1 p.ensures.0 p.ensures.1,
-      (p.auto.0 ∙ l.invariant.1.0, s.auto.0 ∙ l.invariant.1.1),
+      (p.auto.out ∙ l.invariant.1.0, s.auto.mem ∙ l.invariant.1.1),
     )
 
 pub shape_of-out : goal.shape_of-out

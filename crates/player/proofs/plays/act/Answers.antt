@@ -19,7 +19,7 @@ returns-in-Call c =
     _
     w.ensures
     (rw c.in-Call.is c.call_on.ensures.leaves)
-    c.Shown-of.ensures
+    c.shown_of.ensures
 
 pub returns-in-Undo : goal.returns-in-Undo
 returns-in-Undo c =
@@ -35,5 +35,5 @@ returns-in-Undo c =
     _
     _
     w.ensures
-    (rw c.enum_told.given.1 c.undo.ensures.leaves)
+    (rw c.in-Undo.is c.undo.ensures.leaves)
     c.shown_of-in-Undo.ensures

@@ -79,7 +79,7 @@ loop-at-preserved c =
       omega arith,
       (
         rw n (turn c.run_settings-settings.result os (in_hand a.mem.now a.journal.now fresh_twin) a.out.now i l.used l.out (in_hand l.mem l.journal l.twin) l.invariant.1.0 k o t.ensures p.ensures.0 p.ensures.1),
-        (p.auto.0 ∙ l.invariant.1.1.0, (t.auto.0 ∙ l.invariant.1.1.1.0, t.auto.1.0 ∙ l.invariant.1.1.1.1)),
+        (p.auto.out ∙ l.invariant.1.1.0, (t.auto.mem ∙ l.invariant.1.1.1.0, t.auto.journal ∙ l.invariant.1.1.1.1)),
       ),
     )
 
