@@ -74,28 +74,28 @@ low_half n = ap (λ (k : ℕ). eqb k 1) e ∙ high_bit 3 (n % 16) (omega arith)
     e : n / 8 % 2 ≡ n % 16 / 8 % 2
     e = omega arith
 
--- the carry out of the low halves p and q, and s their sum
-half : (p q c s : ℕ) → p < 16 → q < 16 → c ≤ 1 → s ≡ (p + q + c) % 16 → h_of_sum (leb 8 p) (leb 8 q) (leb 8 s) ≡ leb 16 (p + q + c)
-half p q c s lp lq lc e = go (leb 8 p) (leb 8 q) (leb 8 s) refl refl refl
-  where
-    set : 16 ≤ p + q + c → true ≡ leb 16 (p + q + c)
-    set h = sym (le-leb 16 (p + q + c) h)
-
-    clear : p + q + c < 16 → false ≡ leb 16 (p + q + c)
-    clear h = sym (lt-leb 16 (p + q + c) h)
-
-    go : (t u w : Bool) → leb 8 p ≡ t → leb 8 q ≡ u → leb 8 s ≡ w → h_of_sum t u w ≡ leb 16 (p + q + c)
-    go true true w f g h = set (omega (arith, leb-true, leb-false))
-    go true false true f g h = clear (omega (arith, leb-true, leb-false))
-    go true false false f g h = set (omega (arith, leb-true, leb-false))
-    go false true true f g h = clear (omega (arith, leb-true, leb-false))
-    go false true false f g h = set (omega (arith, leb-true, leb-false))
-    go false false true f g h = clear (omega (arith, leb-true, leb-false))
-    go false false false f g h = clear (omega (arith, leb-true, leb-false))
-
 pub sum-h : (a m c r : ℕ) → c ≤ 1 → r ≡ (a + m + c) % 256 → h_of_sum (bit_at 3 a) (bit_at 3 m) (bit_at 3 r) ≡ leb 16 (a % 16 + m % 16 + c)
 sum-h a m c r lc e =
     rw (low_half a, low_half m, low_half r) (half (a % 16) (m % 16) c (r % 16) (omega arith) (omega arith) lc low)
   where
     low : r % 16 ≡ (a % 16 + m % 16 + c) % 16
     low = omega arith
+
+    -- the carry out of the low halves p and q, and s their sum
+    half : (p q c s : ℕ) → p < 16 → q < 16 → c ≤ 1 → s ≡ (p + q + c) % 16 → h_of_sum (leb 8 p) (leb 8 q) (leb 8 s) ≡ leb 16 (p + q + c)
+    half p q c s lp lq lc e = go (leb 8 p) (leb 8 q) (leb 8 s) refl refl refl
+      where
+        set : 16 ≤ p + q + c → true ≡ leb 16 (p + q + c)
+        set h = sym (le-leb 16 (p + q + c) h)
+
+        clear : p + q + c < 16 → false ≡ leb 16 (p + q + c)
+        clear h = sym (lt-leb 16 (p + q + c) h)
+
+        go : (t u w : Bool) → leb 8 p ≡ t → leb 8 q ≡ u → leb 8 s ≡ w → h_of_sum t u w ≡ leb 16 (p + q + c)
+        go true true w f g h = set (omega (arith, leb-true, leb-false))
+        go true false true f g h = clear (omega (arith, leb-true, leb-false))
+        go true false false f g h = set (omega (arith, leb-true, leb-false))
+        go false true true f g h = clear (omega (arith, leb-true, leb-false))
+        go false true false f g h = set (omega (arith, leb-true, leb-false))
+        go false false true f g h = clear (omega (arith, leb-true, leb-false))
+        go false false false f g h = clear (omega (arith, leb-true, leb-false))
