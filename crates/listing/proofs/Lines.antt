@@ -3,12 +3,11 @@
 use Prim.Native.Nat.{ℕ, ◌+◌, ◌-◌, ◌≤◌, ◌<◌}
 use Prim.Native.Char.{code}
 use mathlib.Core.Path.{◌≡◌, refl, sym, ap, ◌∙◌}
-use mathlib.Core.Bool.{Bool, true, false, cond}
 use mathlib.Core.List.{List, [], ◌∷◌, ◌++◌, append_assoc}
 use native.Mathlib.Omega.{arith}
 use borrow.Author.Tests.{eq-eqb}
-use lib.ListN.{length, drop, replicate, length-append}
-use lib.Seq.{sets, drop_at}
+use lib.ListN.{length, replicate, length-append}
+use lib.Seq.{sets}
 use Rattle.answers.specs.Numbers.{number_of}
 use Rattle.answers.specs.declared.Refusal.{Refusal}
 use Rattle.answers.proofs.Numbers.{numbers-small}
@@ -21,14 +20,12 @@ use Rattle.memory.specs.Map.{byte_at}
 use Rattle.registers.specs.ConditionCodes.{ascii}
 use Rattle.decode.specs.declared.instruction.Decoded.{Decoded}
 use Rattle.decode.specs.declared.instruction.Decoded.TheVariants.{Instruction as Taken, Refused as NotDecoded}
-use Rattle.decode.specs.declared.instruction.Instruction.{Instruction}
 use Rattle.disassembly.specs.Figures.{byte_text}
-use Rattle.disassembly.specs.Line.{space, line_length, columns, line_with, instruction_line}
+use Rattle.disassembly.specs.Line.{space, columns, line_with, instruction_line}
 use Rattle.disassembly.specs.Disassembly.{legible, answered, disassembled_of, written_to, line_after}
-use Rattle.disassembly.specs.declared.Disassembled.{Disassembled}
 use Rattle.disassembly.specs.declared.Disassembled.TheVariants.{Line, Refused}
 use Rattle.disassembly.proofs.Columns.{columns-length, laid, line-length}
-use Rattle.disassembly.proofs.Laws.{Room, room, legible-taken, text-of-48}
+use Rattle.disassembly.proofs.Laws.{room, legible-taken, text-of-48}
 use Rattle.listing.specs.Listing.{refused_text, refused_at, line_from, next_from}
 
 -- ---- four texts over a blank line

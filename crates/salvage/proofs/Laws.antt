@@ -1,6 +1,6 @@
 -- The lines of a file and those of what is written of it; that it reads; and what comes back of a sound file.
 -- Assumes nothing.
-use Prim.Native.Nat.{ℕ, ◌+◌, ◌≤◌, ◌<◌}
+use Prim.Native.Nat.{ℕ, ◌+◌, ◌≤◌}
 use native.Mathlib.Omega.{arith}
 use mathlib.Core.Path.{◌≡◌, refl, sym, ap, ◌∙◌}
 use mathlib.Core.Bool.{Bool, true, false, cond, not, ◌||◌}
@@ -8,10 +8,8 @@ use mathlib.Core.List.{List, [], ◌∷◌, ◌++◌, append_assoc, append-nil, 
 use lib.Dec.{eqb}
 use lib.ListN.{length}
 use borrow.Author.Tests.{eq-eqb}
-use Rattle.answers.specs.declared.Answer.{Answer}
 use Rattle.answers.specs.declared.Answer.TheVariants.{Done, Refused}
 use Rattle.answers.specs.declared.Refusal.{Refusal}
-use Rattle.srecord.specs.Layout.{line_text}
 use Rattle.srecord.specs.Line.{Meaning, heading, piece, start, refused, line_of}
 use Rattle.srecord.specs.File.{in_front_of, lines_of, meanings_of, judged, loaded_of}
 use Rattle.srecord.specs.declared.Loaded.{Loaded}
@@ -21,7 +19,7 @@ use Rattle.srecord.proofs.Exact.{line-exact}
 use Rattle.srecord.proofs.Back.{first-cut}
 use Rattle.salvage.specs.Lines.{fate_of, is_end, has_end, sift, sifted, gathered}
 use Rattle.salvage.specs.Mended.{kept_text, end_line, end_if, kept_of, is_added, mended, number_if_dropped, dropped_number, dropped_numbers}
-use Rattle.salvage.specs.Laws.{line_if_kept, kept_line, kept_lines, Parted, over, keeps, lists, LinesParted, LinesWritten, Rising, NumbersRise, AlwaysReads, SoundBack, SoundAsIs}
+use Rattle.salvage.specs.Laws.{line_if_kept, kept_line, kept_lines, Parted, over, keeps, lists, LinesParted, LinesWritten, Rising, NumbersRise, AlwaysReads, SoundAsIs}
 use Rattle.salvage.specs.declared.Fate.{Fate}
 use Rattle.salvage.specs.declared.Fate.TheVariants.{Keep, Drop}
 

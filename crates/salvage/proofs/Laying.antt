@@ -1,16 +1,16 @@
 -- What `put_lines` has laid before a cursor, and what is left.
 -- Assumes nothing.
-use Prim.Native.Nat.{ℕ, ◌+◌, ◌-◌, ◌*◌, ◌≤◌, ◌<◌}
+use Prim.Native.Nat.{ℕ, ◌+◌, ◌-◌, ◌*◌, ◌≤◌}
 use native.Mathlib.Omega.{arith}
 use mathlib.Core.Path.{◌≡◌, refl, sym, ap, ◌∙◌}
 use mathlib.Core.Bool.{false}
-use mathlib.Core.List.{List, [], ◌∷◌, ◌++◌}
+use mathlib.Core.List.{List, [], ◌∷◌}
 use lib.ListN.{length, take, drop, length-append}
 use lib.Seq.{sets, length-sets}
 use Rattle.answers.specs.declared.Refusal.{Refusal}
 use Rattle.machine.specs.Record.{bytes as low_bytes, counter}
 use Rattle.srecord.proofs.Laying.{sets-two}
-use Rattle.salvage.specs.Lines.{gathered, sifted}
+use Rattle.salvage.specs.Lines.{gathered}
 use Rattle.salvage.specs.Mended.{kept_text, dropped_number, kept_of, dropped_numbers, in_bytes, number_bytes}
 use Rattle.salvage.specs.declared.Fate.TheVariants.{Keep, Drop}
 use Rattle.salvage.specs.declared.Cursor.{Cursor}

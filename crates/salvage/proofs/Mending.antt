@@ -4,20 +4,19 @@ use Prim.Native.Nat.{ℕ, ◌+◌, ◌*◌, ◌≤◌, ◌<◌}
 use native.Mathlib.Omega.{arith}
 use mathlib.Core.Path.{◌≡◌, refl, sym, ap, ◌∙◌}
 use mathlib.Core.Bool.{Bool, true, false, cond, ◌||◌}
-use mathlib.Core.List.{List, [], ◌∷◌, ◌++◌}
+use mathlib.Core.List.{List, [], ◌∷◌}
 use lib.Dec.{leb, ltb}
 use lib.ListN.{length, replicate, length-append, length-replicate}
 use lib.Seq.{sets}
 use borrow.Author.Tests.{le-leb, lt-leb, ltb-false}
 use Rattle.answers.specs.Numbers.{number_of}
 use Rattle.answers.specs.declared.Answer.{Answer}
-use Rattle.answers.specs.declared.Answer.TheVariants.{Done, Refused}
-use Rattle.answers.specs.declared.Refusal.{Refusal}
+use Rattle.answers.specs.declared.Answer.TheVariants.{Refused}
 use Rattle.answers.specs.declared.Refusal.TheVariants.{SalvageShort, Malformed}
 use Rattle.text.specs.Lines.{alone}
 use Rattle.salvage.specs.Lines.{Sifted, sifted, gathered}
 use Rattle.salvage.specs.Mended.{is_added, mended, dropped_number, dropped_numbers, number_bytes, is_short, salvaged_not, salvaged_of, output_mended}
-use Rattle.salvage.specs.Printed.{longest, dropped_text, added_if, report_text, no_numbers, mend_answer, output_printed, error_text, printed_of, PrintedFits, MendFits}
+use Rattle.salvage.specs.Printed.{longest, dropped_text, report_text, no_numbers, mend_answer, output_printed, error_text, printed_of, PrintedFits, MendFits}
 use Rattle.salvage.specs.declared.Fate.{Fate}
 use Rattle.salvage.specs.declared.Fate.TheVariants.{Keep, Drop}
 use Rattle.salvage.specs.declared.mended.Salvaged.{Salvaged}

@@ -1,19 +1,18 @@
 -- What `count` has counted before a cursor, and what is left.
 -- Assumes nothing.
-use Prim.Native.Nat.{ℕ, ◌+◌, ◌-◌, ◌≤◌, ◌<◌}
+use Prim.Native.Nat.{ℕ, ◌+◌, ◌-◌, ◌≤◌}
 use native.Mathlib.Omega.{arith}
 use mathlib.Core.Path.{◌≡◌, refl, sym, ap, ◌∙◌}
-use mathlib.Core.Bool.{Bool, false}
-use mathlib.Core.List.{List, ◌∷◌, ◌++◌}
+use mathlib.Core.Bool.{false}
+use mathlib.Core.List.{List}
 use lib.ListN.{length, take, drop, length-append}
 use Rattle.answers.specs.declared.Refusal.{Refusal}
 use Rattle.srecord.specs.File.{lines_of}
-use Rattle.salvage.specs.Lines.{has_end, gathered, sifted}
+use Rattle.salvage.specs.Lines.{has_end, gathered}
 use Rattle.salvage.specs.Mended.{kept_text, dropped_number, kept_of, dropped_numbers, tally_of}
 use Rattle.salvage.specs.declared.Fate.TheVariants.{Keep, Drop}
 use Rattle.salvage.specs.declared.Cursor.{Cursor}
 use Rattle.salvage.specs.declared.Turn.{Turn}
-use Rattle.salvage.specs.declared.mended.Tally.{Tally}
 use Rattle.salvage.proofs.Walk.{rest, ends, Turned, line-length, kept-text, kept-number, dropped-text, dropped-number, none, no_end}
 
 pub record Counted (file : List ℕ) (at : Cursor) (bytes numbers : ℕ) : Type 0 where

@@ -11,9 +11,8 @@ use Rattle.answers.specs.declared.Refusal.{Refusal}
 use Rattle.srecord.specs.Line.{line_of}
 use Rattle.srecord.specs.File.{lines_of, line_end}
 use Rattle.srecord.proofs.Lines.{line-fits, next-text}
-use Rattle.salvage.specs.Lines.{fate_of, is_end, has_end, Sifted, sift, gathered, line_at, turn_of}
+use Rattle.salvage.specs.Lines.{is_end, has_end, Sifted, sift, gathered, line_at, turn_of}
 use Rattle.salvage.specs.Mended.{kept_text, dropped_number}
-use Rattle.salvage.specs.declared.Fate.{Fate}
 use Rattle.salvage.specs.declared.Fate.TheVariants.{Keep, Drop}
 use Rattle.salvage.specs.declared.Cursor.{Cursor}
 use Rattle.salvage.specs.declared.Turn.{Turn}

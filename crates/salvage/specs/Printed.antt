@@ -1,7 +1,7 @@
 -- What a person gets of a salvage: the mended text on standard output, and on standard error a line `dropped 3 21` for each line that is
 -- dropped, its number and that of its refusal, and a last line `added S9030000FC` where S9 is added.
 -- Assumes nothing.
-use Rattle.std.specs.Prelude.{ℕ, ◌+◌, ◌*◌, ◌≤◌, Bool, cond, List, [], ◌∷◌, ◌++◌, leb, length, replicate}
+use Rattle.std.specs.Prelude.{ℕ, ◌+◌, ◌*◌, ◌≤◌, Bool, cond, List, [], ◌++◌, leb, length, replicate}
 use Rattle.answers.specs.Numbers.{number_of}
 use Rattle.answers.specs.declared.Answer.{Answer}
 use Rattle.answers.specs.declared.Answer.TheVariants.{Done, Refused}

@@ -1,6 +1,6 @@
 -- What the disassembly told, or the line of its refusal.
 -- Assumes nothing.
-use mathlib.Core.Path.{◌≡◌, refl, sym, ◌∙◌}
+use mathlib.Core.Path.{refl, sym, ◌∙◌}
 use native.Mathlib.Omega.{arith}
 use Rattle.listing.proofs.Lines.{told_line, told-refusal}
 use Rattle.listing.proofs.line_at.Goals as goal

@@ -1,12 +1,11 @@
 -- The invariant: the lines left, laid after the text so far, make the whole text. The measure is the number of lines left.
 -- Assumes nothing.
-use Prim.Native.Nat.{◌*◌, ◌≤◌, ◌<◌}
 use mathlib.Core.Path.{sym, ap, ◌∙◌}
 use native.Mathlib.Omega.{arith}
 use lib.ListN.{length}
 use Rattle.listing.specs.Listing.{listing}
 use Rattle.listing.proofs.Lines.{line-of-49}
-use Rattle.listing.proofs.Going.{ToGo, at_first, turn, finished, fewer}
+use Rattle.listing.proofs.Going.{at_first, turn, finished, fewer}
 use Rattle.listing.proofs.put_lines.Goals as goal
 
 pub loop-left-init : goal.loop-left-init

@@ -1,12 +1,8 @@
 -- The invariant: the lines left, laid after the text so far, make the whole text. The measure is the number of lines left.
 -- Assumes nothing.
-use Prim.Native.Nat.{◌*◌, ◌≤◌, ◌<◌}
-use mathlib.Core.Path.{sym, ap, ◌∙◌}
-use native.Mathlib.Omega.{arith}
-use lib.ListN.{length}
+use Prim.Native.Nat.{◌<◌}
 use Rattle.listing.specs.Listing.{listing}
-use Rattle.listing.proofs.Lines.{line-of-49}
-use Rattle.listing.proofs.Going.{ToGo, at_first, turn, finished, fewer}
+use Rattle.listing.proofs.Going.{ToGo}
 use Rattle.listing.proofs.put_lines.Given as goal
 
 abbrev pub invariant-loop-left : goal.invariant-loop-left

@@ -1,7 +1,7 @@
 -- After S9 every line is dropped; before it by what `line_of` answers.
 -- Assumes nothing.
 use Prim.Native.Nat.{◌≤◌, ◌<◌}
-use mathlib.Core.Path.{◌≡◌, sym, ◌∙◌}
+use mathlib.Core.Path.{sym, ◌∙◌}
 use native.Mathlib.Omega.{arith}
 use lib.ListN.{length}
 use Rattle.srecord.proofs.Lines.{line-fits}

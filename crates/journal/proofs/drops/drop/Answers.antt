@@ -27,16 +27,16 @@ pub shift-requires : goal.shift-requires
 shift-requires c =
     let a = c.args in
     let h = walked-within a.journal.now a.twin.bytes a.k _ (sym c.in-At.is ∙ c.walk.ensures) in
-    omega (arith, h, c.if1.false)
+    omega (arith, h, c.if-bytes-journal.false)
 
 pub returns-in-Broken : goal.returns-in-Broken
 returns-in-Broken c = λ memory.
     let a = c.args in
     let s = in_hand memory a.journal.now a.twin in
-    drop-refused a.k s _ c.refused-in-Broken.result (drop-broken a.k s c.if1.false c.if2.false (sym c.in-Broken.is ∙ c.walk.ensures)) c.refused-in-Broken.ensures
+    drop-refused a.k s _ c.refused-in-Broken.result (drop-broken a.k s c.if-bytes-journal.false c.if-k-records.false (sym c.in-Broken.is ∙ c.walk.ensures)) c.refused-in-Broken.ensures
 
 pub returns-in-At : goal.returns-in-At
 returns-in-At c = λ memory.
     let a = c.args in
     let s = in_hand memory a.journal.now a.twin in
-    drop-done a.k s c.if1.false c.if2.false _ _ c.none.result (sym c.in-At.is ∙ c.walk.ensures) c.shift.ensures c.none.ensures
+    drop-done a.k s c.if-bytes-journal.false c.if-k-records.false _ _ c.none.result (sym c.in-At.is ∙ c.walk.ensures) c.shift.ensures c.none.ensures

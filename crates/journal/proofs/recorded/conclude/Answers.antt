@@ -25,7 +25,7 @@ returns-then-journal-bytes c =
 pub write_record-requires : goal.write_record-requires
 write_record-requires c =
     let a = c.args in
-    let n = c.count_entries.ensures in
+    let n = c.count_entries-n.ensures in
     (n.1 a.mem.now, (n.0, (omega arith, c.requires.0)))
 
 pub returns-in-Refused : goal.returns-in-Refused
@@ -40,13 +40,13 @@ unfolding record_for
 returns-else-journal-bytes c =
     let a = c.args in
     let s = in_hand a.mem.now a.journal.now a.twin in
-    let d = c.enum_told.given.1 in
-    let r = c.record-length.ensures in
-    let z = record-size a.settings a.plan s _ _ (c.count_entries.ensures.1 a.mem.now) r in
-    let room : a.twin.bytes + length (record_for a.settings a.plan s) ≤ length a.journal.now = omega (arith, z, c.if1.false, c.requires.1.0) in
+    let d = c.in-Done.is in
+    let r = c.record_length-size.ensures in
+    let z = record-size a.settings a.plan s _ _ (c.count_entries-n.ensures.1 a.mem.now) r in
+    let room : a.twin.bytes + length (record_for a.settings a.plan s) ≤ length a.journal.now = omega (arith, z, c.if-journal-bytes.false, c.requires.1.0) in
     let w = c.carry_out-report.ensures in
     let m = ap (λ (x : Report). x.machine) w.0 in
     rw m
     (recorded-leaves a.settings a.plan s _ _ _ _ _ _ a.plan.answer
     (plan-fits a.settings a.plan s d room) d z (ap (λ (x : Report). x.devices) w.0) (ap (λ (x : Report). x.reads) w.0) (ap (λ (x : Report). x.writes) w.0) w.1
-    (placed a.twin.bytes (record_length c.count_entries.result) (record_for a.settings a.plan s) a.journal.now c.write_record.new.rest (sym r ∙ z) (omega (arith, r, z, room)) c.write_record.ensures))
+    (placed a.twin.bytes (record_length c.count_entries-n.result) (record_for a.settings a.plan s) a.journal.now c.write_record.new.rest (sym r ∙ z) (omega (arith, r, z, room)) c.write_record.ensures))

@@ -63,7 +63,7 @@ pub returns-else-i-count : goal.returns-else-i-count
 returns-else-i-count c =
     let a = c.args in
     let l = c.loop-i in
-    let e = all-taken a.writes.list l.i a.writes.count l.invariant.1.0 l.invariant.0 (inl (ltb-false _ _ c.if-i-count.false)) in
+    let e = all-taken a.writes.list l.i a.writes.count l.invariant.1.0 l.invariant.0 (inl c.if-i-count.false) in
     let s = saved-twelve a.ram_top a.writes.list l.i [] l.invariant.1.0 l.invariant.0.0 in
     (omega (arith, s, l.invariant.1.1 [], l.invariant.0.0), λ mem. l.invariant.1.1 mem ∙ rw e)
 

@@ -9,4 +9,4 @@ pub returns : goal.returns
 returns c =
     let a = c.args in
     let k = c.record_plan.ensures in
-    record { leaves = outside-so a.which a.settings _ _ _ _ (rw c.plan_outside-plan.ensures at k.0); typed = k.1 }
+    record { leaves = outside-so a.which a.settings _ _ _ _ (rw c.plan_outside-plan.ensures at k.leaves); typed = k.typed }

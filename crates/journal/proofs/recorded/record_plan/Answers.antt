@@ -15,9 +15,9 @@ conclude-requires c =
 pub returns-in-Refused : goal.returns-in-Refused
 returns-in-Refused c =
     let a = c.args in
-    let s = in_hand a.mem.now a.journal.now a.twin in record { leaves = called-refused a.settings a.plan s _ c.refused.result (sym c.admits.ensures ∙ c.in-Refused.is) c.refused.ensures; typed = typed a.mem.now a.journal.now a.twin _ (search rules) (λ i. (c.type_inv.mem i).fits) }
+    let s = in_hand a.mem.now a.journal.now a.twin in record { leaves = called-refused a.settings a.plan s _ c.refused.result (sym c.admits.ensures ∙ c.in-Refused.is) c.refused.ensures; typed = typed a.mem.now a.journal.now a.twin _ c.well_formed.1.1.0 (λ i. (c.slice_known-1.given i).fits) }
 
 pub returns-in-Done : goal.returns-in-Done
 returns-in-Done c =
     let a = c.args in
-    let s = in_hand a.mem.now a.journal.now a.twin in record { leaves = called-done a.settings a.plan s _ _ _ (sym c.admits.ensures ∙ c.in-Done.is) c.conclude.ensures; typed = typed a.mem.now a.journal.now a.twin _ (search rules) (λ i. (c.type_inv.mem i).fits) }
+    let s = in_hand a.mem.now a.journal.now a.twin in record { leaves = called-done a.settings a.plan s _ _ _ (sym c.admits.ensures ∙ c.in-Done.is) c.conclude.ensures; typed = typed a.mem.now a.journal.now a.twin _ c.well_formed.1.1.0 (λ i. (c.slice_known-1.given i).fits) }

@@ -72,7 +72,7 @@ pub returns-else-i-count : goal.returns-else-i-count
 returns-else-i-count c =
     let w = c.args.writes in
     let l = c.loop-i in
-    let e = all-taken w.list l.i w.count l.invariant.1.0 l.invariant.0 (inl (ltb-false _ _ c.if-i-count.false)) in
+    let e = all-taken w.list l.i w.count l.invariant.1.0 l.invariant.0 (inl c.if-i-count.false) in
     rw (← e) l.invariant.1.1.1.1
 
 pub shape_of-rest-after-loop-i : goal.shape_of-rest-after-loop-i

@@ -39,9 +39,9 @@ returns-then-journal-bytes c =
 pub write_told-requires : goal.write_told-requires
 write_told-requires c =
     let a = c.args in
-    let z = c.record-length.ensures in
-    let left = c.if1.false in
-    ((c.requires.0.0, c.requires.0.1), ((rw c.n.given.1 at (c.count-told.ensures a.twin.machine a.mem.now)).1, (omega arith, λ m. (rw c.n.given.1 at (c.count-told.ensures m a.mem.now)).2)))
+    let z = c.record_length-size.ensures in
+    let left = c.if-journal-bytes.false in
+    ((c.requires.0.0, c.requires.0.1), ((rw c.in-Entries.is at (c.count_told.ensures a.twin.machine a.mem.now)).1, (omega arith, λ m. (rw c.in-Entries.is at (c.count_told.ensures m a.mem.now)).2)))
 
 pub returns-in-Refused : goal.returns-in-Refused
 returns-in-Refused c =
@@ -58,10 +58,10 @@ returns-else-journal-bytes c =
     let a = c.args in
     let s = in_hand a.mem.now a.journal.now a.twin in
     let p = plan_told a.twin.machine a.settings a.mem.now a.decision in
-    let k = rw c.n.given.1 at (c.count-told.ensures a.twin.machine a.mem.now) in
-    let r = c.record-length.ensures in
+    let k = rw c.in-Entries.is at (c.count_told.ensures a.twin.machine a.mem.now) in
+    let r = c.record_length-size.ensures in
     let z = record-size a.settings p s _ _ k.2 r in
-    let room : a.twin.bytes + length (record_for a.settings p s) ≤ length a.journal.now = omega (arith, z, c.if1.false, c.requires.1.0) in
+    let room : a.twin.bytes + length (record_for a.settings p s) ≤ length a.journal.now = omega (arith, z, c.if-journal-bytes.false, c.requires.1.0) in
     let f = plain-free a.twin.machine a.settings a.mem.now a.decision c.requires.0.1 in
     let w = rw f at c.carry-report.ensures in
     let d = c.none-devices.ensures ∙ ap writes_of (sym (quiet_told a.twin.machine a.settings a.mem.now a.decision c.requires.0.1)) in
@@ -69,4 +69,4 @@ returns-else-journal-bytes c =
     rw m
     (recorded-leaves a.settings p s _ _ _ _ _ _ _
     (plan-fits a.settings p s k.0 room) refl z d (ap (λ (x : Report). x.reads) w.0) (ap (λ (x : Report). x.writes) w.0) w.1
-    (placed a.twin.bytes (record_length c.n.given.0.0) (record_for a.settings p s) a.journal.now c.write_told.new.rest (sym r ∙ z) (omega (arith, r, z, room)) (c.write_told.ensures a.twin.machine)))
+    (placed a.twin.bytes (record_length c.in-Entries.n) (record_for a.settings p s) a.journal.now c.write_told.new.rest (sym r ∙ z) (omega (arith, r, z, room)) (c.write_told.ensures a.twin.machine)))

@@ -17,7 +17,7 @@ pub returns-in-Running : goal.returns-in-Running
 returns-in-Running c =
     let a = c.args in
     let s = in_hand a.mem.now a.journal.now a.twin in
-    let e = ap (fenced a.settings a.twin.machine) c.decide-decision.ensures ∙ sym (running-plan a.mem.now a.twin.machine a.settings c.requires.0 c.enum_told.given.1) in
+    let e = ap (fenced a.settings a.twin.machine) c.decide-decision.ensures ∙ sym (running-plan a.mem.now a.twin.machine a.settings c.requires.0 c.in-Running.is) in
     rw e at c.record_decided.ensures
 
 pub returns-in-Cwai : goal.returns-in-Cwai

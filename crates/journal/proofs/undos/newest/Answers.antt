@@ -9,23 +9,38 @@ use Rattle.journal.proofs.Answers.{no_bytes, last-low, last-high, no_record, is-
 use Rattle.journal.proofs.undos.newest.Goals as goal
 
 pub returns-then-bytes-journal : goal.returns-then-bytes-journal
-returns-then-bytes-journal c = view-12 _ _ _ _ c.if1.true
+returns-then-bytes-journal c =
+    let a = c.args in
+    let v = view-12 a.journal.now a.bytes a.records a.journal.ref_ptr c.if-bytes-journal.true in
+    record { result_value = v.0; ref_ptr_value = v.1 }
 
 pub returns-then-records-eq0 : goal.returns-then-records-eq0
-returns-then-records-eq0 c = view-11 _ _ _ _ c.if2.true
+returns-then-records-eq0 c =
+    let a = c.args in
+    let v = view-11 a.journal.now a.bytes a.records a.journal.ref_ptr c.if-records-eq0.true in
+    record { result_value = v.0; ref_ptr_value = v.1 }
 
 pub returns-then-bytes-eq0 : goal.returns-then-bytes-eq0
-returns-then-bytes-eq0 c = view-unsound _ _ _ _ (no_bytes _ _ c.if3.true)
+returns-then-bytes-eq0 c =
+    let a = c.args in
+    let v = view-unsound a.journal.now a.bytes a.records a.journal.ref_ptr (no_bytes _ _ c.if-bytes-eq0.true) in
+    record { result_value = v.0; ref_ptr_value = v.1 }
 
 -- the last byte is a byte
 pub overflow_cast-size : goal.overflow_cast-size
 overflow_cast-size c = omega (arith, c.type_inv.journal (c.args.bytes - 1))
 
 pub returns-then-size-lt-SHORTEST : goal.returns-then-size-lt-SHORTEST
-returns-then-size-lt-SHORTEST c = view-unsound _ _ _ _ (last-low _ _ c.if4.true)
+returns-then-size-lt-SHORTEST c =
+    let a = c.args in
+    let v = view-unsound a.journal.now a.bytes a.records a.journal.ref_ptr (last-low _ _ c.if-size-lt-SHORTEST.true) in
+    record { result_value = v.0; ref_ptr_value = v.1 }
 
 pub returns-then-size-bytes : goal.returns-then-size-bytes
-returns-then-size-bytes c = view-unsound _ _ _ _ (last-high _ _ c.if5.true)
+returns-then-size-bytes c =
+    let a = c.args in
+    let v = view-unsound a.journal.now a.bytes a.records a.journal.ref_ptr (last-high _ _ c.if-size-bytes.true) in
+    record { result_value = v.0; ref_ptr_value = v.1 }
 
 pub is_record-requires : goal.is_record-requires
 is_record-requires c =
@@ -45,5 +60,6 @@ returns-then-is_record c =
 pub returns : goal.returns
 returns c =
     let a = c.args in
-    let p = part-is a.journal.now a.bytes c.if5.false in
-    view-unsound _ _ _ _ (no_record a.journal.now a.bytes (rw p at (sym c.is-record.ensures ∙ c.if6.false)))
+    let p = part-is a.journal.now a.bytes c.if-size-bytes.false in
+    let v = view-unsound a.journal.now a.bytes a.records a.journal.ref_ptr (no_record a.journal.now a.bytes (rw p at (sym c.is_record.ensures ∙ c.if-is_record.false))) in
+    record { result_value = v.0; ref_ptr_value = v.1 }

@@ -12,26 +12,26 @@ pub returns-then-mem-ne65536 : goal.returns-then-mem-ne65536
 returns-then-mem-ne65536 c =
     let a = c.args in
     let s = in_hand a.mem.now a.journal.now a.twin in
-    record { leaves = undo-refused s _ c.refused.result (undo-1 s c.if-mem-ne65536.true) c.refused.ensures; typed = typed a.mem.now a.journal.now a.twin _ (search rules) (λ i. (c.type_inv.mem i).fits) }
+    record { leaves = undo-refused s _ c.refused.result (undo-1 s c.if-mem-ne65536.true) c.refused.ensures; typed = typed a.mem.now a.journal.now a.twin _ c.well_formed.1.1.0 (λ i. (c.slice_known-1.given i).fits) }
 
 pub returns-then-bytes-journal : goal.returns-then-bytes-journal
 returns-then-bytes-journal c =
     let a = c.args in
     let s = in_hand a.mem.now a.journal.now a.twin in
-    record { leaves = undo-refused s _ c.refused-then-bytes-journal.result (undo-12 s c.if-mem-ne65536.false c.if-bytes-journal.true) c.refused-then-bytes-journal.ensures; typed = typed a.mem.now a.journal.now a.twin _ (search rules) (λ i. (c.type_inv.mem i).fits) }
+    record { leaves = undo-refused s _ c.refused-then-bytes-journal.result (undo-12 s c.if-mem-ne65536.false c.if-bytes-journal.true) c.refused-then-bytes-journal.ensures; typed = typed a.mem.now a.journal.now a.twin _ c.well_formed.1.1.0 (λ i. (c.slice_known-1.given i).fits) }
 
 pub returns-then-records-eq0 : goal.returns-then-records-eq0
 returns-then-records-eq0 c =
     let a = c.args in
     let s = in_hand a.mem.now a.journal.now a.twin in
-    record { leaves = undo-refused s _ c.refused-then-records-eq0.result (undo-11 s c.if-mem-ne65536.false c.if-bytes-journal.false c.if-records-eq0.true) c.refused-then-records-eq0.ensures; typed = typed a.mem.now a.journal.now a.twin _ (search rules) (λ i. (c.type_inv.mem i).fits) }
+    record { leaves = undo-refused s _ c.refused-then-records-eq0.result (undo-11 s c.if-mem-ne65536.false c.if-bytes-journal.false c.if-records-eq0.true) c.refused-then-records-eq0.ensures; typed = typed a.mem.now a.journal.now a.twin _ c.well_formed.1.1.0 (λ i. (c.slice_known-1.given i).fits) }
 
 pub returns-then-size-eq0 : goal.returns-then-size-eq0
 returns-then-size-eq0 c =
     let a = c.args in
     let s = in_hand a.mem.now a.journal.now a.twin in
     let n = newest-none a.journal.now a.twin.bytes c.if-bytes-journal.false a.twin.records (omega arith) _ c.newest-r.ensures.result_value c.if-size-eq0.true in
-    record { leaves = undo-refused s _ c.refused-then-size-eq0.result (undo-record s c.if-mem-ne65536.false c.if-bytes-journal.false (omega arith) n) c.refused-then-size-eq0.ensures; typed = typed a.mem.now a.journal.now a.twin _ (search rules) (λ i. (c.type_inv.mem i).fits) }
+    record { leaves = undo-refused s _ c.refused-then-size-eq0.result (undo-record s c.if-mem-ne65536.false c.if-bytes-journal.false (omega arith) n) c.refused-then-size-eq0.ensures; typed = typed a.mem.now a.journal.now a.twin _ c.well_formed.1.1.0 (λ i. (c.slice_known-1.given i).fits) }
 
 pub bounds-r-32 : goal.bounds-r-32
 bounds-r-32 c =
@@ -65,4 +65,4 @@ returns c =
     let a = c.args in
     let s = in_hand a.mem.now a.journal.now a.twin in
     let n = newest-some a.journal.now a.twin.bytes c.if-bytes-journal.false a.twin.records (omega arith) _ c.newest-r.ensures.result_value (omega arith) in
-    record { leaves = undo-done s c.if-mem-ne65536.false c.if-bytes-journal.false (omega arith) _ _ _ c.none.result n c.machine_of-machine.ensures c.put_back.ensures c.none.ensures; typed = typed a.mem.now a.journal.now a.twin _ (search rules) (λ i. (c.type_inv.mem i).fits) }
+    record { leaves = undo-done s c.if-mem-ne65536.false c.if-bytes-journal.false (omega arith) _ _ _ c.none.result n c.machine_of-machine.ensures c.put_back.ensures c.none.ensures; typed = typed a.mem.now a.journal.now a.twin _ c.well_formed.1.1.0 (λ i. (c.slice_known-1.given i).fits) }

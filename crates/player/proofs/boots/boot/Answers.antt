@@ -1,5 +1,8 @@
 -- The head is judged as the definition judges it: its length, then flags.
 -- Assumes nothing.
+use native.Mathlib.Omega.{arith}
+use Rattle.std.proofs.Common.{◌≢◌}
+use Rattle.player.specs.Boots.{flag_byte}
 use Rattle.player.proofs.Booting.{short-head, too_long, tail, other-flags, as-bought, by-manual}
 use Rattle.player.proofs.boots.boot.Goals as goal
 
@@ -23,5 +26,7 @@ returns-in-1 c =
 
 pub returns-in_default : goal.returns-in_default
 returns-in_default c =
-    let r = c.in_default.in_default-own.rest in
-    rw (other-flags c.args.input.now c.if-input-lt-HEAD.false c.if-input-gt-LONGEST.false r.0.1 r.1) c.put_refusal-in_default.ensures
+    let l = c.args.input.now in
+    let f : flag_byte l ≢ 0 = omega arith in
+    let g : flag_byte l ≢ 1 = omega arith in
+    rw (other-flags l c.if-input-lt-HEAD.false c.if-input-gt-LONGEST.false f g) c.put_refusal-in_default.ensures

@@ -1,11 +1,8 @@
 -- The loop's invariant: what is counted and what is left make the whole (`Counted`).
 -- Assumes nothing.
-use Prim.Native.Nat.{◌-◌}
-use mathlib.Core.Path.{sym, ◌∙◌}
 use native.Mathlib.Omega.{arith}
-use lib.ListN.{length}
 use Rattle.salvage.proofs.Walk.{Turned, turned}
-use Rattle.salvage.proofs.Tallies.{Counted, at_first, keeps, drops, at_last}
+use Rattle.salvage.proofs.Tallies.{at_first, keeps, drops, at_last}
 use Rattle.salvage.proofs.mended.count.Goals as goal
 use Rattle.salvage.proofs.mended.count.Goals.{After-next-turned}
 

@@ -1,7 +1,6 @@
 -- The line that is added has 11 bytes.
 -- Assumes nothing.
 use borrow.Author.Rules.{rules}
-use mathlib.Core.Path.{refl}
 use Rattle.srecord.specs.Layout.{pairs, line_text}
 use Rattle.salvage.proofs.mended.end_length.Goals as goal
 

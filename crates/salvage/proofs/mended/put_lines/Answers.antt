@@ -1,11 +1,9 @@
 -- The loop's invariant: what is laid, and then what is left, is the whole (`Laid`).
 -- Assumes nothing.
-use Prim.Native.Nat.{◌-◌}
-use mathlib.Core.Path.{◌≡◌, refl, sym, ap, ◌∙◌}
+use mathlib.Core.Path.{◌∙◌}
 use native.Mathlib.Omega.{arith}
-use lib.ListN.{length}
 use Rattle.salvage.proofs.Walk.{Turned, turned}
-use Rattle.salvage.proofs.Laying.{Laid, at_first, keeps, room-left, drops, at_last}
+use Rattle.salvage.proofs.Laying.{at_first, keeps, room-left, drops, at_last}
 use Rattle.salvage.proofs.mended.put_lines.Goals as goal
 use Rattle.salvage.proofs.mended.put_lines.Goals.{After-next-turned}
 

@@ -1,8 +1,7 @@
 -- By what is too short: the output for the kept lines, or for S9 after them, or the list; else all is written.
 -- Assumes nothing.
-use mathlib.Core.Path.{◌≡◌, sym, ◌∙◌}
+use mathlib.Core.Path.{◌∙◌}
 use native.Mathlib.Omega.{arith}
-use lib.ListN.{length}
 use Rattle.salvage.proofs.Calls.{numbers-same, no_room, no-list, accepts}
 use Rattle.salvage.proofs.mended.salvage.Goals as goal
 

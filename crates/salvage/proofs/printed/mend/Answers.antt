@@ -1,6 +1,5 @@
 -- Too long, refused, done.
 -- Assumes nothing.
-use mathlib.Core.Path.{◌≡◌, sym, ◌∙◌}
 use Rattle.salvage.proofs.Mending.{too_long, told}
 use Rattle.salvage.proofs.printed.mend.Goals as goal
 

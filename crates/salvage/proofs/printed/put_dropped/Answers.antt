@@ -1,12 +1,6 @@
 -- Its four parts, one after the other.
 -- Assumes nothing.
-use Prim.Native.Nat.{◌≤◌}
-use mathlib.Core.Path.{◌≡◌, sym, ap, ◌∙◌}
-use native.Mathlib.Omega.{arith}
-use lib.ListN.{length}
-use Rattle.answers.specs.Numbers.{number_of}
-use Rattle.text.proofs.Decimals.{at-most-twenty}
-use Rattle.salvage.proofs.Telling.{said-decimal, said-alone, alone-short, dropped-put}
+use Rattle.salvage.proofs.Telling.{said-decimal, said-alone, dropped-put}
 use Rattle.salvage.proofs.printed.put_dropped.Goals as goal
 
 pub returns : goal.returns
