@@ -6,22 +6,25 @@ mod line;
 mod printed;
 mod scene;
 
-use libc::STDIN_FILENO;
 use line::LINE;
+use std::io;
 
 // Reads one scene, plays it, and says whether there may be more.
-fn play_next() -> bool {
+fn play_next(rt: &HostRuntime) -> io::Result<bool> {
     let mut line = [0u8; LINE];
-    if io::read_full(STDIN_FILENO, &mut line) < LINE {
-        return false;
+    if streams::read_full(&mut rt.stdin(), &mut line)? < LINE {
+        return Ok(false);
     }
-    scene::play(&line)
+    scene::play(rt, &line)?;
+    Ok(true)
 }
 
-// A proved loop has to end, and nothing says that the input does: the turns count down from a number that no run uses up.
-fn main() {
-    let mut turns = u64::MAX;
-    while turns > 0 && play_next() {
-        turns -= 1;
+// A proved loop has to end, and nothing says that the input does: there are more turns than any run uses up.
+fn main(rt: HostRuntime) -> io::Result<()> {
+    for _ in 0..u64::MAX {
+        if !play_next(&rt)? {
+            break;
+        }
     }
+    Ok(())
 }

@@ -3,10 +3,10 @@ ghost use Rattle.std.specs.Prelude.{◌<◌, ◌≤◌};
 
 use super::line::{Line, word_at};
 use journal::{Outcome, Twin};
-use libc::STDOUT_FILENO;
 use machine::{Machine, Wait};
 use memory::Writes;
 use runs::RunOutcome;
+use std::io;
 
 const OUT: usize = 125;
 
@@ -155,12 +155,18 @@ fn put_shown(out: &mut [u8], shown: Shown) {
     put_counts(out, twin, shown.reads, shown.writes);
 }
 
-fn write(out: &[u8; OUT]) -> bool {
-    io::write_all(STDOUT_FILENO, out)
+fn write(rt: &HostRuntime, out: &[u8; OUT]) -> io::Result<()> {
+    rt.write_all(out)
 }
 
 // The line, over a form of zeros; the sums of memory and journal where the scene ends in D.
-pub fn show(mem: &[u8], journal: &[u8], line: &Line, shown: Shown) -> bool {
+pub fn show(
+    rt: &HostRuntime,
+    mem: &[u8],
+    journal: &[u8],
+    line: &Line,
+    shown: Shown,
+) -> io::Result<()> {
     let mut out = [b'0'; OUT];
     text::put(
         &mut out,
@@ -174,5 +180,5 @@ pub fn show(mem: &[u8], journal: &[u8], line: &Line, shown: Shown) -> bool {
         put_sum(&mut out, 107, mem);
         put_sum(&mut out, 116, journal);
     }
-    write(&out)
+    write(rt, &out)
 }

@@ -7,6 +7,7 @@ use super::{line, printed};
 use answers::Answer;
 use journal::{Outcome, Twin};
 use memory::Writes;
+use std::io;
 
 const BYTES: usize = 0x10000;
 
@@ -50,26 +51,33 @@ fn count_of(line: &Line) -> usize
 }
 
 // The first run of the line, or the second, and its line.
-fn run_one(mem: &mut [u8], journal: &mut [u8], line: &Line, twin: Twin, i: usize) -> Twin
+fn run_one(
+    rt: &HostRuntime,
+    mem: &mut [u8],
+    journal: &mut [u8],
+    line: &Line,
+    twin: Twin,
+    i: usize,
+) -> io::Result<Twin>
     requires { i ≤ 1 }
 {
     let allowance = line::long_at(line, 142 + 23 * i);
     let stop = line::stop_at(line, 159 + 23 * i);
     let ran = runs::run(mem, journal, twin, line::settings(line), allowance, stop);
-    printed::show(mem, journal, line, printed::of_run(ran));
-    ran.twin
+    printed::show(rt, mem, journal, line, printed::of_run(ran))?;
+    Ok(ran.twin)
 }
 
 // All are made at one call site.
-fn run_all(mem: &mut [u8], journal: &mut [u8], line: &Line) -> Twin {
+fn run_all(rt: &HostRuntime, mem: &mut [u8], journal: &mut [u8], line: &Line) -> io::Result<Twin> {
     let mut twin = start(line);
     let count = count_of(line);
     let mut i: usize = 0;
     while i < count {
-        twin = run_one(mem, journal, line, twin, i);
+        twin = run_one(rt, mem, journal, line, twin, i)?;
         i += 1;
     }
-    twin
+    Ok(twin)
 }
 
 // Undo until it is refused.
@@ -95,26 +103,32 @@ fn undo_all(mem: &mut [u8], journal: &[u8], twin: Twin) -> Shown {
 }
 
 // The undos, unless the line ends in 1 or 2.
-fn end(mem: &mut [u8], journal: &[u8], line: &Line, twin: Twin) -> bool {
+fn end(
+    rt: &HostRuntime,
+    mem: &mut [u8],
+    journal: &[u8],
+    line: &Line,
+    twin: Twin,
+) -> io::Result<()> {
     if (line[188] == b'1') | (line[188] == b'2') {
-        return true;
+        return Ok(());
     }
     let shown = undo_all(mem, journal, twin);
-    printed::show(mem, journal, line, shown)
+    printed::show(rt, mem, journal, line, shown)
 }
 
-fn play_in(mem: &mut [u8], journal: &mut [u8], line: &Line) -> bool {
+fn play_in(rt: &HostRuntime, mem: &mut [u8], journal: &mut [u8], line: &Line) -> io::Result<()> {
     put(mem, CODE, line, 50, 16);
     put(mem, line::word_at(line, 83), line, 88, 4);
-    let twin = run_all(mem, journal, line);
-    end(mem, journal, line, twin)
+    let twin = run_all(rt, mem, journal, line)?;
+    end(rt, mem, journal, line, twin)
 }
 
 // Plays a scene in fresh memory with a fresh journal.
-pub fn play(line: &Line) -> bool {
+pub fn play(rt: &HostRuntime, line: &Line) -> io::Result<()> {
     let mut mem = [0u8; BYTES];
     let mut journal = [0u8; BYTES];
     let bytes = line::length_at(line, 97);
     let room = line::word_at(line, 103) as usize;
-    play_in(&mut mem[..bytes], &mut journal[..room], line)
+    play_in(rt, &mut mem[..bytes], &mut journal[..room], line)
 }

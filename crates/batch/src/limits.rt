@@ -1,34 +1,35 @@
 // Calls at the limits of memory and output.
 use super::printed::{print, print_answer};
+use std::io;
 
 // A memory of 65,535 bytes is read into and written from.
-fn short_memory() {
+fn short_memory(rt: &HostRuntime) -> io::Result<()> {
     let mut mem = [1u8; 65535];
     let loaded = srecord::read(&mut mem, b"S9030000FC\n");
     let answer = loaded.answer;
-    print_answer(answer, loaded.start);
+    print_answer(rt, answer, loaded.start)?;
     let mut text = [b'.'; 86];
     let written = srecord::write(&[1u8; 65535], 0, &mut text);
     let answer = written.answer;
-    print_answer(answer, 0);
+    print_answer(rt, answer, 0)
 }
 
 // A memory whose last byte alone is not zero, written into a part and printed with it.
-fn write_into(out: &mut [u8]) {
+fn write_into(rt: &HostRuntime, out: &mut [u8]) -> io::Result<()> {
     let mut mem = [0u8; 65536];
     mem[65535] = 255;
     let written = srecord::write(&mem, 0x1234, out);
     let answer = written.answer;
-    print_answer(answer, 0);
-    print(out);
+    print_answer(rt, answer, 0)?;
+    print(rt, out)
 }
 
 // Its text of 86 characters goes into an output of 85, of 86 and of 88.
-pub fn answer() {
-    short_memory();
-    write_into(&mut [b'.'; 85]);
-    print(b"\n");
-    write_into(&mut [b'.'; 86]);
-    write_into(&mut [b'.'; 88]);
-    print(b"\n");
+pub fn answer(rt: &HostRuntime) -> io::Result<()> {
+    short_memory(rt)?;
+    write_into(rt, &mut [b'.'; 85])?;
+    print(rt, b"\n")?;
+    write_into(rt, &mut [b'.'; 86])?;
+    write_into(rt, &mut [b'.'; 88])?;
+    print(rt, b"\n")
 }

@@ -7,8 +7,8 @@ mod printed;
 
 ghost use Rattle.std.specs.Prelude.{◌+◌, ◌≤◌};
 
-use libc::STDIN_FILENO;
 use printed::{print_answer, print_first};
+use std::io;
 
 const BYTES: usize = 0x10000;
 
@@ -21,61 +21,62 @@ const LINES: usize = 0x8_8000;
 // The longest text of a memory: 2,048 rows of 75 characters, and the S9 line.
 const RECORDS: usize = 153611;
 
-fn print_lines(text: &[u8; LINES], n: usize) {
-    printed::print_count(n);
-    print_first(text, n);
+fn print_lines(rt: &HostRuntime, text: &[u8; LINES], n: usize) -> io::Result<()> {
+    printed::print_count(rt, n)?;
+    print_first(rt, text, n)
 }
 
-fn play(file: &[u8]) {
+fn play(rt: &HostRuntime, file: &[u8]) -> io::Result<()> {
     let mut out = [0u8; LINES];
     let n = player::play(file, &mut out);
-    print_lines(&out, n);
+    print_lines(rt, &out, n)
 }
 
-fn boot(input: &[u8]) {
+fn boot(rt: &HostRuntime, input: &[u8]) -> io::Result<()> {
     let mut out = [0u8; LINES];
     let n = player::boot(input, &mut out);
-    print_lines(&out, n);
+    print_lines(rt, &out, n)
 }
 
-fn print_records(text: &[u8; RECORDS], n: usize) {
-    print_first(text, n);
+fn print_records(rt: &HostRuntime, text: &[u8; RECORDS], n: usize) -> io::Result<()> {
+    print_first(rt, text, n)
 }
 
 // A memory of this length and an output of this one are never refused.
-fn print_memory(mem: &[u8; BYTES], start: u16) {
+fn print_memory(rt: &HostRuntime, mem: &[u8; BYTES], start: u16) -> io::Result<()> {
     let mut out = [0u8; RECORDS];
     let written = srecord::write(mem, start, &mut out);
-    print_records(&out, written.count);
+    print_records(rt, &out, written.count)
 }
 
 // The file is read over a zeroed memory.
-fn load(file: &[u8]) {
+fn load(rt: &HostRuntime, file: &[u8]) -> io::Result<()> {
     let mut mem = [0u8; BYTES];
     let loaded = srecord::read(&mut mem, file);
     let answer = loaded.answer;
     let start = loaded.start;
-    print_answer(answer, start);
-    print_memory(&mem, start);
+    print_answer(rt, answer, start)?;
+    print_memory(rt, &mem, start)
 }
 
-fn answer(kind: u8, input: &[u8]) {
+fn answer(rt: &HostRuntime, kind: u8, input: &[u8]) -> io::Result<()> {
     match kind {
-        b'R' => play(input),
-        b'S' => boot(input),
-        b'I' => load(input),
-        _ => limits::answer(),
+        b'R' => play(rt, input),
+        b'S' => boot(rt, input),
+        b'I' => load(rt, input),
+        _ => limits::answer(rt),
     }
 }
 
-fn answer_first(kind: u8, input: &[u8], n: usize) {
+fn answer_first(rt: &HostRuntime, kind: u8, input: &[u8], n: usize) -> io::Result<()> {
     if n <= input.len() {
-        answer(kind, &input[..n]);
+        return answer(rt, kind, &input[..n]);
     }
+    Ok(())
 }
 
-fn answer_input(kind: u8, input: &[u8; INPUT], n: usize) {
-    answer_first(kind, input, n);
+fn answer_input(rt: &HostRuntime, kind: u8, input: &[u8; INPUT], n: usize) -> io::Result<()> {
+    answer_first(rt, kind, input, n)
 }
 
 fn byte_at(head: &[u8; 8], at: usize) -> usize
@@ -90,30 +91,32 @@ fn length_of(head: &[u8; 8]) -> usize {
     (byte_at(head, 1) * 256 + byte_at(head, 3)) * 256 + byte_at(head, 5)
 }
 
-fn read_first(input: &mut [u8], n: usize) -> usize {
+fn read_first(rt: &HostRuntime, input: &mut [u8], n: usize) -> io::Result<usize> {
     if n <= input.len() {
-        io::read_full(STDIN_FILENO, &mut input[..n])
+        streams::read_full(&mut rt.stdin(), &mut input[..n])
     } else {
-        0
+        Ok(0)
     }
 }
 
 // Reads one input, answers it, and says whether there may be more.
-fn answer_next() -> bool {
+fn answer_next(rt: &HostRuntime) -> io::Result<bool> {
     let mut head = [0u8; 8];
-    if io::read_full(STDIN_FILENO, &mut head) < 8 {
-        return false;
+    if streams::read_full(&mut rt.stdin(), &mut head)? < 8 {
+        return Ok(false);
     }
     let mut input = [0u8; INPUT];
-    let n = read_first(&mut input, length_of(&head));
-    answer_input(head[0], &input, n);
-    true
+    let n = read_first(rt, &mut input, length_of(&head))?;
+    answer_input(rt, head[0], &input, n)?;
+    Ok(true)
 }
 
-// A proved loop has to end, and nothing says that the input does: the turns count down from a number that no run uses up.
-fn main() {
-    let mut turns = u64::MAX;
-    while turns > 0 && answer_next() {
-        turns -= 1;
+// A proved loop has to end, and nothing says that the input does: there are more turns than any run uses up.
+fn main(rt: HostRuntime) -> io::Result<()> {
+    for _ in 0..u64::MAX {
+        if !answer_next(&rt)? {
+            break;
+        }
     }
+    Ok(())
 }

@@ -1,25 +1,23 @@
 // What is printed.
 use answers::Answer;
-use libc::STDOUT_FILENO;
+use std::io;
 
-pub fn print(text: &[u8]) {
-    io::write_all(STDOUT_FILENO, text);
+pub fn print(rt: &HostRuntime, text: &[u8]) -> io::Result<()> {
+    rt.write_all(text)
 }
 
-pub fn print_first(text: &[u8], n: usize) {
+pub fn print_first(rt: &HostRuntime, text: &[u8], n: usize) -> io::Result<()> {
     if n <= text.len() {
-        print(&text[..n]);
+        return print(rt, &text[..n]);
     }
+    Ok(())
 }
 
-pub fn print_count(n: usize) {
-    io::print_decimal(STDOUT_FILENO, n as u64);
-    print(b"\n");
+pub fn print_count(rt: &HostRuntime, n: usize) -> io::Result<()> {
+    println!(rt; "{n}")
 }
 
-pub fn print_answer(answer: Answer, start: u16) {
-    io::print_decimal(STDOUT_FILENO, answer.number() as u64);
-    print(b" ");
-    io::print_hex(STDOUT_FILENO, start as u64, 4);
-    print(b"\n");
+pub fn print_answer(rt: &HostRuntime, answer: Answer, start: u16) -> io::Result<()> {
+    let number = answer.number();
+    println!(rt; "{number} {start:04x}")
 }

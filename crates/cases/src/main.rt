@@ -16,12 +16,12 @@ mod table;
 mod values;
 
 ghost use Rattle.std.specs.Prelude.{◌+◌, ◌<◌, ◌≤◌, length};
-ghost use Rattle.io.specs.Counts.{IsPrefixLen};
+ghost use Rattle.streams.specs.Counts.{IsPrefixLen};
 
 use case::{Case, Reply};
-use libc::{STDIN_FILENO, STDOUT_FILENO};
 use lines::{BLOCK, LINE, Lines, ROOM, Reading};
 use machine_memory::{BYTES, Memory};
+use std::io;
 
 // `table` has refused every number that is no function's, so the last arm here and in each group is the last that is left.
 fn answer(case: Case, mem: &mut Memory) -> Reply {
@@ -82,20 +82,23 @@ fn answer_block(lines: &Lines, n: usize, mem: &mut Memory, out: &mut [u8]) -> us
 }
 
 // Reads a block of lines, writes their answers, and says whether there may be more.
-fn answer_some(mem: &mut Memory) -> bool {
+fn answer_some(rt: &HostRuntime, mem: &mut Memory) -> io::Result<bool> {
     let mut lines = [0u8; BLOCK];
-    let n = io::read_full(STDIN_FILENO, &mut lines);
+    let n = streams::read_full(&mut rt.stdin(), &mut lines)?;
     let mut out = [0u8; ROOM];
     let end = answer_block(&lines, n, mem, &mut out);
-    io::write_all(STDOUT_FILENO, &out[..end]) && n == BLOCK
+    rt.write_all(&out[..end])?;
+    Ok(n == BLOCK)
 }
 
-// A proved loop has to end, and nothing says that the input does: the turns count down from a number that no run uses up.
-fn main() {
+// A proved loop has to end, and nothing says that the input does: there are more turns than any run uses up.
+fn main(rt: HostRuntime) -> io::Result<()> {
     let mut mem = [0u8; BYTES];
     machine_memory::fill(&mut mem);
-    let mut turns = u64::MAX;
-    while turns > 0 && answer_some(&mut mem) {
-        turns -= 1;
+    for _ in 0..u64::MAX {
+        if !answer_some(&rt, &mut mem)? {
+            break;
+        }
     }
+    Ok(())
 }

@@ -6,8 +6,8 @@ ghost use Rattle.std.specs.Prelude.{◌<◌};
 
 use costing::Memory;
 use journal::Twin;
-use libc::{STDIN_FILENO, STDOUT_FILENO};
 use machine::{Machine, Settings};
+use std::io;
 
 // 70 bytes for each of 10,000 records: none is longer.
 const ROOM: usize = 700_000;
@@ -58,15 +58,15 @@ fn run(mem: &mut Memory, calls: u8, count: u32, most: u32) -> Twin
     twin
 }
 
-fn write(out: &[u8; 4]) -> bool {
-    io::write_all(STDOUT_FILENO, out)
+fn write(rt: &HostRuntime, out: &[u8; 4]) -> io::Result<()> {
+    rt.write_all(out)
 }
 
-fn main() {
+fn main(rt: HostRuntime) -> io::Result<()> {
     let mut head = [0u8; costing::HEAD];
-    let _ = io::read_full(STDIN_FILENO, &mut head);
+    let _ = streams::read_full(&mut rt.stdin(), &mut head)?;
     let mut code = [0u8; costing::LOOP];
-    let _ = io::read_full(STDIN_FILENO, &mut code);
+    let _ = streams::read_full(&mut rt.stdin(), &mut code)?;
     let mut mem = [0u8; costing::BYTES];
     costing::fill(&mut mem, &code);
     let twin = run(
@@ -75,5 +75,5 @@ fn main() {
         costing::count_of(head),
         costing::batch_of(head),
     );
-    let _ = write(&costing::report(twin.machine, twin.records));
+    write(&rt, &costing::report(twin.machine, twin.records))
 }

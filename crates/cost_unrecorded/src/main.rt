@@ -3,8 +3,8 @@
 #![tactic(auto)]
 
 use costing::Memory;
-use libc::{STDIN_FILENO, STDOUT_FILENO};
 use machine::Machine;
+use std::io;
 
 fn steps(mem: &mut Memory, machine: Machine, count: u32) -> Machine {
     let settings = costing::settings();
@@ -18,17 +18,17 @@ fn steps(mem: &mut Memory, machine: Machine, count: u32) -> Machine {
     current
 }
 
-fn write(out: &[u8; 4]) -> bool {
-    io::write_all(STDOUT_FILENO, out)
+fn write(rt: &HostRuntime, out: &[u8; 4]) -> io::Result<()> {
+    rt.write_all(out)
 }
 
-fn main() {
+fn main(rt: HostRuntime) -> io::Result<()> {
     let mut head = [0u8; costing::HEAD];
-    let _ = io::read_full(STDIN_FILENO, &mut head);
+    let _ = streams::read_full(&mut rt.stdin(), &mut head)?;
     let mut code = [0u8; costing::LOOP];
-    let _ = io::read_full(STDIN_FILENO, &mut code);
+    let _ = streams::read_full(&mut rt.stdin(), &mut code)?;
     let mut mem = [0u8; costing::BYTES];
     costing::fill(&mut mem, &code);
     let machine = steps(&mut mem, costing::start(), costing::count_of(head));
-    let _ = write(&costing::report(machine, 0));
+    write(&rt, &costing::report(machine, 0))
 }

@@ -3,9 +3,9 @@ ghost use Rattle.std.specs.Prelude.{◌≤◌};
 
 use super::calling::Called;
 use super::line::{Line, has_sums, word_at};
-use libc::STDOUT_FILENO;
 use machine::{Machine, Wait};
 use memory::Writes;
+use std::io;
 
 const OUT: usize = 97;
 
@@ -96,12 +96,19 @@ fn put_called(out: &mut [u8], called: Called) {
     put_decimal(out, 69, twin.bytes as u64);
 }
 
-fn write(out: &[u8; OUT]) -> bool {
-    io::write_all(STDOUT_FILENO, out)
+fn write(rt: &HostRuntime, out: &[u8; OUT]) -> io::Result<()> {
+    rt.write_all(out)
 }
 
 // The line, over a form of zeros.
-pub fn show(mem: &[u8], journal: &[u8], line: &Line, letter: u8, called: Called) -> bool {
+pub fn show(
+    rt: &HostRuntime,
+    mem: &[u8],
+    journal: &[u8],
+    line: &Line,
+    letter: u8,
+    called: Called,
+) -> io::Result<()> {
     let mut out = [b'0'; OUT];
     text::put(
         &mut out,
@@ -115,5 +122,5 @@ pub fn show(mem: &[u8], journal: &[u8], line: &Line, letter: u8, called: Called)
         put_sum(&mut out, 79, mem);
         put_sum(&mut out, 88, journal);
     }
-    write(&out)
+    write(rt, &out)
 }

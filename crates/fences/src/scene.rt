@@ -5,6 +5,7 @@ use super::calling::Called;
 use super::line::{Line, OPERATIONS};
 use super::{calling, line, printed};
 use journal::Twin;
+use std::io;
 
 const BYTES: usize = 0x10000;
 
@@ -34,57 +35,59 @@ fn put(mem: &mut [u8], at: u16, line: &Line, from: usize, count: usize)
 
 // A call, and its line.
 fn act(
+    rt: &HostRuntime,
     mem: &mut [u8],
     journal: &mut [u8],
     line: &Line,
     twin: Twin,
     second: bool,
     letter: u8,
-) -> Twin {
+) -> io::Result<Twin> {
     let settings = line::settings(line, second);
     let called: Called = calling::call(mem, journal, line, twin, settings, letter);
-    printed::show(mem, journal, line, letter, called);
-    called.twin
+    printed::show(rt, mem, journal, line, letter, called)?;
+    Ok(called.twin)
 }
 
 // `p` is no call: from there on the second profile holds. There is nothing to do for `-`.
 fn turn(
+    rt: &HostRuntime,
     mem: &mut [u8],
     journal: &mut [u8],
     line: &Line,
     twin: Twin,
     second: bool,
     letter: u8,
-) -> Twin {
+) -> io::Result<Twin> {
     if letter == b'p' || letter == b'-' {
-        return twin;
+        return Ok(twin);
     }
-    act(mem, journal, line, twin, second, letter)
+    act(rt, mem, journal, line, twin, second, letter)
 }
 
-fn act_all(mem: &mut [u8], journal: &mut [u8], line: &Line) {
+fn act_all(rt: &HostRuntime, mem: &mut [u8], journal: &mut [u8], line: &Line) -> io::Result<()> {
     let mut twin = line::twin(line);
     let mut second = false;
     let mut i: usize = 0;
     while i < 8 {
         let letter = line[OPERATIONS + i];
         second = second | (letter == b'p');
-        twin = turn(mem, journal, line, twin, second, letter);
+        twin = turn(rt, mem, journal, line, twin, second, letter)?;
         i += 1;
     }
+    Ok(())
 }
 
-fn play_in(mem: &mut [u8], journal: &mut [u8], line: &Line) {
+fn play_in(rt: &HostRuntime, mem: &mut [u8], journal: &mut [u8], line: &Line) -> io::Result<()> {
     put(mem, CODE, line, 52, 12);
     put(mem, line::word_at(line, 77), line, 82, 4);
-    act_all(mem, journal, line);
+    act_all(rt, mem, journal, line)
 }
 
 // Plays a scene in fresh memory with a fresh journal.
-pub fn play(line: &Line) -> bool {
+pub fn play(rt: &HostRuntime, line: &Line) -> io::Result<()> {
     let mut mem = [0u8; BYTES];
     let mut journal = [0u8; BYTES];
     let room = line::word_at(line, 91) as usize;
-    play_in(&mut mem, &mut journal[..room], line);
-    true
+    play_in(rt, &mut mem, &mut journal[..room], line)
 }

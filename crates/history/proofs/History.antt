@@ -96,14 +96,14 @@ pub record Tells (C : Contracts {0}) : Type 0 where
   pub forget : (k : ℕ) (s : State) (e : Ended) → C.forget k s e → e ≡ dropped k s
 
 tell-forward : (c : Call) (s : State) (e : Ended) → forwards c s e → (e ≡ call c s) × Typed s
-tell-forward (step t) s e m = (ends e _ m.post.leaves, m.post.typed)
-tell-forward (interrupt t i) s e m = (ends e _ m.post.leaves, m.post.typed)
-tell-forward (reset t) s e m = (ends e _ m.post.leaves, m.post.typed)
+tell-forward (step t) s e m = (ends e _ m.post.0, m.post.1)
+tell-forward (interrupt t i) s e m = (ends e _ m.post.0, m.post.1)
+tell-forward (reset t) s e m = (ends e _ m.post.0, m.post.1)
 
 pub tell : Tells generated
 tell = record {
   forward = tell-forward;
-  back = λ s e m. (ends e _ (subst (λ (j : List ℕ). Leaves (returned e) e.state.memory j (undone s)) (sym m.read_only) m.post.leaves), m.post.typed);
+  back = λ s e m. (ends e _ (subst (λ (j : List ℕ). Leaves (returned e) e.state.memory j (undone s)) (sym m.read_only) m.post.0), m.post.1);
   forget = λ k s e m. ends e _ (subst (λ (l : List ℕ). Leaves (returned e) l e.state.journal (dropped k s)) (sym m.not-lent) (m.post s.memory));
 }
 
@@ -112,9 +112,9 @@ somewhere : Lies
 somewhere = record { ptr = (0, 0); name = 0 }
 
 pub happens : Lfts 2 → (c : Call) (s : State) → Typed s → generated.forward c s (call c s)
-happens κs (step t) s h = record { κs = κs; mem = somewhere; jrn = somewhere; post = record { leaves = record { result = refl; memory-is = refl; journal-is = refl }; typed = h } }
-happens κs (interrupt t i) s h = record { κs = κs; mem = somewhere; jrn = somewhere; post = record { leaves = record { result = refl; memory-is = refl; journal-is = refl }; typed = h } }
-happens κs (reset t) s h = record { κs = κs; mem = somewhere; jrn = somewhere; post = record { leaves = record { result = refl; memory-is = refl; journal-is = refl }; typed = h } }
+happens κs (step t) s h = record { κs = κs; mem = somewhere; jrn = somewhere; post = (record { result = refl; memory-is = refl; journal-is = refl }, h) }
+happens κs (interrupt t i) s h = record { κs = κs; mem = somewhere; jrn = somewhere; post = (record { result = refl; memory-is = refl; journal-is = refl }, h) }
+happens κs (reset t) s h = record { κs = κs; mem = somewhere; jrn = somewhere; post = (record { result = refl; memory-is = refl; journal-is = refl }, h) }
 
 -- ---- at each point of a chain
 

@@ -1,7 +1,7 @@
 // What is printed of a call.
 use host::{HostOutcome, HostTwin};
 use host_run_recorded::HostStopped;
-use libc::STDOUT_FILENO;
+use std::io;
 
 // The last hexadecimal digit of n.
 fn letter(n: u8) -> u8 {
@@ -10,7 +10,7 @@ fn letter(n: u8) -> u8 {
 }
 
 // The low word of a number, in hexadecimal, in a line of its own.
-pub fn number(n: u64) -> bool {
+pub fn number(rt: &HostRuntime, n: u64) -> io::Result<()> {
     let high = (n / 256 % 256) as u8;
     let low = (n % 256) as u8;
     let out = [
@@ -20,15 +20,15 @@ pub fn number(n: u64) -> bool {
         letter(low),
         b'\n',
     ];
-    io::write_all(STDOUT_FILENO, &out)
+    rt.write_all(&out)
 }
 
-pub fn byte(n: u8) -> bool {
-    number(n as u64)
+pub fn byte(rt: &HostRuntime, n: u8) -> io::Result<()> {
+    number(rt, n as u64)
 }
 
 // The answer in two decimal digits, PC, CC, and the last digit of cycles.
-fn show(answer: u8, pc: u16, cc: u8, cycles: u8) -> bool {
+fn show(rt: &HostRuntime, answer: u8, pc: u16, cc: u8, cycles: u8) -> io::Result<()> {
     let high = (pc / 256) as u8;
     let low = (pc % 256) as u8;
     let out = [
@@ -46,25 +46,26 @@ fn show(answer: u8, pc: u16, cc: u8, cycles: u8) -> bool {
         letter(cycles),
         b'\n',
     ];
-    io::write_all(STDOUT_FILENO, &out)
+    rt.write_all(&out)
 }
 
 // The line of a call, and the twin after it.
-pub fn shown(outcome: HostOutcome) -> HostTwin {
+pub fn shown(rt: &HostRuntime, outcome: HostOutcome) -> io::Result<HostTwin> {
     let twin = outcome.twin;
     show(
+        rt,
         (outcome.answer % 100) as u8,
         twin.pc,
         twin.cc,
         (twin.cycles % 16) as u8,
-    );
-    twin
+    )?;
+    Ok(twin)
 }
 
 // The line of a run, why it ended, and the number of the step that was refused.
-pub fn stopped(ran: HostStopped) -> HostTwin {
-    let twin = shown(ran.outcome);
-    number(ran.reason);
-    number(ran.number);
-    twin
+pub fn stopped(rt: &HostRuntime, ran: HostStopped) -> io::Result<HostTwin> {
+    let twin = shown(rt, ran.outcome)?;
+    number(rt, ran.reason)?;
+    number(rt, ran.number)?;
+    Ok(twin)
 }

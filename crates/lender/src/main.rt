@@ -15,9 +15,9 @@ ghost use Rattle.lent.specs.Lending.{Returns};
 use answers::Answer;
 use journal::Twin;
 use lent::Returned;
-use libc::STDOUT_FILENO;
 use machine::Settings;
 use registers::Flags;
+use std::io;
 
 type Memory = [u8; 0x10000];
 
@@ -55,7 +55,7 @@ fn letter(n: u8) -> u8 {
     if d < 10 { b'0' + d } else { b'A' - 10 + d }
 }
 
-fn show(answer: Answer, twin: Twin, byte: u8) -> bool {
+fn show(rt: &HostRuntime, answer: Answer, twin: Twin, byte: u8) -> io::Result<()> {
     let number = answer.number();
     let machine = twin.machine;
     let regs = machine.regs;
@@ -76,26 +76,31 @@ fn show(answer: Answer, twin: Twin, byte: u8) -> bool {
         letter(byte),
         b'\n',
     ];
-    io::write_all(STDOUT_FILENO, &out)
+    rt.write_all(&out)
 }
 
-fn shown(returned: Returned, byte: u8) -> Twin {
+fn shown(rt: &HostRuntime, returned: Returned, byte: u8) -> io::Result<Twin> {
     let reported = returned.reported;
     let answer = reported.answer;
     let twin = returned.twin;
-    show(answer, twin, byte);
-    twin
+    show(rt, answer, twin, byte)?;
+    Ok(twin)
 }
 
-fn forward(twin: Twin, mem: &mut Memory, journal: &mut Journal) -> Twin {
+fn forward(
+    rt: &HostRuntime,
+    twin: Twin,
+    mem: &mut Memory,
+    journal: &mut Journal,
+) -> io::Result<Twin> {
     let settings = Settings::new(0x7FFF, Flags::Manual);
     let returned = step_owned(twin, mem, journal, settings);
-    shown(returned, mem[CELL])
+    shown(rt, returned, mem[CELL])
 }
 
-fn back(twin: Twin, mem: &mut Memory, journal: &Journal) -> Twin {
+fn back(rt: &HostRuntime, twin: Twin, mem: &mut Memory, journal: &Journal) -> io::Result<Twin> {
     let returned = undo_owned(twin, mem, journal);
-    shown(returned, mem[CELL])
+    shown(rt, returned, mem[CELL])
 }
 
 // A fresh machine at the program, with the byte to store.
@@ -110,15 +115,16 @@ fn start() -> Twin {
     twin
 }
 
-fn main() {
+fn main(rt: HostRuntime) -> io::Result<()> {
     let mut mem = [0u8; 0x10000];
     let mut journal = [0u8; 71];
     mem[0x0100] = 0x12;
     mem[0x0101] = 0xB7;
     mem[0x0102] = 0x02;
-    let first = forward(start(), &mut mem, &mut journal);
-    let second = forward(first, &mut mem, &mut journal);
-    let third = back(second, &mut mem, &journal);
-    let fourth = back(third, &mut mem, &journal);
-    back(fourth, &mut mem, &journal);
+    let first = forward(&rt, start(), &mut mem, &mut journal)?;
+    let second = forward(&rt, first, &mut mem, &mut journal)?;
+    let third = back(&rt, second, &mut mem, &journal)?;
+    let fourth = back(&rt, third, &mut mem, &journal)?;
+    back(&rt, fourth, &mut mem, &journal)?;
+    Ok(())
 }

@@ -4,7 +4,7 @@
 
 ghost use Rattle.std.specs.Prelude.{◌≡◌, ◌*◌, ◌≤◌, length};
 
-use libc::{STDIN_FILENO, STDOUT_FILENO};
+use std::io;
 
 // One byte more than the longest input, a head of five bytes and 1 MiB of text, so that a longer one is seen.
 const INPUT: usize = 0x10_0006;
@@ -32,10 +32,10 @@ fn list_into(input: &[u8], out: &mut [u8]) -> usize
     listing::list(input, out)
 }
 
-fn main() {
+fn main(rt: HostRuntime) -> io::Result<()> {
     let mut input = in_buffer();
-    let n = io::read_full(STDIN_FILENO, &mut input);
+    let n = streams::read_full(&mut rt.stdin(), &mut input)?;
     let mut out = out_buffer();
     let used = list_into(&input[..n], &mut out);
-    io::write_all(STDOUT_FILENO, &out[..used]);
+    rt.write_all(&out[..used])
 }

@@ -4,8 +4,8 @@
 
 ghost use Rattle.std.specs.Prelude.{◌≡◌, ◌+◌, ◌*◌, ◌≤◌, length};
 
-use libc::{STDERR_FILENO, STDIN_FILENO, STDOUT_FILENO};
 use salvage::Printed;
+use std::io;
 
 // One byte more than the longest file, 1 MiB, so that a longer one is seen.
 const INPUT: usize = 0x10_0001;
@@ -42,14 +42,14 @@ fn mend_into(input: &[u8], out: &mut [u8], report: &mut [u8]) -> Printed
     salvage::mend(input, out, report)
 }
 
-fn main() {
+fn main(rt: HostRuntime) -> io::Result<()> {
     let mut input = in_buffer();
-    let n = io::read_full(STDIN_FILENO, &mut input);
+    let n = streams::read_full(&mut rt.stdin(), &mut input)?;
     let mut out = out_buffer();
     let mut report = report_buffer();
     let printed = mend_into(&input[..n], &mut out, &mut report);
     let text = printed.text;
     let told = printed.report;
-    io::write_all(STDOUT_FILENO, &out[..text]);
-    io::write_all(STDERR_FILENO, &report[..told]);
+    rt.write_all(&out[..text])?;
+    rt.stderr().write_all(&report[..told])
 }

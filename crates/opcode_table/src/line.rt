@@ -1,5 +1,5 @@
 // A line of text that is put together and written at once.
-use libc::STDOUT_FILENO;
+use std::io;
 
 // The first `len` bytes count.
 #[derive(Clone, Copy)]
@@ -52,13 +52,14 @@ pub fn put_decimal(line: Line, n: u8) -> Line {
     put_text(line, &digits, number.len)
 }
 
-fn write_first(bytes: &[u8], n: usize) {
+fn write_first(rt: &HostRuntime, bytes: &[u8], n: usize) -> io::Result<()> {
     if n <= bytes.len() {
-        io::write_all(STDOUT_FILENO, &bytes[..n]);
+        return rt.write_all(&bytes[..n]);
     }
+    Ok(())
 }
 
-pub fn write(line: Line) {
+pub fn write(rt: &HostRuntime, line: Line) -> io::Result<()> {
     let bytes = line.bytes;
-    write_first(&bytes, line.len);
+    write_first(rt, &bytes, line.len)
 }

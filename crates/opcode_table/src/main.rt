@@ -6,6 +6,7 @@ mod line;
 
 use line::Line;
 use opcodes::{Entry, Mode, Page, Place};
+use std::io;
 
 fn put_mode(line: Line, mode: Mode) -> Line {
     match mode {
@@ -28,7 +29,7 @@ fn put_mnemonic(line: Line, entry: Entry) -> Line {
     line::put_text(line, &letters, name.len)
 }
 
-fn print_entry(prefix: u8, code: u8, entry: Entry) {
+fn print_entry(rt: &HostRuntime, prefix: u8, code: u8, entry: Entry) -> io::Result<()> {
     let mode = entry.mode;
     let mut out = line::put_hex(line::empty(), prefix);
     out = line::put_hex(line::put(out, b' '), code);
@@ -36,41 +37,43 @@ fn print_entry(prefix: u8, code: u8, entry: Entry) {
     out = put_mode(line::put(out, b' '), mode);
     out = line::put_decimal(line::put(out, b' '), entry.size);
     out = line::put_decimal(line::put(out, b' '), entry.cycles);
-    line::write(line::put(out, b'\n'));
+    line::write(rt, line::put(out, b'\n'))
 }
 
 // The prefix is the byte before the opcodes of the page, 00 where there is none. An empty place has no line.
-fn print_place(prefix: u8, code: u8, place: Place) {
+fn print_place(rt: &HostRuntime, prefix: u8, code: u8, place: Place) -> io::Result<()> {
     match place {
-        Place::Instruction(entry) => print_entry(prefix, code, entry),
-        Place::None => {}
+        Place::Instruction(entry) => print_entry(rt, prefix, code, entry),
+        Place::None => Ok(()),
     }
 }
 
-fn print_page(prefix: u8, places: [Place; 256]) {
+fn print_page(rt: &HostRuntime, prefix: u8, places: [Place; 256]) -> io::Result<()> {
     let mut code = 0;
     while code < 256 {
         let place = places[code];
-        print_place(prefix, code as u8, place);
+        print_place(rt, prefix, code as u8, place)?;
         code += 1;
     }
+    Ok(())
 }
 
-fn print_fields(prefix: u8, page: Page) {
+fn print_fields(rt: &HostRuntime, prefix: u8, page: Page) -> io::Result<()> {
     let mut code: u16 = 0;
     while code < 256 {
         let byte = code as u8;
-        print_place(prefix, byte, fields::place(page, byte));
+        print_place(rt, prefix, byte, fields::place(page, byte))?;
         code += 1;
     }
+    Ok(())
 }
 
-fn main() {
+fn main(rt: HostRuntime) -> io::Result<()> {
     let pages = pages::all();
-    print_page(0x00, pages[0]);
-    print_page(0x10, pages[1]);
-    print_page(0x11, pages[2]);
-    print_fields(0x00, Page::Plain);
-    print_fields(0x10, Page::Ten);
-    print_fields(0x11, Page::Eleven);
+    print_page(&rt, 0x00, pages[0])?;
+    print_page(&rt, 0x10, pages[1])?;
+    print_page(&rt, 0x11, pages[2])?;
+    print_fields(&rt, 0x00, Page::Plain)?;
+    print_fields(&rt, 0x10, Page::Ten)?;
+    print_fields(&rt, 0x11, Page::Eleven)
 }

@@ -4,7 +4,7 @@
 
 ghost use Rattle.std.specs.Prelude.{◌≡◌, ◌*◌, length};
 
-use libc::{STDIN_FILENO, STDOUT_FILENO};
+use std::io;
 
 // One byte more than the longest run file, so that a longer one is seen.
 const FILE: usize = 32769;
@@ -19,10 +19,10 @@ fn out_buffer() -> [u8; OUT]
     [0; OUT]
 }
 
-fn main() {
+fn main(rt: HostRuntime) -> io::Result<()> {
     let mut file = [0u8; FILE];
-    let n = io::read_full(STDIN_FILENO, &mut file);
+    let n = streams::read_full(&mut rt.stdin(), &mut file)?;
     let mut out = out_buffer();
     let used = player::play(&file[..n], &mut out);
-    io::write_all(STDOUT_FILENO, &out[..used]);
+    rt.write_all(&out[..used])
 }

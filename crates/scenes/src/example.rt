@@ -5,10 +5,10 @@ use super::start;
 use super::start::{BYTES, CODE};
 use answers::Answer;
 use calls::Report;
-use libc::STDOUT_FILENO;
 use machine::{Machine, Settings};
 use memory::Writes;
 use registers::{Flags, Set};
+use std::io;
 
 type Memory = [u8; BYTES];
 
@@ -86,13 +86,13 @@ fn printed(mem: &Memory, line: &Line, report: Report) -> [u8; OUT] {
     out
 }
 
-fn write(out: &[u8; OUT]) -> bool {
-    io::write_all(STDOUT_FILENO, out)
+fn write(rt: &HostRuntime, out: &[u8; OUT]) -> io::Result<()> {
+    rt.write_all(out)
 }
 
-// Runs one example in fresh memory, and says whether its line was written.
-pub fn answer(line: &Line) -> bool {
+// Runs one example in fresh memory, and writes its line.
+pub fn answer(rt: &HostRuntime, line: &Line) -> io::Result<()> {
     let mut mem = [0u8; BYTES];
     let report = run(&mut mem, line);
-    write(&printed(&mem, line, report))
+    write(rt, &printed(&mem, line, report))
 }

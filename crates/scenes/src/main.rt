@@ -8,42 +8,45 @@ mod printed;
 mod scene;
 mod start;
 
-use libc::{STDIN_FILENO, STDOUT_FILENO};
 use line::{EXAMPLE, LINE};
+use std::io;
 
 // The rest of a line that is no example is read.
-fn answer_scene(front: &[u8; EXAMPLE]) -> bool {
+fn answer_scene(rt: &HostRuntime, front: &[u8; EXAMPLE]) -> io::Result<()> {
     let mut rest = [0u8; LINE - EXAMPLE];
-    io::read_full(STDIN_FILENO, &mut rest);
+    let _ = streams::read_full(&mut rt.stdin(), &mut rest)?;
     let mut line = [0u8; LINE];
     text::put(&mut line, 0, front);
     text::put(&mut line, EXAMPLE, &rest);
     if line::is_scene(&line) {
-        scene::answer(&line)
+        scene::answer(rt, &line)
     } else {
-        io::write_all(STDOUT_FILENO, b"bad line\n")
+        rt.write_all(b"bad line\n")
     }
 }
 
 // Reads one line, answers it, and says whether there may be more.
-fn answer_next() -> bool {
+fn answer_next(rt: &HostRuntime) -> io::Result<bool> {
     let mut front = [0u8; EXAMPLE];
-    if io::read_full(STDIN_FILENO, &mut front) == 0 {
-        return false;
+    if streams::read_full(&mut rt.stdin(), &mut front)? == 0 {
+        return Ok(false);
     }
     let mut line = [0u8; LINE];
     text::put(&mut line, 0, &front);
     if line::is_example(&line) {
-        example::answer(&line)
+        example::answer(rt, &line)?;
     } else {
-        answer_scene(&front)
+        answer_scene(rt, &front)?;
     }
+    Ok(true)
 }
 
-// A proved loop has to end, and nothing says that the input does: the turns count down from a number that no run uses up.
-fn main() {
-    let mut turns = u64::MAX;
-    while turns > 0 && answer_next() {
-        turns -= 1;
+// A proved loop has to end, and nothing says that the input does: there are more turns than any run uses up.
+fn main(rt: HostRuntime) -> io::Result<()> {
+    for _ in 0..u64::MAX {
+        if !answer_next(&rt)? {
+            break;
+        }
     }
+    Ok(())
 }

@@ -7,10 +7,10 @@ use super::start;
 use super::start::BYTES;
 use answers::Answer;
 use journal::{Outcome, Twin};
-use libc::STDOUT_FILENO;
 use machine::{ARMED, HEADER, Machine, Settings, WAIT};
 use memory::Writes;
 use registers::Flags;
+use std::io;
 
 const OUT: usize = 226;
 
@@ -237,22 +237,22 @@ fn printed(mem: &[u8], journal: &[u8], line: &Line, ended: Ended) -> [u8; OUT] {
     out
 }
 
-fn write(out: &[u8; OUT]) -> bool {
-    io::write_all(STDOUT_FILENO, out)
+fn write(rt: &HostRuntime, out: &[u8; OUT]) -> io::Result<()> {
+    rt.write_all(out)
 }
 
-fn play(mem: &mut [u8], journal: &mut [u8], line: &Line) -> bool {
+fn play(rt: &HostRuntime, mem: &mut [u8], journal: &mut [u8], line: &Line) -> io::Result<()> {
     start::fill(mem, line, 46);
     let outcome = turns(mem, journal, line);
     let ended = end(mem, journal, outcome, line);
-    write(&printed(mem, journal, line, ended))
+    write(rt, &printed(mem, journal, line, ended))
 }
 
-// Plays one scene in fresh memory with a fresh journal, and says whether its line was written.
-pub fn answer(line: &Line) -> bool {
+// Plays one scene in fresh memory with a fresh journal, and writes its line.
+pub fn answer(rt: &HostRuntime, line: &Line) -> io::Result<()> {
     let mut mem = [0u8; BYTES];
     let mut journal = [0u8; BYTES];
     let bytes = length_at(line, 73);
     let room = word_at(line, 79) as usize;
-    play(&mut mem[..bytes], &mut journal[..room], line)
+    play(rt, &mut mem[..bytes], &mut journal[..room], line)
 }

@@ -2,8 +2,8 @@
 // text and the list (README.md has the form of both).
 #![tactic(auto)]
 
-use libc::{STDIN_FILENO, STDOUT_FILENO};
 use salvage::Salvaged;
+use std::io;
 
 // The longest file that is taken.
 const INPUT: usize = 0x4000;
@@ -11,58 +11,66 @@ const INPUT: usize = 0x4000;
 // The outputs and lists are this long at the most.
 const ROOM: usize = 0x4400;
 
-fn print(text: &[u8]) {
-    io::write_all(STDOUT_FILENO, text);
+fn print(rt: &HostRuntime, text: &[u8]) -> io::Result<()> {
+    rt.write_all(text)
 }
 
-fn print_number(n: usize) {
-    io::print_decimal(STDOUT_FILENO, n as u64);
-    print(b" ");
+fn print_number(rt: &HostRuntime, n: usize) -> io::Result<()> {
+    print!(rt; "{n} ")
 }
 
-fn print_result(salvaged: Salvaged) {
+fn print_result(rt: &HostRuntime, salvaged: Salvaged) -> io::Result<()> {
     let answer = salvaged.answer;
-    print_number(answer.number() as usize);
-    print_number(salvaged.bytes);
-    print_number(salvaged.numbers);
-    print_number(salvaged.added as usize);
-    print(b"\n");
+    print_number(rt, answer.number() as usize)?;
+    print_number(rt, salvaged.bytes)?;
+    print_number(rt, salvaged.numbers)?;
+    print_number(rt, salvaged.added as usize)?;
+    print(rt, b"\n")
 }
 
 // The file's text is at the front of an output of n dots, its numbers at the front of a list of m dots; all of both is printed.
-fn salvage_into(file: &[u8], out: &mut [u8], list: &mut [u8]) {
-    print_result(salvage::salvage(file, out, list));
-    print(out);
-    print(b"\n");
-    print(list);
-    print(b"\n");
+fn salvage_into(rt: &HostRuntime, file: &[u8], out: &mut [u8], list: &mut [u8]) -> io::Result<()> {
+    print_result(rt, salvage::salvage(file, out, list))?;
+    print(rt, out)?;
+    print(rt, b"\n")?;
+    print(rt, list)?;
+    print(rt, b"\n")
 }
 
-fn salvage_in(file: &[u8], out: &mut [u8], list: &mut [u8], n: usize, m: usize) {
+fn salvage_in(
+    rt: &HostRuntime,
+    file: &[u8],
+    out: &mut [u8],
+    list: &mut [u8],
+    n: usize,
+    m: usize,
+) -> io::Result<()> {
     if n <= out.len() {
         if m <= list.len() {
-            salvage_into(file, &mut out[..n], &mut list[..m]);
+            return salvage_into(rt, file, &mut out[..n], &mut list[..m]);
         }
     }
+    Ok(())
 }
 
-fn answer(file: &[u8], n: usize, m: usize) {
+fn answer(rt: &HostRuntime, file: &[u8], n: usize, m: usize) -> io::Result<()> {
     let mut out = [b'.'; ROOM];
     let mut list = [b'.'; ROOM];
-    salvage_in(file, &mut out, &mut list, n, m);
+    salvage_in(rt, file, &mut out, &mut list, n, m)
 }
 
-fn answer_first(input: &[u8], size: usize, n: usize, m: usize) {
+fn answer_first(rt: &HostRuntime, input: &[u8], size: usize, n: usize, m: usize) -> io::Result<()> {
     if size <= input.len() {
-        answer(&input[..size], n, m);
+        return answer(rt, &input[..size], n, m);
     }
+    Ok(())
 }
 
-fn read_first(input: &mut [u8], n: usize) -> usize {
+fn read_first(rt: &HostRuntime, input: &mut [u8], n: usize) -> io::Result<usize> {
     if n <= input.len() {
-        io::read_full(STDIN_FILENO, &mut input[..n])
+        streams::read_full(&mut rt.stdin(), &mut input[..n])
     } else {
-        0
+        Ok(0)
     }
 }
 
@@ -73,24 +81,26 @@ fn word(high: u8, next: u8, third: u8, low: u8) -> usize {
 
 // Reads one file, answers it, and says whether there may be more. Its head is three numbers of four digits, the file's length and those
 // of output and list, each with a blank or a line feed after it.
-fn answer_next() -> bool {
+fn answer_next(rt: &HostRuntime) -> io::Result<bool> {
     let mut head = [0u8; 15];
-    if io::read_full(STDIN_FILENO, &mut head) < 15 {
-        return false;
+    if streams::read_full(&mut rt.stdin(), &mut head)? < 15 {
+        return Ok(false);
     }
     let size = word(head[0], head[1], head[2], head[3]);
     let n = word(head[5], head[6], head[7], head[8]);
     let m = word(head[10], head[11], head[12], head[13]);
     let mut input = [0u8; INPUT];
-    let got = read_first(&mut input, size);
-    answer_first(&input, got, n, m);
-    true
+    let got = read_first(rt, &mut input, size)?;
+    answer_first(rt, &input, got, n, m)?;
+    Ok(true)
 }
 
-// A proved loop has to end, and nothing says that the input does: the turns count down from a number that no run uses up.
-fn main() {
-    let mut turns = u64::MAX;
-    while turns > 0 && answer_next() {
-        turns -= 1;
+// A proved loop has to end, and nothing says that the input does: there are more turns than any run uses up.
+fn main(rt: HostRuntime) -> io::Result<()> {
+    for _ in 0..u64::MAX {
+        if !answer_next(&rt)? {
+            break;
+        }
     }
+    Ok(())
 }

@@ -1,6 +1,6 @@
 -- Every text fits (`told-fits`).
 -- Assumes nothing.
-use native.Mathlib.Omega.{arith}
+use Rattle.std.proofs.Common.{arith}
 use Rattle.dump.proofs.Bounds.{told-fits}
 use Rattle.compare.proofs.tell_into.Goals as goal
 

@@ -1,10 +1,5 @@
--- `steps` is safe and ends. The measure is the number of steps that are left.
--- Assumes nothing.
-
+-- The measure is the number of steps that are left.
 use Rattle.cost_unrecorded.proofs.steps.Given as goal
-
-abbrev pub invariant-loop-left : goal.invariant-loop-left
-invariant-loop-left l = Unit {0}
 
 abbrev pub decreases-loop-left : goal.decreases-loop-left
 decreases-loop-left l = l.left

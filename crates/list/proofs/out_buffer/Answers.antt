@@ -1,6 +1,6 @@
 -- The length of an array that is too long to be counted.
 -- Assumes nothing.
-use Prim.Native.Nat.{◌*◌}
+use Rattle.std.proofs.Common.{◌*◌}
 use Rattle.listing.proofs.Bounds.{counted}
 use Rattle.list.proofs.out_buffer.Goals as goal
 

@@ -4,4 +4,4 @@ use Rattle.salvage.proofs.Mending.{counted}
 use Rattle.mend.proofs.in_buffer.Goals as goal
 
 pub returns : goal.returns
-returns c = counted (0x100001)
+returns c = counted 0x100001

@@ -5,6 +5,5 @@ use Rattle.mend.proofs.mend_into.Goals as goal
 
 pub returns : goal.returns
 returns c =
-    let a = c.args in
-    let h = mend-fits a.input.now a.out.now in
+    let h = mend-fits c.args.input.now c.args.out.now in
     rw c.mend.ensures.0 (h.text, h.report)

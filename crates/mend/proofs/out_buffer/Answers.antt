@@ -4,4 +4,4 @@ use Rattle.salvage.proofs.Mending.{counted}
 use Rattle.mend.proofs.out_buffer.Goals as goal
 
 pub returns : goal.returns
-returns c = counted (0x10000B)
+returns c = counted 0x10000B

@@ -1,10 +1,6 @@
--- `print_fields` is safe and ends. The measure is the number of opcodes that are left.
--- Assumes nothing.
-use Prim.Native.Nat.{◌-◌}
+-- The measure is the number of opcodes that are left.
+use Rattle.std.proofs.Common.{◌-◌}
 use Rattle.opcode_table.proofs.print_fields.Given as goal
-
-abbrev pub invariant-loop-code : goal.invariant-loop-code
-invariant-loop-code l = Unit {0}
 
 abbrev pub decreases-loop-code : goal.decreases-loop-code
 decreases-loop-code l = 256 - l.code

@@ -1,11 +1,6 @@
--- `main` is safe and ends: the text fits the buffer.
+-- The text fits the buffer (`play-fits`).
 -- Assumes nothing.
-use Prim.Native.Nat.{ℕ, ◌*◌, ◌≤◌}
-use mathlib.Core.Path.{◌≡◌, sym}
-use mathlib.Core.List.{List}
-use native.Mathlib.Omega.{arith}
-use lib.ListN.{length}
-use lib.Seq.{length-take-le}
+use Rattle.std.proofs.Common.{◌≡◌, ℕ, ◌*◌, ◌≤◌, List, length, arith, sym, length-take-le}
 use Rattle.player.specs.Plays.{printed}
 use Rattle.player.proofs.Bounds.{play-fits}
 use Rattle.run_training.proofs.main.Goals as goal
@@ -15,12 +10,10 @@ bound used file e = rw e (play-fits file)
 
 pub slice_bounds-out-end : goal.slice_bounds-out-end
 slice_bounds-out-end c =
-    let p = c.play_second-used in
-    let h = bound _ _ p.ensures.0 in
-    omega (arith, p.auto, c.out_buffer-out.ensures)
+    let h = bound _ _ c.play_second-used.ensures.0 in
+    omega (arith, h, c.play_second-used.auto.out, c.out_buffer-out.ensures)
 
 pub slice_bounds-write_all-end : goal.slice_bounds-write_all-end
 slice_bounds-write_all-end c =
-    let p = c.play_second-used in
-    let h = bound _ _ p.ensures.0 in
-    sym (length-take-le p.result p.new.1.0 (omega (arith, p.auto, c.out_buffer-out.ensures)))
+    let h = bound _ _ c.play_second-used.ensures.0 in
+    sym (length-take-le c.play_second-used.result c.play_second-used.new.out (omega (arith, h, c.play_second-used.auto.out, c.out_buffer-out.ensures)))

@@ -1,10 +1,9 @@
--- At most two turns; memory and journal stay as long as they were.
--- Assumes nothing.
-use Rattle.std.proofs.Common.{◌≡◌, ◌-◌, ◌≤◌, length}
+-- At most two turns.
+use Rattle.std.proofs.Common.{◌-◌, ◌≤◌}
 use Rattle.allowances.proofs.scene.run_all.Given as goal
 
 abbrev pub invariant-loop-i : goal.invariant-loop-i
-invariant-loop-i l = (l.i ≤ l.count) × ((length l.mem ≡ length l.initial.mem) × (length l.journal ≡ length l.initial.journal))
+invariant-loop-i l = l.i ≤ l.count
 
 abbrev pub decreases-loop-i : goal.decreases-loop-i
 decreases-loop-i l = l.count - l.i

@@ -1,5 +1,4 @@
--- `with_memory` is safe and ends. The measure is the number of places that are left.
--- Assumes nothing.
+-- The measure is the number of places that are left.
 use Rattle.std.proofs.Common.{◌-◌, ◌≤◌}
 use Rattle.cases.proofs.digest.with_memory.Given as goal
 

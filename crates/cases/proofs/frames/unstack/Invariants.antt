@@ -1,5 +1,4 @@
--- `unstack` is safe and ends. The measure is the number of bytes that are left below S.
--- Assumes nothing.
+-- The measure is the number of bytes that are left below S.
 use Rattle.std.proofs.Common.{◌-◌, ◌≤◌}
 use Rattle.cases.proofs.frames.unstack.Given as goal
 

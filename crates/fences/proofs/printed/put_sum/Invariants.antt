@@ -1,10 +1,9 @@
 -- Both sums stay below 65,521.
--- Assumes nothing.
-use Rattle.std.proofs.Common.{◌-◌, ◌<◌, ◌≤◌, length, arith}
+use Rattle.std.proofs.Common.{◌-◌, ◌≤◌, ◌<◌, length}
 use Rattle.fences.proofs.printed.put_sum.Given as goal
 
 abbrev pub invariant-loop-i : goal.invariant-loop-i
-invariant-loop-i l = (l.i ≤ length l.bytes) × ((l.low < 65521) × (l.high < 65521))
+invariant-loop-i l = (l.i ≤ length l.bytes) × (l.low < 65521) × (l.high < 65521)
 
 abbrev pub decreases-loop-i : goal.decreases-loop-i
 decreases-loop-i l = length l.bytes - l.i

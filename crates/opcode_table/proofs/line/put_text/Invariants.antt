@@ -1,11 +1,6 @@
--- `put_text` is safe and ends. The measure is what is left of the text; nothing has to hold from turn to turn.
--- Assumes nothing.
-use Prim.Native.Nat.{◌-◌}
-use lib.ListN.{length}
+-- The measure is what is left of the text.
+use Rattle.std.proofs.Common.{◌-◌, length}
 use Rattle.opcode_table.proofs.line.put_text.Given as goal
-
-abbrev pub invariant-loop-i : goal.invariant-loop-i
-invariant-loop-i l = Unit {0}
 
 abbrev pub decreases-loop-i : goal.decreases-loop-i
 decreases-loop-i l = length l.text - l.i

@@ -1,5 +1,4 @@
 -- The measure is the number of bytes of a line that are left.
--- Assumes nothing.
 use Rattle.std.proofs.Common.{◌-◌, ◌≤◌}
 use Rattle.scenes.proofs.line.has_shape.Given as goal
 

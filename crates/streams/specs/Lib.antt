@@ -1,0 +1,2 @@
+-- How much of a buffer was filled.
+pub mod Counts
