@@ -21,13 +21,16 @@ pub returns-in-Ends : goal.returns-in-Ends
 returns-in-Ends c =
     let a = c.args in
     let l = c.loop-left in
-    let s = c.step_on-last in record { run_leaves = leaves a.settings a.stop a.allowance (in_hand a.mem.now a.journal.now a.twin) (in_hand l.mem l.journal l.current) l.reads l.writes l.left l.invariant.0
+    let s = c.step_on-last in record {
+      run_leaves = leaves a.settings a.stop a.allowance (in_hand a.mem.now a.journal.now a.twin) (in_hand l.mem l.journal l.current) l.reads l.writes l.left l.invariant.0
           s.result _ _ _ _ s.ensures.0
           (rw c.reads_in.ensures at c.wrapping_add_u64-reads.ensures.value)
           (rw c.writes_in.ensures at c.wrapping_add_u64-writes.ensures.value)
           c.loop-left-test.true _ _
           (sym c.test.ensures ∙ c.in-Ends.is)
-          c.ended.ensures; typed = typed a.mem.now a.journal.now a.twin _ (search rules) (λ i. (c.type_inv.mem i).fits) }
+          c.ended.ensures;
+      typed = typed a.mem.now a.journal.now a.twin _ (search rules) (λ i. (c.type_inv.mem i).fits);
+    }
 
 pub overflow_sub-left : goal.overflow_sub-left
 overflow_sub-left c = search rules
