@@ -1,6 +1,6 @@
--- Demand 3 of the lent machine, from the contracts that rattle generates of `step` and `undo`. Neither is covered by the borrow checker,
--- so a contract is met where the `ensures` of its `clauses` holds of some resource, in any model of the program logic; and as a fact in
--- that logic is truncated, so is what is said here. Interrupt, reset and drop are the journal's, on a twin by value.
+-- Demand 3 of the lent machine, from the contracts that rattle generates of `step` and `undo`, as their `clauses` say them in the program logic:
+-- a contract is met where the `ensures` holds of some resource, in any model of that logic; and as a fact in it is truncated, so is what is
+-- said here. Interrupt, reset and drop are the journal's, on a twin by value.
 -- Assumes nothing.
 use mathlib.Core.Path.{◌≡◌, ◌∙◌}
 use mathlib.Core.Logic.{◌≢◌, ∥∥₁_prop, ∥∥₁_elim, ∥∥₁_map}

@@ -1,4 +1,4 @@
--- No second report, and no second twin, memory or journal at exit, fits the contract of `step` or of `undo`. Neither is covered by the borrow checker, so this is said of their `clauses`, in the program logic.
+-- No second report, and no second twin, memory or journal at exit, fits the contract of `step` or of `undo`. This is said of their `clauses`, in the program logic.
 -- Assumes nothing.
 use mathlib.Core.Path.{sym, ◌∙◌}
 use Rattle.answers.proofs.Determined.{DeterminesIn, facts}
