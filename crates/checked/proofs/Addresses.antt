@@ -1,11 +1,10 @@
 -- The rows on post-bytes and writes, from tests of their numbers.
 -- Assumes nothing.
-use Prim.Native.Nat.{ℕ, ◌+◌, ◌-◌, ◌/◌, ◌%◌, ◌≤◌, ◌<◌}
+use Prim.Native.Nat.{ℕ, ◌+◌, ◌/◌, ◌%◌, ◌≤◌, ◌<◌}
 use mathlib.Core.Path.{◌≡◌, refl, sym, ap, ◌∙◌}
 use mathlib.Core.Bool.{Bool, true, false, ◌&&◌}
 use mathlib.Core.List.{List}
-use mathlib.Core.Logic.{◌⊎◌, inl, inr}
-use native.Mathlib.Nat.{mod-eq_of_lt}
+use mathlib.Core.Logic.{◌⊎◌, inl}
 use native.Mathlib.Omega.{arith}
 use borrow.Author.Tests.{le-leb, lt-ltb}
 use lib.Bits.{bit_and, and_le_l}
@@ -23,7 +22,7 @@ use Rattle.decode.specs.Operand.{with_form, operand_of, operand_at}
 use Rattle.decode.specs.declared.postbyte.Form.TheVariants.{Offset5}
 use Rattle.decode.specs.declared.postbyte.PostByte.{PostByte}
 use Rattle.decode.specs.declared.postbyte.PostByte.TheVariants.{Form as Taken, Refused}
-use Rattle.addressing.specs.Address.{at_address, effective_of, indexed_address}
+use Rattle.addressing.specs.Address.{at_address, indexed_address}
 use Rattle.addressing.specs.declared.Resolved.TheVariants.{At}
 use Rattle.checked.specs.Rows.{effective_of_read, number_of_resolved}
 

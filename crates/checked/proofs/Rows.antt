@@ -1,7 +1,7 @@
 -- Every row of the table of checked examples holds: a test that antt computes, and a law from the test to the row.
 -- Assumes nothing.
 use Prim.Native.Nat.{ℕ, ◌+◌, ◌/◌, ◌%◌, ◌≤◌, ◌<◌}
-use mathlib.Core.Path.{◌≡◌, refl, sym, ap, ◌∙◌, subst}
+use mathlib.Core.Path.{◌≡◌, refl, sym, ◌∙◌}
 use mathlib.Core.Bool.{Bool, true, false, not, cond, ◌||◌}
 use mathlib.Core.Logic.{◌⊎◌, inl, inr}
 use mathlib.Core.List.{List, [], ◌∷◌}
@@ -20,7 +20,6 @@ use Rattle.registers.proofs.Laws.{carry-alone}
 use Rattle.registers.proofs.Reading.{flag_same, flag-far, place-inj}
 use Rattle.memory.specs.Map.{place_of}
 use Rattle.decode.specs.PostByte.{is_indirect, form_of, is_refused, five_bits}
-use Rattle.answers.specs.Numbers.{number_of_answer}
 use Rattle.stack.specs.Frames.{stacked_by}
 use Rattle.stack.specs.Pushing.{bytes_pushed}
 use Rattle.vectors.specs.Table.{is_entire}

@@ -1,18 +1,18 @@
 -- From the laws of a step's refusals and of decoding, by the cases of what was decoded.
 -- Assumes nothing.
-use Prim.Native.Nat.{ℕ, ◌+◌, ◌-◌, ◌≤◌, ◌<◌}
+use Prim.Native.Nat.{ℕ, ◌+◌, ◌-◌, ◌<◌}
 use mathlib.Core.Path.{◌≡◌, refl, sym, ap, subst, ◌∙◌}
 use mathlib.Core.Bool.{Bool, true, false, cond, not, ◌&&◌, ◌||◌}
 use mathlib.Core.List.{List, reverse}
 use mathlib.Core.Logic.{◌↔◌, ◌⊎◌, inl, inr, ⊎_elim}
 use native.Mathlib.Nat.{mod-add-mod}
 use native.Mathlib.Omega.{arith}
-use borrow.Author.Tests.{eqb-true, eq-eqb, leb-true, leb-false, le-leb, lt-leb}
+use borrow.Author.Tests.{eqb-true, eq-eqb, leb-true, leb-false}
 use lib.Dec.{T, eqb, leb, ltb}
 use lib.ListN.{length}
 use Rattle.answers.specs.Numbers.{number_of}
 use Rattle.answers.specs.declared.Refusal.{Refusal}
-use Rattle.answers.specs.declared.Refusal.TheVariants.{MemoryLength, Opcode, PastEnd, PostByte, PostByte8F, TransferCode, LineShort}
+use Rattle.answers.specs.declared.Refusal.TheVariants.{Opcode, PastEnd, PostByte, PostByte8F, TransferCode, LineShort}
 use Rattle.answers.proofs.Numbers.{numbers_apart}
 use Rattle.registers.specs.RegisterSet.{with_pc}
 use Rattle.registers.specs.ConditionCodes.{bit_at}
@@ -24,7 +24,6 @@ use Rattle.memory.specs.Map.{byte_at}
 use Rattle.machine.specs.declared.Machine.{Machine}
 use Rattle.machine.specs.declared.Settings.{Settings}
 use Rattle.machine.specs.declared.Wait.{Wait}
-use Rattle.machine.specs.declared.Wait.TheVariants.{Running}
 use Rattle.opcodes.specs.Manual.{entry_of}
 use Rattle.opcodes.specs.Rows.{values}
 use Rattle.opcodes.specs.declared.Entry.{Entry}
@@ -45,8 +44,7 @@ use Rattle.decode.specs.Origin.{Origin, OriginOf}
 use Rattle.decode.specs.declared.instruction.Decoded.{Decoded}
 use Rattle.decode.specs.declared.instruction.Decoded.TheVariants.{Instruction as Taken, Refused as NotDecoded}
 use Rattle.decode.specs.declared.instruction.Instruction.{Instruction}
-use Rattle.decode.specs.declared.operand.Operand.{Operand}
-use Rattle.decode.specs.declared.operand.Operand.TheVariants.{Inherent as Nothing, Immediate as ByValue, Direct as InPage, Indexed as ByIndex, Extended as AtAddress, Relative as Branched}
+use Rattle.decode.specs.declared.operand.Operand.TheVariants.{Immediate as ByValue}
 use Rattle.decode.specs.declared.operand.OperandRead.{OperandRead}
 use Rattle.decode.specs.declared.operand.OperandRead.TheVariants.{Operand as Read, Refused as NotRead}
 use Rattle.decode.proofs.CutShort.{bytes-refused}
@@ -59,12 +57,11 @@ use Rattle.addressing.specs.declared.Resolved.TheVariants.{At as Resolves, Refus
 use Rattle.operations.specs.Refusals.{names_two, code_refused}
 use Rattle.operations.specs.Transfers.{transferable}
 use Rattle.stack.specs.Pushing.{order, chosen}
-use Rattle.calls.specs.Steps.{Reached, At, NotReached, addressed, of_decoded, decoded_to, unless_waiting, reached}
+use Rattle.calls.specs.Steps.{At, addressed, of_decoded, decoded_to, unless_waiting, reached}
 use Rattle.refusals.specs.Steps.{Runs, NextPast, Met, StepRefused, Answers}
 use Rattle.refusals.proofs.Steps.{steps-refused}
 use Rattle.disassembly.specs.Names.{name_text, slot_text, list_text}
 use Rattle.disassembly.specs.Disassembly.{immediate_at, taken_as_step, judged_from, legible, answered, disassembled_of}
-use Rattle.disassembly.specs.declared.Disassembled.{Disassembled}
 use Rattle.disassembly.specs.declared.Disassembled.TheVariants.{Line, Refused}
 use Rattle.disassembly.proofs.Spans.{one-to-five}
 use Rattle.disassembly_laws.specs.SameAsStep.{number_of_line, OfInstruction, SameAsStep, DisassemblesAsStep, TargetOfStep, comma_between, ListsWhatIsPulled}

@@ -1,11 +1,11 @@
 -- The laws of the fence over whole calls.
 -- Assumes nothing.
-use Prim.Native.Nat.{ℕ, ◌-◌, ◌≤◌, ◌<◌}
+use Prim.Native.Nat.{ℕ, ◌-◌, ◌<◌}
 use mathlib.Core.Bool.{Bool, true, false, not, cond, ◌&&◌, true≢false}
 use mathlib.Core.List.{List, [], ◌∷◌, ◌++◌}
 use mathlib.Core.Path.{◌≡◌, refl, sym, ap, ◌∙◌}
 use native.Mathlib.Omega.{arith}
-use borrow.Author.Tests.{eqb-false, eq-eqb}
+use borrow.Author.Tests.{eqb-false}
 use lib.Dec.{eqb, ltb}
 use lib.ListN.{length}
 use Rattle.answers.specs.Numbers.{number_of_answer}
@@ -69,7 +69,7 @@ use Rattle.refusals.specs.Operations.{is_fenced}
 use Rattle.refusals.specs.Steps.{Met}
 use Rattle.refusals.proofs.Operations.{frame-listed}
 use Rattle.refusals.proofs.Steps.{steps-refused}
-use Rattle.fenced.specs.Laws.{CallsWithin, fenced_frame, InterruptFencedExactly, CallFree, AllAllowedFree, SamePlaces}
+use Rattle.fenced.specs.Laws.{CallsWithin, fenced_frame, InterruptFencedExactly, AllAllowedFree, SamePlaces}
 
 -- ---- what a call stores passes the fence
 

@@ -23,10 +23,9 @@ use Rattle.calls.specs.Calls.{Call, step, interrupt, reset}
 use Rattle.journal.specs.Recorded.{State, Ended, Typed, call}
 use Rattle.journal.specs.Undos.{undone}
 use Rattle.journal.specs.Drops.{dropped}
-use Rattle.journal.specs.declared.Twin.{Twin}
 use Rattle.history.specs.Sequence.{Snap, Drops, Unchanged}
 use Rattle.history.specs.History.{Contracts, Chain, begins, calls, undoes, drops, writes, Counted, Undone, Demand3Of}
-use Rattle.history.proofs.History.{Lies, lent, shown, generated, Tells, tell, demand-of}
+use Rattle.history.proofs.History.{Lies, lent, shown, generated, tell, demand-of}
 use Rattle.lent.specs.Lending.{report_of, LeavesTwin}
 use Rattle.lent.specs.contracts
 

@@ -2,21 +2,16 @@
 -- Assumes nothing.
 use Prim.Native.Nat.{ℕ, ◌≤◌}
 use mathlib.Core.Bool.{Bool, true, false, ◌&&◌, ◌||◌}
-use mathlib.Core.List.{List}
 use mathlib.Core.Path.{◌≡◌, refl}
 use native.Mathlib.Decide.{ℕ_discrete}
 use native.Mathlib.Omega.{arith}
-use borrow.Author.Tests.{eq-eqb, eqb-true, leb-true}
+use borrow.Author.Tests.{eqb-true, leb-true}
 use lib.Dec.{T, eqb, leb}
 use Rattle.answers.specs.Numbers.{number_of}
-use Rattle.answers.specs.declared.Refusal.{Refusal}
-use Rattle.answers.specs.declared.Refusal.TheVariants.{PastEnd}
-use Rattle.registers.specs.declared.Set.{Set}
-use Rattle.opcodes.specs.declared.Mode.{Mode}
 use Rattle.decode.specs.Operand.{operand_bytes, operand_at}
 use Rattle.decode.specs.declared.operand.OperandRead.{OperandRead}
 use Rattle.decode.specs.declared.operand.OperandRead.TheVariants.{Operand, Refused as NotRead}
-use Rattle.decode.proofs.Sound.{OfOperand, SoundRead, operand_sound}
+use Rattle.decode.proofs.Sound.{SoundRead, operand_sound}
 use Rattle.addressing.specs.declared.Resolved.TheVariants.{Refused}
 use Rattle.addressing.proofs.Refusals.{resolve-refuses}
 use Rattle.refusals.specs.Addresses.{resolved_from, OfAddressing, AddressRefuses}

@@ -20,7 +20,6 @@ use Rattle.memory.specs.Fits.{Bytes}
 use Rattle.memory.specs.Map.{byte_at, word_at}
 use Rattle.memory.specs.Writes.{listed}
 use Rattle.memory.proofs.Folds.{listed_back}
-use Rattle.machine.specs.Effect.{changes}
 use Rattle.machine.specs.Fence.{bars}
 use Rattle.machine.specs.Machine.{with_registers}
 use Rattle.machine.specs.declared.Effect.{Effect}
@@ -34,7 +33,6 @@ use Rattle.stack.specs.Frames.{stacked_by, framed}
 use Rattle.stack.specs.Pushing.{bytes_pushed}
 use Rattle.stack.proofs.Laws.{none_dropped}
 use Rattle.vectors.specs.Table.{address_of, is_entire, software_vector}
-use Rattle.vectors.specs.declared.table.Vector.{Vector}
 use Rattle.vectors.specs.declared.table.Vector.TheVariants.{Reset}
 use Rattle.evaluate.specs.Arming.{arms}
 use Rattle.evaluate.specs.Evaluate.{evaluate_of}

@@ -8,7 +8,6 @@ use native.Mathlib.Decide.{dec_lt}
 use native.Mathlib.Omega.{arith}
 use borrow.Author.Tests.{lt-ltb, le-ltb}
 use lib.Dec.{eqb, leb}
-use lib.ListN.{length}
 use Rattle.answers.specs.declared.Refusal.TheVariants.{PastEnd}
 use Rattle.registers.specs.declared.Set.{Set}
 use Rattle.memory.specs.Map.{byte_at, low_at}
