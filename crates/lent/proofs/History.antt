@@ -1,6 +1,6 @@
--- Demand 3 of the lent machine, from the contracts that rattle generates of `step` and `undo`. Neither is covered by the borrow checker,
--- so a contract is met where the `ensures` of its `clauses` holds of some resource, in any model of the program logic; and as a fact in
--- that logic is truncated, so is what is said here. Interrupt, reset and drop are the journal's, on a twin by value.
+-- Demand 3 of the lent machine, from the contracts that rattle generates of `step` and `undo`, as their `clauses` say them in the program logic:
+-- a contract is met where the `ensures` holds of some resource, in any model of that logic; and as a fact in it is truncated, so is what is
+-- said here. Interrupt, reset and drop are the journal's, on a twin by value.
 -- Assumes nothing.
 use mathlib.Core.Path.{◌≡◌, ◌∙◌}
 use mathlib.Core.Logic.{◌≢◌, ∥∥₁_prop, ∥∥₁_elim, ∥∥₁_map}
@@ -26,9 +26,9 @@ use Rattle.journal.specs.Drops.{dropped}
 use Rattle.journal.specs.declared.Twin.{Twin}
 use Rattle.history.specs.Sequence.{Snap, Drops, Unchanged}
 use Rattle.history.specs.History.{Contracts, Chain, begins, calls, undoes, drops, writes, Counted, Undone, Demand3Of}
-use Rattle.history.proofs.History.{Lies, lent, generated, Tells, tell, demand-of}
+use Rattle.history.proofs.History.{Lies, lent, shown, generated, Tells, tell, demand-of}
 use Rattle.lent.specs.Lending.{report_of, LeavesTwin}
-use Rattle.lent.proofs
+use Rattle.lent.specs.contracts
 
 -- a fact that holds of some resource
 true-fact : {M : Type 1} (𝓤 : Ura M) (φ : Type 0) → Sat 𝓤.op (fact 𝓤 φ) → ∥ φ ∥₁
@@ -52,8 +52,8 @@ module _ {M : Type 1} {𝓤 : Ura M} (𝓛 : Logic 𝓤) (mem : Memory → SProp
     pub twin-at : Lies
     pub mem-at : Lies
     pub jrn-at : Lies
-    pub post : let a : Args (proofs.step.ended).signature κs = (record { ref_ptr = twin-at.ptr; ghost_name = twin-at.name; now = s.twin }, (lent mem-at s.memory, (lent jrn-at s.journal, (t, tt)))) in
-        Sat 𝓤.op ((proofs.step.clauses 𝓛 mem run κs a).ensures tt (report_of e) (at_exit proofs.step.ended κs a (e.state.twin, (e.state.memory, (e.state.journal, (tt, tt))))))
+    pub post : let a : Args (contracts.step.ended).signature κs = (record { ref_ptr = twin-at.ptr; ghost_name = twin-at.name; now = s.twin }, (lent mem-at s.memory, (lent jrn-at s.journal, (t, tt)))) in
+        Sat 𝓤.op ((contracts.step.clauses 𝓛 mem run κs a).ensures tt (report_of e) (at_exit contracts.step.ended κs a (e.state.twin, (e.state.memory, (e.state.journal, (tt, tt))))))
 
   -- the journal is lent to be read only
   pub record Undoing (s : State) (e : Ended) : Type 1 where
@@ -62,8 +62,8 @@ module _ {M : Type 1} {𝓤 : Ura M} (𝓛 : Logic 𝓤) (mem : Memory → SProp
     pub mem-at : Lies
     pub jrn-at : Lies
     pub read_only : e.state.journal ≡ s.journal
-    pub post : let a : Args (proofs.undo.ended).signature κs = (record { ref_ptr = twin-at.ptr; ghost_name = twin-at.name; now = s.twin }, (lent mem-at s.memory, (lent jrn-at s.journal, tt))) in
-        Sat 𝓤.op ((proofs.undo.clauses 𝓛 mem run κs a).ensures tt (report_of e) (at_exit proofs.undo.ended κs a (e.state.twin, (e.state.memory, (tt, tt)))))
+    pub post : let a : Args (contracts.undo.ended).signature κs = (record { ref_ptr = twin-at.ptr; ghost_name = twin-at.name; now = s.twin }, (lent mem-at s.memory, (shown jrn-at s.journal, tt))) in
+        Sat 𝓤.op ((contracts.undo.clauses 𝓛 mem run κs a).ensures tt (report_of e) (at_exit contracts.undo.ended κs a (e.state.twin, (e.state.memory, (tt, tt)))))
 
   pub record ByValue (c : Call) (s : State) (e : Ended) : Type 1 where
     pub met : generated.forward c s e

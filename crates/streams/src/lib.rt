@@ -24,3 +24,38 @@ pub fn read_full<R: Read>(from: &mut R, buf: &mut [u8]) -> io::Result<usize>
     }
     Ok(done)
 }
+
+#[cfg(test)]
+mod tests {
+    use super::*;
+    use std::io::ErrorKind;
+
+    #[derive(Drop)]
+    struct Broken;
+
+    impl Read for Broken {
+        fn read(&mut self, _buf: &mut [u8]) -> io::Result<usize> {
+            Err(io::Error::from(ErrorKind::Other))
+        }
+    }
+
+    // Reads that give less than there is room for are followed by others, until the buffer is full or there is no more.
+    #[test]
+    fn reads_on_until_full_or_at_the_end(rt: HostRuntime) -> io::Result<()> {
+        let mut from = (&b"ab"[..]).chain(&b"cde"[..]);
+        let mut buf = [b'.'; 4];
+        assert_eq!(rt; read_full(&mut from, &mut buf)?, 4);
+        assert!(rt; buf == *b"abcd");
+        assert_eq!(rt; read_full(&mut from, &mut buf)?, 1);
+        assert!(rt; buf[0] == b'e');
+        assert_eq!(rt; read_full(&mut from, &mut buf)?, 0);
+        Ok(())
+    }
+
+    #[test]
+    fn a_read_that_fails_is_an_error(rt: HostRuntime) {
+        let mut from = (&b"ab"[..]).chain(Broken);
+        let mut buf = [b'.'; 4];
+        assert!(rt; read_full(&mut from, &mut buf).is_err());
+    }
+}
