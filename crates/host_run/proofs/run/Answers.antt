@@ -38,7 +38,7 @@ loop-left-preserved c =
     let l = c.loop-left in
     let w = both _ _ (rw c.goes_on.ensures at c.loop-left-test.true) in
     let s = c.step-last in
-    (rw (s.ensures.0, s.ensures.1) (l.invariant.0 ∙ run_more a.settings l.left l.last l.mem (ltb-true _ _ w.0) w.1), (s.auto.0 ∙ l.invariant.1.0, omega (arith, ltb-true 0 l.left w.0, l.invariant.1.1, at_most_one s.result.answer)))
+    (rw (s.ensures.0, s.ensures.1) (l.invariant.0 ∙ run_more a.settings l.left l.last l.mem (ltb-true _ _ w.0) w.1), (s.auto.mem ∙ l.invariant.1.0, omega (arith, ltb-true 0 l.left w.0, l.invariant.1.1, at_most_one s.result.answer)))
 
 pub overflow_add-result : goal.overflow_add-result
 overflow_add-result c =
