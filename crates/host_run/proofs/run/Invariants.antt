@@ -1,14 +1,9 @@
 -- The invariant: what is left of the run is the whole run; and a refused step leaves one step more, no more than were allowed.
 -- Assumes nothing.
-use Prim.Native.Nat.{ℕ, ◌+◌, ◌^◌, ◌≤◌, ◌<◌}
-use mathlib.Core.Path.{◌≡◌, refl, sym, ap, ◌∙◌}
-use native.Mathlib.Omega.{arith}
-use borrow.Author.Tests.{ltb-true}
-use lib.Dec.{ltb}
+use Prim.Native.Nat.{◌+◌, ◌≤◌}
+use mathlib.Core.Path.{◌≡◌}
 use lib.ListN.{length}
-use Rattle.host.proofs.Back.{both}
-use Rattle.host_run.specs.Runs.{Running, running, uncounted}
-use Rattle.host_run.proofs.Laws.{at_most_one, run_more, run_ends}
+use Rattle.host_run.specs.Runs.{running, uncounted}
 use Rattle.host_run.proofs.run.Given as goal
 
 abbrev pub invariant-loop-left : goal.invariant-loop-left

@@ -1,7 +1,6 @@
 -- Where the numbers are named, the run of a twin; else 64.
 -- Assumes nothing.
-use mathlib.Core.Bool.{Bool, ◌&&◌}
-use mathlib.Core.Path.{◌≡◌, sym, ap, ◌∙◌}
+use mathlib.Core.Bool.{◌&&◌}
 use Rattle.host.specs.Numbers.{is_named}
 use Rattle.host.specs.Structs.{settings_from}
 use Rattle.host.specs.Ends.{handed}
