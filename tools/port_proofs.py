@@ -234,7 +234,7 @@ def fielded(goal, body, labels):
 
 
 def loop_body(fn, k, params, body):
-    (old, new), variables = fn.loops[k]
+    (old, _), variables = fn.loops[k]
     changed = fn.changed[k]
     names = {}
     want = list(variables) + [v for v, c in zip(variables, changed) if c]
@@ -293,7 +293,6 @@ def turn(crate, path, of, text, warn):
         helpers.append(decl)
     if spec is None:
         raise Refused("no tie.spec")
-    made = []
     per = 2 * len(fn.loops)
     by_place = len(spec) == per + len(fn.needs)
     invariants = []
@@ -303,7 +302,6 @@ def turn(crate, path, of, text, warn):
             # tie.spec has each loop's invariant and then its measure
             kind, params, body = measures.get(name, (None, None, None))
             if kind is None:
-                lam = re.match(r"\((?:λ) ((?:[\w'₀-₉]+ )*[\w'₀-₉]+)\. (.*)\)$", name, re.S)
                 raise Refused("measure argument " + name)
             loop = i // 2
             new = fn.loops[loop][0][1]
