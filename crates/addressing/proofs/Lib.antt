@@ -1,4 +1,3 @@
-pub mod Sums
 pub mod Refusals
 pub mod Widths
 pub mod Unique

@@ -1,6 +1,6 @@
 -- Effective addresses, and the registers after addressing, fit their widths.
 -- Assumes nothing.
-use Rattle.std.proofs.Common.{◌≡◌, ℕ, ◌+◌, ◌-◌, ◌%◌, ◌<◌, Bool, true, false, cond, leb, List, refl, mod-lt, arith, lit<, leb-true}
+use Rattle.std.proofs.Common.{◌≡◌, ℕ, ◌+◌, ◌%◌, ◌<◌, Bool, true, false, cond, leb, List, refl, mod-lt, arith, lit<, leb-true}
 use Rattle.u8oru16.specs.declared.u8u16.TheVariants.{u16}
 use Rattle.registers.specs.Fits.{Fits}
 use Rattle.registers.specs.Names.{word_name, index_word}

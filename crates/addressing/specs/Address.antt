@@ -1,6 +1,6 @@
 -- The effective address. The index register changes first, and what follows sees it changed. Sums wrap at 65,536.
 -- Assumes nothing.
-use Rattle.std.specs.Prelude.{ℕ, ◌+◌, ◌-◌, ◌*◌, ◌%◌, Bool, cond, List, nat_le}
+use Rattle.std.specs.Prelude.{ℕ, ◌+◌, ◌-◌, ◌*◌, ◌%◌, Bool, cond, List, nat_le, Err, Ok, Result}
 use Rattle.registers.specs.Names.{index_word}
 use Rattle.registers.specs.RegisterSet.{word_of, with_word, with_pc}
 use Rattle.registers.specs.declared.Word.{Word}
@@ -16,8 +16,7 @@ use Rattle.decode.specs.declared.operand.Indexed.{Indexed}
 use Rattle.decode.specs.declared.operand.Operand.{Operand}
 use Rattle.decode.specs.declared.operand.Operand.TheVariants.{Inherent as Nothing, Immediate as ByValue, Direct as InPage, Indexed as ByIndex, Extended as AtAddress, Relative as Branch}
 use Rattle.addressing.specs.declared.Addressed.{Addressed}
-use Rattle.addressing.specs.declared.Resolved.{Resolved}
-use Rattle.addressing.specs.declared.Resolved.TheVariants.{At, Refused}
+use Rattle.answers.specs.declared.Refusal.{Refusal}
 
 abbrev pub at_address : Set → ℕ → Addressed
 at_address r a = record { regs = r; ea = a }
@@ -88,8 +87,8 @@ effective_of (Branch offset) mem r next = program_relative r next offset
 abbrev at_next : Addressed → ℕ → Addressed
 at_next a next = record { regs = with_pc a.regs next; ea = a.ea }
 
-abbrev pub advanced : Addressed → ℕ → Resolved
-advanced a next = cond (nat_le next 0xFFFF) (At (at_next a next)) (Refused PastEnd)
+abbrev pub advanced : Addressed → ℕ → Result Addressed Refusal
+advanced a next = cond (nat_le next 0xFFFF) (Ok (at_next a next)) (Err PastEnd)
 
-unfoldable pub resolved_of : List ℕ → Set → Operand → ℕ → Resolved
+unfoldable pub resolved_of : List ℕ → Set → Operand → ℕ → Result Addressed Refusal
 resolved_of mem r operand next = advanced (effective_of operand mem r next) next

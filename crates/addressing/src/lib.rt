@@ -15,19 +15,13 @@ pub struct Addressed {
     pub ea: u16,
 }
 
-#[derive(Clone, Copy)]
-pub enum Resolved {
-    At(Addressed),
-    Refused(Refusal),
-}
-
 // The address that is n above the index register.
 fn offset_by(regs: Set, index: Word, n: u16) -> Addressed
     ensures { result ≡ offset_from regs index n }
 {
     Addressed {
         regs,
-        ea: std::num::wrapping_add_u16(regs.word(index), n),
+        ea: regs.word(index).wrapping_add(n),
     }
 }
 
@@ -37,16 +31,17 @@ fn increment(regs: Set, index: Word, n: u16) -> Addressed
 {
     let ea = regs.word(index);
     Addressed {
-        regs: regs.with_word(index, std::num::wrapping_add_u16(ea, n)),
+        regs: regs.with_word(index, ea.wrapping_add(n)),
         ea,
     }
 }
 
 // The register is n lower, and is then the address.
+// Beside `increment`: the one reads the register before it moves it, the other after.
 fn decrement(regs: Set, index: Word, n: u16) -> Addressed
     ensures { result ≡ decremented regs index n }
 {
-    let ea = std::num::wrapping_sub_u16(regs.word(index), n);
+    let ea = regs.word(index).wrapping_sub(n);
     Addressed {
         regs: regs.with_word(index, ea),
         ea,
@@ -59,7 +54,7 @@ fn program_relative(regs: Set, next: u32, offset: u16) -> Addressed
 {
     Addressed {
         regs,
-        ea: std::num::wrapping_add_u16((next % 0x10000) as u16, offset),
+        ea: ((next % 0x10000) as u16).wrapping_add(offset),
     }
 }
 
@@ -119,7 +114,7 @@ pub fn effective(mem: &[u8], regs: Set, operand: Operand, next: u32) -> Addresse
     match operand {
         Operand::Inherent => at_address(regs, 0),
         Operand::Immediate(at) => at_address(regs, at),
-        Operand::Direct(low) => at_address(regs, 256 * regs.dp as u16 + low as u16),
+        Operand::Direct(low) => at_address(regs, u16::from_be_bytes([regs.dp, low])),
         Operand::Indexed(ix) => indexed_address(mem, regs, ix, next),
         Operand::Extended(at) => at_address(regs, at),
         Operand::Relative(offset) => program_relative(regs, next, offset),
@@ -127,19 +122,18 @@ pub fn effective(mem: &[u8], regs: Set, operand: Operand, next: u32) -> Addresse
 }
 
 // The next address becomes PC.
-fn advance(found: Addressed, next: u32) -> Resolved
+fn advance(found: Addressed, next: u32) -> Result<Addressed, Refusal>
     ensures { result ≡ advanced found next }
 {
-    if next <= 0xFFFF {
-        let regs = found.regs.with_pc(next as u16);
-        Resolved::At(Addressed { regs, ea: found.ea })
-    } else {
-        Resolved::Refused(Refusal::PastEnd)
-    }
+    let next = u16::try_from(next).map_err(|_| Refusal::PastEnd)?;
+    Ok(Addressed {
+        regs: found.regs.with_pc(next),
+        ..found
+    })
 }
 
 // The effective address, with PC at the next instruction.
-pub fn resolve(mem: &[u8], regs: Set, operand: Operand, next: u32) -> Resolved
+pub fn resolve(mem: &[u8], regs: Set, operand: Operand, next: u32) -> Result<Addressed, Refusal>
     ensures { result ≡ resolved_of mem.now regs operand next }
 {
     advance(effective(mem, regs, operand, next), next)

@@ -3,12 +3,12 @@ ghost use Rattle.std.specs.Prelude.{◌+◌, ◌≤◌};
 
 use machine::{Machine, Settings, Wait};
 use registers::{CCBits, Flags, Set};
-use runs::Stop;
 
 pub const LINE: usize = 190;
 
 pub type Line = [u8; LINE];
 
+// Line and place stand apart: the places are those of the README's table, another in each call.
 pub fn byte_at(line: &Line, at: usize) -> u8
     requires { at + 2 ≤ 190 }
 {
@@ -40,14 +40,14 @@ pub fn length_at(line: &Line, at: usize) -> usize
 }
 
 // Five digits: an address, or none where the first is 1.
-pub fn stop_at(line: &Line, at: usize) -> Stop
+pub fn stop_at(line: &Line, at: usize) -> Option<u16>
     requires { at + 5 ≤ 190 }
 {
     let address = word_at(line, at + 1);
     if line[at] == b'1' {
-        Stop::Nowhere
+        None
     } else {
-        Stop::At(address)
+        Some(address)
     }
 }
 

@@ -1,9 +1,10 @@
 // What is printed of a run, and of the undos after it.
+// Numbers are laid at fixed places of a form of bytes, over its zeros, which Display does not do.
 ghost use Rattle.std.specs.Prelude.{◌<◌, ◌≤◌};
 
 use super::line::{Line, word_at};
 use journal::{Outcome, Twin};
-use machine::{Machine, Wait};
+use machine::Machine;
 use memory::Writes;
 use runs::RunOutcome;
 use std::io;
@@ -11,6 +12,7 @@ use std::io;
 const OUT: usize = 125;
 
 // What a line is made of: the reason's digit or U, the number beside it, the device writes, the twin and two counts.
+// Letter and number, and no enum or Result: they are what is printed, the number 0 where nothing was refused.
 #[derive(Clone, Copy)]
 pub struct Shown {
     pub letter: u8,
@@ -21,17 +23,13 @@ pub struct Shown {
     pub writes: u64,
 }
 
+// Not From: `of_undos` takes a count besides, and the two are named alike.
 pub fn of_run(ran: RunOutcome) -> Shown {
-    let reason = ran.reason;
-    let devices = ran.devices;
-    let twin = ran.twin;
-    let answer = ran.answer;
-    let digit = reason.number();
     Shown {
-        letter: b'0' + digit % 10,
-        number: std::num::wrapping_add_u8(ran.number, answer.number()),
-        devices,
-        twin,
+        letter: b'0' + ran.reason.number() % 10,
+        number: ran.number.wrapping_add(answers::number(&ran.answer)),
+        devices: ran.devices,
+        twin: ran.twin,
         reads: ran.reads,
         writes: ran.writes,
     }
@@ -39,78 +37,61 @@ pub fn of_run(ran: RunOutcome) -> Shown {
 
 // The number of the undo that was refused, and how many were accepted in the place of the bytes read.
 pub fn of_undos(last: Outcome, undos: u64) -> Shown {
-    let devices = last.devices;
-    let twin = last.twin;
-    let answer = last.answer;
     Shown {
         letter: b'U',
-        number: answer.number(),
-        devices,
-        twin,
+        number: answers::number(&last.answer),
+        devices: last.devices,
+        twin: last.twin,
         reads: undos,
         writes: 0,
     }
 }
 
 fn put_byte(out: &mut [u8], at: usize, b: u8) {
-    let digits = text::hex2(b);
-    text::put(out, at, &digits);
+    text::put(out, at, &text::hex2(b));
 }
 
 fn put_word(out: &mut [u8], at: usize, w: u16) {
-    let digits = text::hex4(w);
-    text::put(out, at, &digits);
+    text::put(out, at, &text::hex4(w));
 }
 
 // Sixteen digits.
+// The bound is above every place that is used, so that no sum wraps.
 fn put_long(out: &mut [u8], at: usize, n: u64)
     requires { at ≤ 100 }
 {
-    put_word(out, at, (n / 0x1_0000_0000_0000 % 0x10000) as u16);
-    put_word(out, at + 4, (n / 0x1_0000_0000 % 0x10000) as u16);
-    put_word(out, at + 8, (n / 0x10000 % 0x10000) as u16);
-    put_word(out, at + 12, (n % 0x10000) as u16);
+    for (i, b) in n.to_be_bytes().iter().enumerate() {
+        put_byte(out, at + 2 * i, *b);
+    }
 }
 
 // A decimal number that ends before `end`. What stands left of it, zeros, stays.
 fn put_decimal(out: &mut [u8], end: usize, n: u64) {
     let number = text::decimal(n);
-    let len = number.len;
-    if len <= end {
-        number.put(out, end - len);
-    }
-}
-
-fn wait_number(wait: Wait) -> u64 {
-    match wait {
-        Wait::Running => 0,
-        Wait::Cwai => 1,
-        Wait::Sync => 2,
+    if number.len <= end {
+        number.put(out, end - number.len);
     }
 }
 
 fn put_machine(out: &mut [u8], machine: Machine) {
     let regs = machine.regs;
-    let cc = regs.cc;
-    let wait = machine.wait;
     put_word(out, 20, regs.pc);
-    put_byte(out, 25, cc.get_as_byte());
-    put_decimal(out, 29, wait_number(wait));
+    put_byte(out, 25, regs.cc.get_as_byte());
+    put_decimal(out, 29, machine::wait_byte(machine.wait) as u64);
     put_decimal(out, 40, machine.cycles);
     put_decimal(out, 51, machine.instructions);
 }
 
+// 0 past the end, and no Option: the line shows 00 there.
 fn byte_of(bytes: &[u8], at: usize) -> u8 {
-    if at < bytes.len() { bytes[at] } else { 0 }
+    bytes.get(at).copied().unwrap_or(0)
 }
 
 // Four bytes of memory, raw; 00 past its end.
 fn put_view(out: &mut [u8], mem: &[u8], place: u16) {
-    let p = place as usize;
-    put_byte(out, 98, byte_of(mem, p));
-    put_byte(out, 100, byte_of(mem, p + 1));
-    put_byte(out, 102, byte_of(mem, p + 2));
-    put_byte(out, 104, byte_of(mem, p + 3));
+    for i in 0..4 {
+        put_byte(out, 98 + 2 * i, byte_of(mem, place as usize + i));
+    }
 }
 
 // Adler-32, as eight digits.
@@ -119,11 +100,9 @@ fn put_sum(out: &mut [u8], at: usize, bytes: &[u8])
 {
     let mut low: u32 = 1;
     let mut high: u32 = 0;
-    let mut i = 0;
-    while i < bytes.len() {
-        low = (low + bytes[i] as u32) % 65521;
+    for b in bytes {
+        low = (low + *b as u32) % 65521;
         high = (high + low) % 65521;
-        i += 1;
     }
     put_word(out, at, high as u16);
     put_word(out, at + 4, low as u16);
@@ -145,13 +124,11 @@ fn put_counts(out: &mut [u8], twin: Twin, reads: u64, writes: u64) {
 }
 
 fn put_shown(out: &mut [u8], shown: Shown) {
-    let devices = shown.devices;
     let twin = shown.twin;
-    let machine = twin.machine;
     text::put(out, 4, &[shown.letter]);
     put_decimal(out, 8, shown.number as u64);
-    put_devices(out, devices);
-    put_machine(out, machine);
+    put_devices(out, shown.devices);
+    put_machine(out, twin.machine);
     put_counts(out, twin, shown.reads, shown.writes);
 }
 

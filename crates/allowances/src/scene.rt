@@ -4,34 +4,35 @@ ghost use Rattle.std.specs.Prelude.{◌+◌, ◌*◌, ◌≤◌};
 use super::line::Line;
 use super::printed::Shown;
 use super::{line, printed};
-use answers::Answer;
 use journal::{Outcome, Twin};
 use memory::Writes;
 use std::io;
 
 const BYTES: usize = 0x10000;
 
+// More undos than any journal has records.
+const MOST_UNDOS: u64 = 100000;
+
 // Where the code stands.
 const CODE: u16 = 0x1000;
 
 // A byte put raw into memory, if memory is long enough.
 fn put_one(mem: &mut [u8], at: u16, byte: u8) {
-    let p = at as usize;
-    if p < mem.len() {
-        mem[p] = byte;
+    if let Some(b) = mem.get_mut(at as usize) {
+        *b = byte;
     }
 }
 
 // Bytes of the line.
-fn put(mem: &mut [u8], at: u16, line: &Line, from: usize, count: usize)
+fn put(mem: &mut [u8], at: u16, line: &Line, from: usize, count: u16)
     requires { from + 2 * count ≤ 190 }
 {
-    let mut place = at;
-    let mut i = 0;
-    while i < count {
-        put_one(mem, place, line::byte_at(line, from + 2 * i));
-        place = std::num::wrapping_add_u16(place, 1);
-        i += 1;
+    for i in 0..count {
+        put_one(
+            mem,
+            at.wrapping_add(i),
+            line::byte_at(line, from + 2 * i as usize),
+        );
     }
 }
 
@@ -72,10 +73,8 @@ fn run_one(
 fn run_all(rt: &HostRuntime, mem: &mut [u8], journal: &mut [u8], line: &Line) -> io::Result<Twin> {
     let mut twin = start(line);
     let count = count_of(line);
-    let mut i: usize = 0;
-    while i < count {
+    for i in 0..count {
         twin = run_one(rt, mem, journal, line, twin, i)?;
-        i += 1;
     }
     Ok(twin)
 }
@@ -87,19 +86,15 @@ fn undo_all(mem: &mut [u8], journal: &[u8], twin: Twin) -> Shown {
         twin,
         reads: 0,
         writes: 0,
-        answer: Answer::Done,
+        answer: Ok(()),
     };
-    let mut undos: u64 = 0;
-    let mut left: u64 = 100000;
-    let mut going = true;
-    while left > 0 && going {
-        left -= 1;
+    for undos in 0..MOST_UNDOS {
         last = journal::undo(mem, journal, last.twin);
-        let answer = last.answer;
-        going = answer.number() == 0;
-        undos = std::num::wrapping_add_u64(undos, going as u64);
+        if last.answer.is_err() {
+            return printed::of_undos(last, undos);
+        }
     }
-    printed::of_undos(last, undos)
+    printed::of_undos(last, MOST_UNDOS)
 }
 
 // The undos, unless the line ends in 1 or 2.
@@ -110,7 +105,7 @@ fn end(
     line: &Line,
     twin: Twin,
 ) -> io::Result<()> {
-    if (line[188] == b'1') | (line[188] == b'2') {
+    if matches!(line[188], b'1' | b'2') {
         return Ok(());
     }
     let shown = undo_all(mem, journal, twin);

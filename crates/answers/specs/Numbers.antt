@@ -1,8 +1,6 @@
 -- The numbers returned (document 01, "Numbers returned"; from 17 on document 02, by request). This is their only table.
 -- Assumes nothing.
-use Rattle.std.specs.Prelude.{ℕ, ◌<◌, ◌≢◌, ◌≡◌}
-use Rattle.answers.specs.declared.Answer.{Answer}
-use Rattle.answers.specs.declared.Answer.TheVariants.{Done, Refused}
+use Rattle.std.specs.Prelude.{◌≡◌, ◌≢◌, ℕ, ◌<◌, Result, Ok, Err}
 use Rattle.answers.specs.declared.Refusal.{Refusal}
 use Rattle.answers.specs.declared.Refusal.TheVariants.{MemoryLength, Waiting, Opcode, PastEnd, PostByte, TransferCode, StackTooSmall, ZeroAtVector, JournalFull, NoRecord, JournalLength, DivisionByZero, LeftByte, NoRoom, Malformed, OutputShort, LineShape, Checksum, PastTop, NoEnd, PostByte8F, TooFewRecords, Fenced, SalvageShort, ListShort, LineShort}
 
@@ -61,9 +59,9 @@ number_of Fenced = 28
 number_of SalvageShort = 29
 
 -- 0 is done
-abbrev pub number_of_answer : Answer → ℕ
-number_of_answer Done = 0
-number_of_answer (Refused x) = number_of x
+abbrev pub number_of_answer : {A : Type 0} → Result A Refusal → ℕ
+number_of_answer (Ok x) = 0
+number_of_answer (Err x) = number_of x
 
 -- the laws: no refusal is numbered 0, and no two refusals have one number
 abbrev pub RefusedByANumber : Type 0

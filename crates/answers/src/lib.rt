@@ -4,85 +4,52 @@
 ghost use Rattle.std.specs.Prelude.{◌≡◌};
 ghost use Rattle.answers.specs.Numbers.{number_of, number_of_answer};
 
-// Why a call is refused.
-#[derive(Clone, Copy)]
+// Why a call is refused. Each has its number in the table of documents 01 and 02.
+#[derive(Clone, Copy, Debug, PartialEq, Eq)]
 pub enum Refusal {
-    MemoryLength,
-    Waiting,
-    Opcode,
-    PastEnd,
-    PostByte,
-    TransferCode,
-    StackTooSmall,
-    ZeroAtVector,
-    JournalFull,
-    NoRecord,
-    JournalLength,
-    DivisionByZero,
-    LeftByte,
-    NoRoom,
-    Malformed,
-    OutputShort,
-    LineShape,
-    Checksum,
-    PastTop,
-    NoEnd,
-    PostByte8F,
-    LineShort,
-    TooFewRecords,
-    ListShort,
-    Fenced,
-    SalvageShort,
-}
-
-#[derive(Clone, Copy)]
-pub enum Answer {
-    Done,
-    Refused(Refusal),
+    MemoryLength = 1,
+    Waiting = 2,
+    Opcode = 3,
+    PastEnd = 4,
+    PostByte = 5,
+    TransferCode = 7,
+    StackTooSmall = 8,
+    ZeroAtVector = 9,
+    JournalFull = 10,
+    NoRecord = 11,
+    JournalLength = 12,
+    DivisionByZero = 13,
+    LeftByte = 14,
+    NoRoom = 15,
+    Malformed = 16,
+    OutputShort = 17,
+    LineShape = 20,
+    Checksum = 21,
+    PastTop = 22,
+    NoEnd = 23,
+    PostByte8F = 24,
+    LineShort = 25,
+    TooFewRecords = 26,
+    ListShort = 27,
+    Fenced = 28,
+    SalvageShort = 29,
 }
 
 impl Refusal {
     pub fn number(self) -> u8
         ensures { result ≡ number_of self }
     {
-        match self {
-            Refusal::MemoryLength => 1,
-            Refusal::Waiting => 2,
-            Refusal::Opcode => 3,
-            Refusal::PastEnd => 4,
-            Refusal::PostByte => 5,
-            Refusal::TransferCode => 7,
-            Refusal::StackTooSmall => 8,
-            Refusal::ZeroAtVector => 9,
-            Refusal::JournalFull => 10,
-            Refusal::NoRecord => 11,
-            Refusal::JournalLength => 12,
-            Refusal::DivisionByZero => 13,
-            Refusal::LeftByte => 14,
-            Refusal::NoRoom => 15,
-            Refusal::Malformed => 16,
-            Refusal::OutputShort => 17,
-            Refusal::LineShape => 20,
-            Refusal::Checksum => 21,
-            Refusal::PastTop => 22,
-            Refusal::NoEnd => 23,
-            Refusal::PostByte8F => 24,
-            Refusal::LineShort => 25,
-            Refusal::TooFewRecords => 26,
-            Refusal::ListShort => 27,
-            Refusal::Fenced => 28,
-            Refusal::SalvageShort => 29,
-        }
+        self as u8
     }
 }
 
-impl Answer {
-    pub fn number(self) -> u8
-        ensures { result ≡ number_of_answer self }
-    {
-        match self {
-            Answer::Done => 0,
-            Answer::Refused(refusal) => refusal.number(),
-        }
+// The number of an answer: 0 where the call is done.
+pub fn number<T>(answer: &Result<T, Refusal>) -> u8
+    ensures { result ≡ number_of_answer answer.now }
+{
+    // Two arms show both numbers; a chain of `err` and `map_or` would say no less.
+    match answer {
+        Ok(_) => 0,
+        Err(refusal) => refusal.number(),
     }
 }

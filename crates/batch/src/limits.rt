@@ -1,26 +1,20 @@
 // Calls at the limits of memory and output.
-use super::printed::{print, print_answer};
+use super::printed::{print, print_loaded, print_written};
 use std::io;
 
 // A memory of 65,535 bytes is read into and written from.
 fn short_memory(rt: &HostRuntime) -> io::Result<()> {
     let mut mem = [1u8; 65535];
-    let loaded = srecord::read(&mut mem, b"S9030000FC\n");
-    let answer = loaded.answer;
-    print_answer(rt, answer, loaded.start)?;
+    print_loaded(rt, srecord::read(&mut mem, b"S9030000FC\n"))?;
     let mut text = [b'.'; 86];
-    let written = srecord::write(&[1u8; 65535], 0, &mut text);
-    let answer = written.answer;
-    print_answer(rt, answer, 0)
+    print_written(rt, srecord::write(&[1u8; 65535], 0, &mut text))
 }
 
 // A memory whose last byte alone is not zero, written into a part and printed with it.
 fn write_into(rt: &HostRuntime, out: &mut [u8]) -> io::Result<()> {
     let mut mem = [0u8; 65536];
     mem[65535] = 255;
-    let written = srecord::write(&mem, 0x1234, out);
-    let answer = written.answer;
-    print_answer(rt, answer, 0)?;
+    print_written(rt, srecord::write(&mem, 0x1234, out))?;
     print(rt, out)
 }
 

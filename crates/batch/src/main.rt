@@ -7,7 +7,7 @@ mod printed;
 
 ghost use Rattle.std.specs.Prelude.{◌+◌, ◌≤◌};
 
-use printed::{print_answer, print_first};
+use printed::{print_first, print_loaded};
 use std::io;
 
 const BYTES: usize = 0x10000;
@@ -45,20 +45,21 @@ fn print_records(rt: &HostRuntime, text: &[u8; RECORDS], n: usize) -> io::Result
 // A memory of this length and an output of this one are never refused.
 fn print_memory(rt: &HostRuntime, mem: &[u8; BYTES], start: u16) -> io::Result<()> {
     let mut out = [0u8; RECORDS];
-    let written = srecord::write(mem, start, &mut out);
-    print_records(rt, &out, written.count)
+    match srecord::write(mem, start, &mut out) {
+        Ok(count) => print_records(rt, &out, count),
+        Err(_) => Ok(()),
+    }
 }
 
 // The file is read over a zeroed memory.
 fn load(rt: &HostRuntime, file: &[u8]) -> io::Result<()> {
     let mut mem = [0u8; BYTES];
     let loaded = srecord::read(&mut mem, file);
-    let answer = loaded.answer;
-    let start = loaded.start;
-    print_answer(rt, answer, start)?;
-    print_memory(rt, &mem, start)
+    print_loaded(rt, loaded)?;
+    print_memory(rt, &mem, loaded.unwrap_or(0))
 }
 
+// The letters are the input's: an enum would be read from them and matched at once.
 fn answer(rt: &HostRuntime, kind: u8, input: &[u8]) -> io::Result<()> {
     match kind {
         b'R' => play(rt, input),

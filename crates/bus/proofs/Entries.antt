@@ -1,6 +1,7 @@
 -- What the opcode table says of an instruction's bytes: an immediate operand is as wide as its operation takes, and how much each entry can read
 -- and write at most. One test over the table's 768 places.
 -- Assumes nothing.
+use Rattle.std.specs.Prelude.{Err, None, Ok, Option, Result, Some}
 use Prim.Native.Nat.{ℕ, zero, suc, ◌+◌, ◌≤◌, ◌<◌}
 use mathlib.Core.Bool.{Bool, true, false, cond, ◌&&◌}
 use mathlib.Core.List.{List, []}
@@ -21,8 +22,6 @@ use Rattle.opcodes.specs.declared.Op.{Op}
 use Rattle.opcodes.specs.declared.Op.TheVariants.{Registers, Memory}
 use Rattle.opcodes.specs.declared.Page.{Page}
 use Rattle.opcodes.specs.declared.Page.TheVariants.{Plain, Ten, Eleven}
-use Rattle.opcodes.specs.declared.Place.{Place}
-use Rattle.opcodes.specs.declared.Place.TheVariants.{Instruction as InManual, None}
 use Rattle.opcodes.proofs.Rows.{alike}
 use Rattle.decode.specs.Laws.{offset_bytes_of}
 use Rattle.decode.specs.Operand.{signed_byte, operand_number, reading, with_form, after_post_byte, operand_bytes, operand_at}
@@ -30,14 +29,11 @@ use Rattle.decode.specs.PostByte.{is_indirect, form_of, offset_bytes}
 use Rattle.decode.specs.declared.operand.Indexed.{Indexed as Index}
 use Rattle.decode.specs.declared.operand.Operand.{Operand}
 use Rattle.decode.specs.declared.operand.Operand.TheVariants.{Inherent as Nothing, Immediate as ByValue, Direct as InPage, Indexed as ByIndex, Extended as AtAddress, Relative as ByOffset}
-use Rattle.decode.specs.declared.operand.OperandRead.{OperandRead}
-use Rattle.decode.specs.declared.operand.OperandRead.TheVariants.{Operand as Read, Refused as NotRead}
 use Rattle.decode.specs.declared.postbyte.Form.{Form}
 use Rattle.decode.specs.declared.postbyte.Form.TheVariants.{Offset5, Increment1, Increment2, Decrement1, Decrement2, NoOffset, OffsetB, OffsetA, Offset8, Offset16, OffsetD, Program8, Program16, Address}
-use Rattle.decode.specs.declared.postbyte.PostByte.{PostByte}
-use Rattle.decode.specs.declared.postbyte.PostByte.TheVariants.{Form as Formed, Refused as NoForm}
 use Rattle.addressing.specs.Address.{indexed_before}
 use Rattle.bus.specs.Reads.{bytes_from, pointer_reads, operand_taken, operand_reads}
+use Rattle.answers.specs.declared.Refusal.{Refusal}
 
 pub length-bytes : (n at : ℕ) → length (bytes_from at n) ≡ n
 unfolding bytes_from
@@ -121,15 +117,15 @@ pub record EntrySo (e : Entry) : Type 0 where
   pub reads : read_most e ≤ 14
   pub together : read_most e + written_most e.op ≤ 17
 
-abbrev pub PlaceSo : Place → Type 0
-PlaceSo (InManual e) = EntrySo e
+abbrev pub PlaceSo : Option Entry → Type 0
+PlaceSo (Some e) = EntrySo e
 PlaceSo None = Unit {0}
 
 wide : Entry → Bool
 wide e = cond (is_immediate e.mode) (leb (operand_taken e.op) (operand_bytes e.mode)) true
 
-right : Place → Bool
-right (InManual e) = wide e && (leb (read_most e) 14 && leb (read_most e + written_most e.op) 17)
+right : Option Entry → Bool
+right (Some e) = wide e && (leb (read_most e) 14 && leb (read_most e + written_most e.op) 17)
 right None = true
 
 all_right : (page : Page) → values (λ (code : ℕ). right (entry_of page code)) 0 256 ≡ values (λ (code : ℕ). true) 0 256
@@ -148,9 +144,9 @@ if-immediate : (t b : Bool) → T (cond t b true) → T t → T b
 if-immediate true b h k = h
 if-immediate false b h k = absurd k
 
-so : (p : Place) → right p ≡ true → PlaceSo p
+so : (p : Option Entry) → right p ≡ true → PlaceSo p
 unfolding right wide
-so (InManual e) t =
+so (Some e) t =
     let (a, (b, c)) = all_three (wide e) (leb (read_most e) 14) (leb (read_most e + written_most e.op) 17) t in
     record {
       immediate = λ k. leb→le (operand_taken e.op) (operand_bytes e.mode) (if-immediate (is_immediate e.mode) (leb (operand_taken e.op) (operand_bytes e.mode)) a k);
@@ -168,9 +164,9 @@ pub record OperandSo (mode : Mode) (at : ℕ) (o : Operand) (next : ℕ) : Type 
   pub indexed : (r : Set) (to : ℕ) → offset_bytes_of o + length (pointer_reads o r to) ≤ indexed_most mode
   pub immediate : T (is_immediate mode) → (o ≡ ByValue at) × (next ≡ at + operand_bytes mode)
 
-abbrev pub ReadSo : Mode → ℕ → OperandRead → Type 0
-ReadSo mode at (Read o next) = OperandSo mode at o next
-ReadSo mode at (NotRead x) = Unit {0}
+abbrev pub ReadSo : Mode → ℕ → Result (Operand × ℕ) Refusal → Type 0
+ReadSo mode at (Ok (o, next)) = OperandSo mode at o next
+ReadSo mode at (Err x) = Unit {0}
 
 pub form-most : (f : Form) → offset_bytes f ≤ 2
 form-most Offset5 = lit≤ tt
@@ -198,18 +194,18 @@ module _ (mem : List ℕ) (at : ℕ) where
       go false ea = omega (arith, form-most ix.form)
 
   -- a test that may refuse by 4
-  tested : (mode : Mode) (t : Bool) (r : OperandRead) → ReadSo mode at r → ReadSo mode at (cond t r (NotRead PastEnd))
+  tested : (mode : Mode) (t : Bool) (r : Result (Operand × ℕ) Refusal) → ReadSo mode at r → ReadSo mode at (cond t r (Err PastEnd))
   tested mode true r h = h
   tested mode false r h = tt
 
-  by_form : (n from : ℕ) (f : ℕ → Index) → ReadSo Indexed at (reading n mem from (λ k next. Read (ByIndex (f k)) next))
+  by_form : (n from : ℕ) (f : ℕ → Index) → ReadSo Indexed at (reading n mem from (λ k next. Ok (ByIndex (f k), next)))
   by_form zero from f = by_index (f 0) from
-  by_form (suc n) from f = tested Indexed (leb (from + suc n) 0x10000) (Read (ByIndex (f (operand_number (suc n) mem from))) (from + suc n)) (by_index _ _)
+  by_form (suc n) from f = tested Indexed (leb (from + suc n) 0x10000) (Ok (ByIndex (f (operand_number (suc n) mem from)), from + suc n)) (by_index _ _)
 
-  after-post : (p : PostByte) (post from : ℕ) → ReadSo Indexed at (after_post_byte p mem post from)
+  after-post : (p : Result Form Refusal) (post from : ℕ) → ReadSo Indexed at (after_post_byte p mem post from)
   unfolding with_form
-  after-post (Formed form) post from = by_form (offset_bytes form) from _
-  after-post (NoForm x) post from = tt
+  after-post (Ok form) post from = by_form (offset_bytes form) from _
+  after-post (Err x) post from = tt
 
   -- an immediate operand stands at its own address
   value-so : (mode : Mode) (n : ℕ) → operand_bytes mode ≡ n → OperandSo mode at (ByValue at) (at + n)
@@ -222,10 +218,10 @@ module _ (mem : List ℕ) (at : ℕ) where
   pub operand-so : (mode : Mode) → ReadSo mode at (operand_at mode mem at)
   unfolding operand_at indexed_most
   operand-so Inherent = plain-so Inherent Nothing at refl (λ r to. refl)
-  operand-so Immediate8 = tested Immediate8 (leb (at + 1) 0x10000) (Read (ByValue at) (at + 1)) (value-so Immediate8 1 refl)
-  operand-so Immediate16 = tested Immediate16 (leb (at + 2) 0x10000) (Read (ByValue at) (at + 2)) (value-so Immediate16 2 refl)
-  operand-so Direct = tested Direct (leb (at + 1) 0x10000) (Read (InPage (operand_number 1 mem at)) (at + 1)) (plain-so Direct _ _ refl (λ r to. refl))
+  operand-so Immediate8 = tested Immediate8 (leb (at + 1) 0x10000) (Ok (ByValue at, at + 1)) (value-so Immediate8 1 refl)
+  operand-so Immediate16 = tested Immediate16 (leb (at + 2) 0x10000) (Ok (ByValue at, at + 2)) (value-so Immediate16 2 refl)
+  operand-so Direct = tested Direct (leb (at + 1) 0x10000) (Ok (InPage (operand_number 1 mem at), at + 1)) (plain-so Direct _ _ refl (λ r to. refl))
   operand-so Indexed = tested Indexed (leb (at + 1) 0x10000) _ (after-post (form_of (byte_at mem at)) (byte_at mem at) (at + 1))
-  operand-so Extended = tested Extended (leb (at + 2) 0x10000) (Read (AtAddress (operand_number 2 mem at)) (at + 2)) (plain-so Extended _ _ refl (λ r to. refl))
-  operand-so Relative8 = tested Relative8 (leb (at + 1) 0x10000) (Read (ByOffset (signed_byte (operand_number 1 mem at))) (at + 1)) (plain-so Relative8 _ _ refl (λ r to. refl))
-  operand-so Relative16 = tested Relative16 (leb (at + 2) 0x10000) (Read (ByOffset (operand_number 2 mem at)) (at + 2)) (plain-so Relative16 _ _ refl (λ r to. refl))
+  operand-so Extended = tested Extended (leb (at + 2) 0x10000) (Ok (AtAddress (operand_number 2 mem at), at + 2)) (plain-so Extended _ _ refl (λ r to. refl))
+  operand-so Relative8 = tested Relative8 (leb (at + 1) 0x10000) (Ok (ByOffset (signed_byte (operand_number 1 mem at)), at + 1)) (plain-so Relative8 _ _ refl (λ r to. refl))
+  operand-so Relative16 = tested Relative16 (leb (at + 2) 0x10000) (Ok (ByOffset (operand_number 2 mem at), at + 2)) (plain-so Relative16 _ _ refl (λ r to. refl))

@@ -1,5 +1,6 @@
 -- How small the parts of the sum are: so a byte holds it.
 -- Assumes nothing.
+use Rattle.std.specs.Prelude.{Err, None, Ok, Option, Result, Some}
 use Prim.Native.Nat.{ℕ, ◌+◌, ◌≤◌, ◌<◌}
 use mathlib.Core.Bool.{Bool, true, false, cond}
 use mathlib.Core.List.{List}
@@ -15,12 +16,9 @@ use Rattle.opcodes.specs.declared.Entry.{Entry}
 use Rattle.opcodes.specs.declared.MemoryOp.TheVariants.{OnMemory, Store8, Store16, Bsr, Jsr, Rts, Rti, Swi, Cwai, Sync, Push, Pull}
 use Rattle.opcodes.specs.declared.Mode.{Mode}
 use Rattle.opcodes.specs.declared.Mode.TheVariants.{Inherent, Immediate8, Immediate16, Direct, Indexed, Extended, Relative8, Relative16}
-use Rattle.opcodes.specs.declared.Op.{Op}
 use Rattle.opcodes.specs.declared.Op.TheVariants.{Registers, Memory}
 use Rattle.opcodes.specs.declared.Page.{Page}
 use Rattle.opcodes.specs.declared.Page.TheVariants.{Plain, Ten, Eleven}
-use Rattle.opcodes.specs.declared.Place.{Place}
-use Rattle.opcodes.specs.declared.Place.TheVariants.{Instruction as InManual, None}
 use Rattle.opcodes.specs.declared.RegisterOp.{RegisterOp}
 use Rattle.opcodes.specs.declared.RegisterOp.TheVariants.{Alu, OnAcc, TestAcc, TestMemory, Addd, Subd, Load16, Cmp16, Lea, Branch, Jmp, Nop, Daa, Sex, Mul, Abx, Andcc, Orcc, Exg, Tfr}
 use Rattle.registers.specs.ConditionCodes.{coded, flag}
@@ -31,18 +29,15 @@ use Rattle.decode.specs.Decode.{second_byte, located, with_operand, decoded_as, 
 use Rattle.decode.specs.Laws.{offset_bytes_of}
 use Rattle.decode.specs.Operand.{operand_bytes, operand_at}
 use Rattle.decode.specs.PostByte.{is_indirect}
-use Rattle.decode.specs.declared.instruction.Decoded.TheVariants.{Instruction as Taken, Refused as NotDecoded}
 use Rattle.decode.specs.declared.instruction.Instruction.{Instruction}
 use Rattle.decode.specs.declared.operand.Operand.{Operand}
 use Rattle.decode.specs.declared.operand.Operand.TheVariants.{Inherent as Nothing, Immediate as ByValue, Direct as InPage, Indexed as ByIndex, Extended as AtAddress, Relative as ByOffset}
-use Rattle.decode.specs.declared.operand.OperandRead.{OperandRead}
-use Rattle.decode.specs.declared.operand.OperandRead.TheVariants.{Operand as Read, Refused as NotRead}
 use Rattle.decode.proofs.Sound.{SoundRead, operand_sound}
-use Rattle.stack.specs.Pushing.{bytes_pushed}
 use Rattle.stack.proofs.Laws.{none_dropped}
-use Rattle.bus.specs.Reads.{registers_take, memory_takes}
-use Rattle.bus.specs.Sums.{pointer_count, operand_count, fetched_count, FiveBytes, PointerSmall, OperationSmall, OperationsSmall}
+use Rattle.bus.specs.Reads.{registers_take}
+use Rattle.bus.specs.Sums.{operand_count, FiveBytes, PointerSmall, OperationsSmall}
 use Rattle.bus.proofs.Entries.{indexed_most, ReadSo, form-most, operand-so}
+use Rattle.answers.specs.declared.Refusal.{Refusal}
 
 pub pointer-small : PointerSmall
 pointer-small (ByIndex ix) = go (is_indirect ix.post)
@@ -139,20 +134,20 @@ module _ (mem : List ℕ) (pc : ℕ) (i : Instruction) where
   Near : ℕ → Type 0
   Near at = (at ≤ i.next) × (i.next ≤ at + 3)
 
-  of-operand : (e : Entry) (at : ℕ) (r : OperandRead) → operand_at e.mode mem at ≡ r → with_operand e r ≡ Taken i → Near at
+  of-operand : (e : Entry) (at : ℕ) (r : Result (Operand × ℕ) Refusal) → operand_at e.mode mem at ≡ r → with_operand e r ≡ Ok i → Near at
   unfolding Near
-  of-operand e at (Read o next) q t =
+  of-operand e at (Ok (o, next)) q t =
       let d : record { entry = e; operand = o; next = next } ≡ i = cc in
       let n : next ≡ i.next = ap (λ (j : Instruction). j.next) d in
       let k = (subst (SoundRead mem at (operand_bytes e.mode)) q (operand_sound mem e.mode at)).length in
       let x = (subst (ReadSo e.mode at) q (operand-so mem at e.mode)).indexed none 0 in
       let y = three e.mode (offset_bytes_of o) (offset-most o) (omega arith) in
       (omega arith, omega arith)
-  of-operand e at (NotRead x) q t = let z : ◌≡◌ {A = ℕ} 0 1 = cc in absurd (omega arith)
+  of-operand e at (Err x) q t = let z : ◌≡◌ {A = ℕ} 0 1 = cc in absurd (omega arith)
 
-  of-place : (p : Place) (at : ℕ) → decoded_as p mem at ≡ Taken i → Near at
+  of-place : (p : Option Entry) (at : ℕ) → decoded_as p mem at ≡ Ok i → Near at
   unfolding decoded_as
-  of-place (InManual e) at t = of-operand e at (operand_at e.mode mem at) refl t
+  of-place (Some e) at t = of-operand e at (operand_at e.mode mem at) refl t
   of-place None at t = let z : ◌≡◌ {A = ℕ} 0 1 = cc in absurd (omega arith)
 
   -- by the first byte: a prefix, with the opcode after it, or the opcode itself
@@ -166,16 +161,16 @@ module _ (mem : List ℕ) (pc : ℕ) (i : Instruction) where
       let b = n.1 in
       (omega arith, omega arith)
 
-  second : (page : Page) → from_located (second_byte page mem pc) mem ≡ Taken i → Five
+  second : (page : Page) → from_located (second_byte page mem pc) mem ≡ Ok i → Five
   second page t = go (dec_lt pc 0xFFFF)
     where
       go : Dec (pc < 0xFFFF) → Five
       go (yes l) = near (pc + 2) (omega arith) (omega arith) (of-place (entry_of page (byte_at mem (low_at pc))) (pc + 2) (rw (lt-ltb pc 0xFFFF l) at t))
       go (no n) =
-          let k : NotDecoded PastEnd ≡ Taken i = rw (le-ltb pc 0xFFFF (omega arith)) at t in
+          let k : Err PastEnd ≡ Ok i = rw (le-ltb pc 0xFFFF (omega arith)) at t in
           let z : ◌≡◌ {A = ℕ} 0 1 = cc in absurd (omega arith)
 
-  first : decoded_at mem pc ≡ Taken i → Five
+  first : decoded_at mem pc ≡ Ok i → Five
   unfolding decoded_at located
   first e = go (eqb (byte_at mem pc) 0x10) refl (eqb (byte_at mem pc) 0x11) refl
     where

@@ -1,6 +1,6 @@
 -- How many bytes an instruction reads, as a sum: program bytes, two for a pointer, the operand's unless it is immediate, the pulled or the vector's.
 -- Assumes nothing.
-use Rattle.std.specs.Prelude.{ℕ, ◌+◌, ◌-◌, ◌≤◌, cond, List, ◌≡◌, length}
+use Rattle.std.specs.Prelude.{ℕ, ◌+◌, ◌-◌, ◌≤◌, cond, List, ◌≡◌, length, Ok}
 use Rattle.registers.specs.ConditionCodes.{coded, flag}
 use Rattle.registers.specs.declared.CCBit.TheVariants.{E}
 use Rattle.registers.specs.declared.Set.{Set}
@@ -14,7 +14,6 @@ use Rattle.opcodes.specs.declared.Op.{Op}
 use Rattle.opcodes.specs.declared.Op.TheVariants.{Registers, Memory}
 use Rattle.decode.specs.Decode.{decoded_at}
 use Rattle.decode.specs.PostByte.{is_indirect}
-use Rattle.decode.specs.declared.instruction.Decoded.TheVariants.{Instruction as Taken}
 use Rattle.decode.specs.declared.instruction.Instruction.{Instruction}
 use Rattle.decode.specs.declared.operand.Operand.{Operand}
 use Rattle.decode.specs.declared.operand.Operand.TheVariants.{Inherent as Nothing, Immediate as ByValue, Direct as InPage, Indexed as ByIndex, Extended as AtAddress, Relative as ByOffset}
@@ -72,7 +71,7 @@ ReadsSummed =
 
 -- an instruction is at most five bytes long
 abbrev pub FiveBytes : Type 0
-FiveBytes = (mem : List ℕ) (pc : ℕ) (i : Instruction) → decoded_at mem pc ≡ Taken i → (pc ≤ i.next) × (i.next ≤ pc + 5)
+FiveBytes = (mem : List ℕ) (pc : ℕ) (i : Instruction) → decoded_at mem pc ≡ Ok i → (pc ≤ i.next) × (i.next ≤ pc + 5)
 
 -- two bytes of a pointer at most
 abbrev pub PointerSmall : Type 0

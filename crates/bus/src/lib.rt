@@ -1,5 +1,5 @@
-// Which bytes an instruction reads: specs/Reads.antt has their addresses, a clause for each operation. Here is how many they are, part by part
-// (specs/Sums.antt); the program's own bytes are counted where its next address is known.
+// Which bytes an instruction reads: specs/Reads.antt has their addresses, a clause for each operation. Here is how many they are, part by
+// part (specs/Sums.antt); the program's own bytes are counted where its next address is known.
 #![tactic(auto)]
 
 ghost use Rattle.std.specs.Prelude.{◌≡◌};
@@ -15,11 +15,7 @@ pub fn pointer_count(operand: Operand) -> u8
     ensures { result ≡ pointer_count operand }
 {
     match operand {
-        Operand::Indexed(indexed) => if decode::is_indirect(indexed.post) {
-            2
-        } else {
-            0
-        },
+        Operand::Indexed(indexed) if decode::is_indirect(indexed.post) => 2,
         _ => 0,
     }
 }
@@ -34,7 +30,7 @@ pub fn operand_count(mode: Mode, n: u8) -> u8
     }
 }
 
-// How many bytes of its operand an operation takes.
+// How many bytes of its operand an operation takes. This and `memory_takes` are two: each asks of an enum of its own.
 pub fn registers_take(op: RegisterOp) -> u8
     ensures { result ≡ registers_take op }
 {

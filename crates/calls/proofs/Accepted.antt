@@ -7,7 +7,6 @@ use Rattle.registers.specs.declared.Flags.{Flags}
 use Rattle.memory.specs.Map.{word_at}
 use Rattle.machine.specs.Machine.{with_registers, settings_with}
 use Rattle.machine.specs.declared.Machine.{Machine}
-use Rattle.machine.specs.declared.Settings.{Settings}
 use Rattle.machine.specs.declared.Wait.{Wait}
 use Rattle.machine.specs.declared.fence.Range.{Range}
 use Rattle.machine.specs.declared.Wait.TheVariants.{Running, Cwai, Sync}

@@ -1,8 +1,10 @@
 -- What a decision stands for, kind by kind; and what it does where its writes are plain.
 -- Assumes nothing.
-use Rattle.std.proofs.Common.{◌≡◌, ℕ, suc, ◌+◌, ◌-◌, ◌/◌, ◌%◌, ◌<◌, ◌≤◌, Bool, true, false, cond, ◌&&◌, ltb, leb, List, [], ◌∷◌, length, get_or, set, sym, refl, ap, ◌∙◌, subst, arith, length-take, ltb-true, le-ltb, lt-ltb, leb-true}
+use Rattle.std.proofs.Common.{◌≡◌, ℕ, suc, ◌+◌, ◌-◌, ◌/◌, ◌%◌, ◌<◌, ◌≤◌, Bool, true, false, ◌&&◌, ltb, leb, List, [], ◌∷◌, length, get_or, set, sym, refl, ap, ◌∙◌, subst, arith, length-take, ltb-true, le-ltb, lt-ltb, leb-true, Err, Ok, Result}
+use Rattle.std.specs.Prelude.{⊤}
+use Rattle.answers.specs.declared.Refusal.{Refusal}
+use Rattle.machine.specs.Machine.{with_registers}
 use Rattle.u8oru16.specs.declared.u8u16.TheVariants.{u8, u16}
-use Rattle.answers.specs.declared.Answer.TheVariants.{Done}
 use Rattle.answers.specs.declared.Refusal.TheVariants.{StackTooSmall}
 use Rattle.registers.specs.Names.{stack_word}
 use Rattle.registers.specs.RegisterSet.{word_of, with_word}
@@ -26,9 +28,9 @@ use Rattle.stack.specs.Pushing.{chosen, registers_named, bytes_pushed, pushes, p
 use Rattle.stack.specs.Frames.{framed}
 use Rattle.vectors.specs.Table.{is_entire}
 use Rattle.vectors.specs.declared.table.Vector.{Vector}
-use Rattle.calls.specs.Plans.{carried_out, memory_with}
-use Rattle.calls.specs.Interrupts.{taken_reads}
-use Rattle.calls.specs.Steps.{after_instruction, finished}
+use Rattle.calls.specs.Plans.{ended_by, carried_out, memory_with}
+use Rattle.calls.specs.Interrupts.{taken_reads, of_effect}
+use Rattle.calls.specs.Steps.{after_instruction, finished_as, finished}
 use Rattle.bus.specs.Reads.{operand_taken, instruction_reads}
 use Rattle.bus.specs.Sums.{pointer_count, operand_count, fetched_count}
 use Rattle.bus.proofs.Sums.{vector-length, reads-summed}
@@ -58,6 +60,16 @@ module _ (s : Settings) (mem : List ℕ) (d : Decision) (cycles reads : ℕ) (ar
 
   pub billed-effect : effect_told s mem (billed d cycles reads arms) ≡ effect_told s mem d
   billed-effect = effect-as d.kind
+
+-- ---- an effect's answer
+
+pub ended-step : (a : Result ⊤ Refusal) (m : Machine) (cycles : ℕ) (arms : Bool) (reads : ℕ) (e : Effect) → ended_by a m e.writes (after_instruction m cycles arms e.regs e.wait) reads ≡ finished_as a m cycles arms reads e
+ended-step (Ok u) m cycles arms reads e = refl
+ended-step (Err x) m cycles arms reads e = refl
+
+pub ended-interrupt : (a : Result ⊤ Refusal) (m : Machine) (reads : ℕ) (e : Effect) → ended_by a m e.writes (with_registers m e.regs Running) reads ≡ of_effect m reads e a
+ended-interrupt (Ok u) m reads e = refl
+ended-interrupt (Err x) m reads e = refl
 
 -- ---- by the kind
 
@@ -202,7 +214,7 @@ pub record Done-plain (s : Settings) (m : Machine) (cycles : ℕ) (arms : Bool) 
 
 module _ (s : Settings) (m : Machine) (cycles : ℕ) (arms : Bool) (reads : ℕ) (r : Set) where
   abbrev left : List Write → ℕ → Report
-  left devices writes = record { devices = writes_of devices; machine = after_instruction m cycles arms r Running; reads = reads; writes = writes; answer = Done }
+  left devices writes = record { devices = writes_of devices; machine = after_instruction m cycles arms r Running; reads = reads; writes = writes; answer = (Ok tt) }
 
   whole : (ws : List Write) → carried_out s (finished m cycles arms reads (stores r (writes_of ws))) ≡ left (reported s.ram_top ws) (length ws)
   unfolding finished

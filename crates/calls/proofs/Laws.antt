@@ -1,11 +1,10 @@
 -- Laws of every call: a refused one changes nothing, at most twelve bytes are written, machine and writes fit their widths, and wait state,
 -- mark and counters move as they should.
 -- Assumes nothing.
-use Rattle.std.proofs.Common.{◌≡◌, ℕ, ◌+◌, ◌<◌, ◌≤◌, Bool, true, false, cond, eqb, List, [], length, sym, refl, ap, ◌∙◌, mod-lt, arith, lit<}
-use Rattle.answers.specs.declared.Answer.{Answer}
-use Rattle.answers.specs.declared.Answer.TheVariants.{Done, Refused}
+use Rattle.std.proofs.Common.{◌≡◌, ℕ, ◌+◌, ◌<◌, ◌≤◌, Bool, true, false, cond, eqb, List, [], length, sym, refl, ap, ◌∙◌, mod-lt, lit<, Err, Ok, Result}
+use Rattle.std.specs.Prelude.{⊤}
 use Rattle.answers.specs.declared.Refusal.{Refusal}
-use Rattle.answers.specs.declared.Refusal.TheVariants.{MemoryLength, Waiting, Fenced}
+use Rattle.answers.specs.declared.Refusal.TheVariants.{MemoryLength, Fenced}
 use Rattle.registers.specs.Fits.{Fits}
 use Rattle.registers.specs.RegisterSet.{after_reset}
 use Rattle.registers.specs.declared.Set.{Set}
@@ -25,13 +24,9 @@ use Rattle.machine.specs.declared.Wait.TheVariants.{Running, Cwai, Sync}
 use Rattle.opcodes.specs.declared.Entry.{Entry}
 use Rattle.decode.specs.Decode.{decoded_at}
 use Rattle.decode.specs.Laws.{DecodedFits}
-use Rattle.decode.specs.declared.instruction.Decoded.{Decoded}
-use Rattle.decode.specs.declared.instruction.Decoded.TheVariants.{Instruction as Taken, Refused as NotDecoded}
 use Rattle.decode.specs.declared.instruction.Instruction.{Instruction}
 use Rattle.decode.proofs.Laws.{decode-fits}
 use Rattle.addressing.specs.Address.{resolved_of}
-use Rattle.addressing.specs.declared.Resolved.{Resolved}
-use Rattle.addressing.specs.declared.Resolved.TheVariants.{At as Addressed, Refused as NoAddress}
 use Rattle.addressing.specs.Laws.{ResolvedFits}
 use Rattle.addressing.proofs.Widths.{resolve-fits}
 use Rattle.operations.specs.Branches.{jumped}
@@ -42,9 +37,9 @@ use Rattle.vectors.specs.declared.table.Vector.{Vector}
 use Rattle.vectors.specs.declared.table.Vector.TheVariants.{Reset}
 use Rattle.vectors.proofs.Sound.{vectors-sound}
 use Rattle.evaluate.specs.Arming.{arms}
-use Rattle.evaluate.specs.Evaluate.{evaluate_of}
 use Rattle.evaluate.specs.Waits.{wait_after}
 use Rattle.evaluate.proofs.Sound.{evaluated-sound}
+use Rattle.evaluate.proofs.Writes.{not_done}
 use Rattle.evaluate.proofs.Waits.{cwai-alone, sync-alone}
 use Rattle.cycles.specs.Bills.{BoundedAt}
 use Rattle.cycles.specs.Cycles.{extra_of, cycles_of}
@@ -53,10 +48,11 @@ use Rattle.calls.specs.Plans.{refused_with, accepted, carried_out, memory_with, 
 use Rattle.calls.specs.Steps.{Reached, At, NotReached, addressed, of_decoded, decoded_to, unless_waiting, reached, finished_as, finished, planned, step_plan}
 use Rattle.calls.specs.Interrupts.{vector_of, is_held_off, taken, taken_reads, after_held_off, of_effect, interrupt_plan}
 use Rattle.calls.specs.Resets.{reset_to, reset_plan}
-use Rattle.calls.specs.Calls.{Call, step, interrupt, reset, settings_in, plan_of, RefusedCall, FewWrites, CallFits}
+use Rattle.calls.specs.Calls.{step, interrupt, reset, RefusedCall, FewWrites, CallFits}
 use Rattle.calls.specs.Moves.{Moved, MovedBy, StepMoves, BoundedBy, StepBounded, Still, InterruptStill, ResetStill}
 use Rattle.calls.specs.declared.InterruptType.{InterruptType}
 use Rattle.calls.specs.declared.Plan.{Plan}
+use Rattle.addressing.specs.declared.Addressed.{Addressed}
 
 -- what a call is given
 record Provided (mem : List ℕ) (m : Machine) : Type 0 where
@@ -67,14 +63,10 @@ record Provided (mem : List ℕ) (m : Machine) : Type 0 where
 -- fit where P says that what came does; and where it is accepted, Moves holds of the new machine
 record Whole (P : Type 0) (Moves : Machine → Type 0) (m : Machine) (p : Plan) : Type 0 where
   few : Full p.writes
-  refused : (x : Refusal) → p.answer ≡ Refused x → p ≡ refused_with m x
+  refused : (x : Refusal) → p.answer ≡ Err x → p ≡ refused_with m x
   fits : P → MachineFits p.machine
   widths : P → AllFit p.writes.list
-  moves : p.answer ≡ Done → Moves p.machine
-
--- a refusal is no 0
-not_done : {A : Type 0} {x : Refusal} → Refused x ≡ Done → A
-not_done e = let z : ◌≡◌ {A = ℕ} 0 1 = cc in absurd (omega arith)
+  moves : p.answer ≡ (Ok tt) → Moves p.machine
 
 module _ {P : Type 0} {Moves : Machine → Type 0} (m : Machine) (h : P → MachineFits m) where
   refused-whole : (y : Refusal) → Whole P Moves m (refused_with m y)
@@ -94,15 +86,15 @@ weaker f t = record { few = t.few; waits = t.waits; refused = t.refused; registe
 
 -- an operation that is carried out, by the entry e
 module _ {P : Type 0} (m : Machine) (h : P → MachineFits m) (e : Entry) (cost : ℕ) (mark : Bool) (reads : ℕ) (f : Effect) (r : Set) (s : Sound P r (wait_after e.op) f) where
-  as-whole : (a : Answer) → (a ≡ Done → f.wait ≡ wait_after e.op) → Whole P (Moved e cost mark m) m (finished_as a m cost mark reads f)
-  as-whole Done w = record {
+  as-whole : (a : Result ⊤ Refusal) → (a ≡ (Ok tt) → f.wait ≡ wait_after e.op) → Whole P (Moved e cost mark m) m (finished_as a m cost mark reads f)
+  as-whole (Ok u) w = record {
     few = record { places = s.few };
     refused = λ x d. not_done (sym d);
     fits = λ g. record { registers = s.registers g; cycles = mod-lt (m.cycles + cost) (lit< tt); instructions = mod-lt (m.instructions + 1) (lit< tt) };
     widths = s.widths;
     moves = λ d. record { cycles = refl; instructions = refl; cwai = rw (w refl) (cwai-alone e.op); sync = rw (w refl) (sync-alone e.op); armed = refl };
   }
-  as-whole (Refused y) w = refused-whole m h y
+  as-whole (Err y) w = refused-whole m h y
 
   finished-whole : Whole P (Moved e cost mark m) m (finished m cost mark reads f)
   unfolding finished
@@ -118,13 +110,13 @@ module _ (mem : List ℕ) (m : Machine) where
   unfolding reached decoded_to
   reached-fits b f = go (eqb (length mem) 65536)
     where
-      of-address : (i : Instruction) (a : Resolved) → ResolvedFits a → ReachedFits (addressed i a)
-      of-address i (Addressed a) k = (k.registers, k.address)
-      of-address i (NoAddress x) k = tt
+      of-address : (i : Instruction) (a : Result Addressed Refusal) → ResolvedFits a → ReachedFits (addressed i a)
+      of-address i (Ok a) k = (k.registers, k.address)
+      of-address i (Err x) k = tt
 
-      of-decoded : (d : Decoded) → DecodedFits m.regs.pc d → ReachedFits (of_decoded mem m.regs d)
-      of-decoded (Taken i) k = of-address i (resolved_of mem m.regs i.operand i.next) (resolve-fits mem b m.regs f i.operand i.next k.operand)
-      of-decoded (NotDecoded x) k = tt
+      of-decoded : (d : Result Instruction Refusal) → DecodedFits m.regs.pc d → ReachedFits (of_decoded mem m.regs d)
+      of-decoded (Ok i) k = of-address i (resolved_of mem m.regs i.operand i.next) (resolve-fits mem b m.regs f i.operand i.next k.operand)
+      of-decoded (Err x) k = tt
 
       waiting : (w : Wait) → ReachedFits (unless_waiting w mem m.regs)
       waiting Running = of-decoded (decoded_at mem m.regs.pc) (decode-fits mem m.regs.pc b f.pc)
@@ -146,7 +138,7 @@ module _ (mem : List ℕ) (m : Machine) where
   free-whole s = planned-whole s (reached mem m) (λ g. reached-fits g.bytes g.machine.registers)
 
   -- before the fence, too, a refused step is the machine as it was
-  pub free-refused : (s : Settings) (x : Refusal) → (planned mem m s (reached mem m)).answer ≡ Refused x → planned mem m s (reached mem m) ≡ refused_with m x
+  pub free-refused : (s : Settings) (x : Refusal) → (planned mem m s (reached mem m)).answer ≡ Err x → planned mem m s (reached mem m) ≡ refused_with m x
   free-refused s x e = (free-whole s).refused x e
 
   pub free-fits : (s : Settings) → MachineFits m → Bytes mem → AllFit (listed (planned mem m s (reached mem m)).writes)
@@ -172,15 +164,15 @@ module _ (mem : List ℕ) (m : Machine) where
     moves = λ d. record { cycles = refl; instructions = refl; armed = refl };
   }
 
-  effect-whole : (reads : ℕ) (e : Effect) → Sound (Provided mem m) m.regs Running e → (a : Answer) → Whole (Provided mem m) (Still m.armed m) m (of_effect m reads e a)
-  effect-whole reads e s Done = record {
+  effect-whole : (reads : ℕ) (e : Effect) → Sound (Provided mem m) m.regs Running e → (a : Result ⊤ Refusal) → Whole (Provided mem m) (Still m.armed m) m (of_effect m reads e a)
+  effect-whole reads e s (Ok u) = record {
     few = record { places = s.few };
     refused = λ x d. not_done (sym d);
     fits = λ g. record { registers = s.registers g; cycles = g.machine.cycles; instructions = g.machine.instructions };
     widths = s.widths;
     moves = λ d. record { cycles = refl; instructions = refl; armed = refl };
   }
-  effect-whole reads e s (Refused x) = refused-whole m (λ g. g.machine) x
+  effect-whole reads e s (Err x) = refused-whole m (λ g. g.machine) x
 
   -- an interrupt has no effective address: any will do
   given : Provided mem m → Given mem m.regs 0
@@ -221,7 +213,7 @@ module _ (mem : List ℕ) (m : Machine) where
 -- ---- what follows
 
 module _ {P : Type 0} {Moves : Machine → Type 0} {m : Machine} (p : Plan) (w : Whole P Moves m p) where
-  whole-unchanged : (s : Settings) (mem : List ℕ) (x : Refusal) → p.answer ≡ Refused x → NothingChanged s m mem p
+  whole-unchanged : (s : Settings) (mem : List ℕ) (x : Refusal) → p.answer ≡ Err x → NothingChanged s m mem p
   unfolding stored reported
   whole-unchanged s mem x e =
       let q = w.refused x e in
@@ -262,13 +254,13 @@ pub step-bounded : StepBounded
 unfolding reached decoded_to
 step-bounded mem m b = go (eqb (length mem) 65536)
   where
-    of-address : (i : Instruction) (a : Resolved) → BoundedAt mem (Taken i) → BoundedBy mem (addressed i a)
-    of-address i (Addressed a) k = k a.regs a.ea
-    of-address i (NoAddress x) k = tt
+    of-address : (i : Instruction) (a : Result Addressed Refusal) → BoundedAt mem (Ok i) → BoundedBy mem (addressed i a)
+    of-address i (Ok a) k = k a.regs a.ea
+    of-address i (Err x) k = tt
 
-    of-decoded : (d : Decoded) → BoundedAt mem d → BoundedBy mem (of_decoded mem m.regs d)
-    of-decoded (Taken i) k = of-address i (resolved_of mem m.regs i.operand i.next) k
-    of-decoded (NotDecoded x) k = tt
+    of-decoded : (d : Result Instruction Refusal) → BoundedAt mem d → BoundedBy mem (of_decoded mem m.regs d)
+    of-decoded (Ok i) k = of-address i (resolved_of mem m.regs i.operand i.next) k
+    of-decoded (Err x) k = tt
 
     waiting : (w : Wait) → BoundedBy mem (unless_waiting w mem m.regs)
     waiting Running = of-decoded (decoded_at mem m.regs.pc) (instruction-bounded mem m.regs.pc b)
@@ -283,9 +275,9 @@ step-bounded mem m b = go (eqb (length mem) 65536)
 still : {P : Type 0} {m : Machine} (p : Plan) → Whole P (Still m.armed m) m p → Still m.armed m p.machine
 still {m = m} p w = go p.answer refl
   where
-    go : (a : Answer) → p.answer ≡ a → Still m.armed m p.machine
-    go Done e = w.moves e
-    go (Refused x) e = rw (w.refused x e) (record { cycles = refl; instructions = refl; armed = refl })
+    go : (a : Result ⊤ Refusal) → p.answer ≡ a → Still m.armed m p.machine
+    go (Ok u) e = w.moves e
+    go (Err x) e = rw (w.refused x e) (record { cycles = refl; instructions = refl; armed = refl })
 
 pub interrupt-still : InterruptStill
 interrupt-still mem m s i = still (interrupt_plan mem m s i) (interrupt-whole mem m s i)

@@ -1,9 +1,8 @@
 -- What is plain passes the fence; a plan that is refused passes it, so that one which it refuses was accepted before.
 -- Assumes nothing.
-use Rattle.std.proofs.Common.{◌≡◌, ℕ, ◌+◌, ◌-◌, ◌%◌, ◌<◌, ◌≤◌, Bool, true, false, cond, not, ◌&&◌, ltb, leb, List, [], ◌∷◌, ◌++◌, sym, refl, ap, ◌∙◌, inl, arith, le-ltb, le-leb, leb-true}
+use Rattle.std.proofs.Common.{◌≡◌, ℕ, ◌+◌, ◌-◌, ◌%◌, ◌<◌, ◌≤◌, Bool, true, false, cond, not, ◌&&◌, ltb, List, [], ◌∷◌, ◌++◌, sym, refl, ap, ◌∙◌, inl, arith, le-ltb, le-leb, Err, Ok, Result}
+use Rattle.std.specs.Prelude.{⊤}
 use Rattle.u8oru16.specs.declared.u8u16.TheVariants.{u8, u16}
-use Rattle.answers.specs.declared.Answer.{Answer}
-use Rattle.answers.specs.declared.Answer.TheVariants.{Done, Refused}
 use Rattle.answers.specs.declared.Refusal.{Refusal}
 use Rattle.answers.specs.declared.Refusal.TheVariants.{Fenced}
 use Rattle.registers.specs.Names.{register_size, stack_word}
@@ -135,21 +134,21 @@ unfolding barred
 refused-free s m x = refl
 
 -- the fence refuses what was accepted
-pub barred-done : (s : Settings) (m : Machine) (p : Plan) → ((x : Refusal) → p.answer ≡ Refused x → p ≡ refused_with m x) → bars s (listed p.writes) ≡ true → p.answer ≡ Done
+pub barred-done : (s : Settings) (m : Machine) (p : Plan) → ((x : Refusal) → p.answer ≡ Err x → p ≡ refused_with m x) → bars s (listed p.writes) ≡ true → p.answer ≡ (Ok tt)
 unfolding barred
 barred-done s m p h b = go p.answer refl
   where
-    go : (a : Answer) → p.answer ≡ a → a ≡ Done
-    go Done e = refl
-    go (Refused x) e =
+    go : (a : Result ⊤ Refusal) → p.answer ≡ a → a ≡ (Ok tt)
+    go (Ok u) e = refl
+    go (Err x) e =
         let n : bars s (listed p.writes) ≡ false = ap (λ (q : Plan). bars s (listed q.writes)) (h x e) in
         let z : ◌≡◌ {A = ℕ} 0 1 = cc in
         absurd (omega arith)
 
 -- what the fence accepts is as it was
-pub free-done : (s : Settings) (m : Machine) (p : Plan) → (fenced s m p).answer ≡ Done → fenced s m p ≡ p
+pub free-done : (s : Settings) (m : Machine) (p : Plan) → (fenced s m p).answer ≡ (Ok tt) → fenced s m p ≡ p
 free-done s m p = go (bars s (listed p.writes))
   where
-    go : (b : Bool) → (cond b (refused_with m Fenced) p).answer ≡ Done → cond b (refused_with m Fenced) p ≡ p
+    go : (b : Bool) → (cond b (refused_with m Fenced) p).answer ≡ (Ok tt) → cond b (refused_with m Fenced) p ≡ p
     go true e = let z : ◌≡◌ {A = ℕ} 0 1 = cc in absurd (omega arith)
     go false e = refl

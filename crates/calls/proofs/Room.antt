@@ -1,9 +1,8 @@
 -- A call is refused by 8 exactly where a stack pointer is too small.
 -- Assumes nothing.
-use Rattle.std.proofs.Common.{◌≡◌, ℕ, ◌<◌, Bool, true, false, cond, eqb, ltb, ◌≢◌, List, length, sym, refl, ap, ◌∙◌, ⊎_elim, arith, lt-ltb, eq-eqb, ne_eqb, eqb-true}
+use Rattle.std.proofs.Common.{◌≡◌, ℕ, ◌<◌, Bool, true, false, cond, eqb, ltb, ◌≢◌, List, length, sym, refl, ap, ◌∙◌, ⊎_elim, arith, lt-ltb, eq-eqb, ne_eqb, eqb-true, Err, Ok, Result}
+use Rattle.std.specs.Prelude.{⊤}
 use Rattle.answers.specs.Numbers.{number_of, number_of_answer}
-use Rattle.answers.specs.declared.Answer.{Answer}
-use Rattle.answers.specs.declared.Answer.TheVariants.{Done, Refused}
 use Rattle.answers.specs.declared.Refusal.{Refusal}
 use Rattle.answers.specs.declared.Refusal.TheVariants.{MemoryLength, PastEnd, Fenced}
 use Rattle.memory.specs.Map.{byte_at, word_at}
@@ -17,13 +16,9 @@ use Rattle.machine.specs.declared.Wait.{Wait}
 use Rattle.machine.specs.declared.Wait.TheVariants.{Running, Cwai, Sync}
 use Rattle.decode.specs.Decode.{decoded_at}
 use Rattle.decode.specs.Laws.{OfDecoding, RefusedSo}
-use Rattle.decode.specs.declared.instruction.Decoded.{Decoded}
-use Rattle.decode.specs.declared.instruction.Decoded.TheVariants.{Instruction as Taken, Refused as NotDecoded}
 use Rattle.decode.specs.declared.instruction.Instruction.{Instruction}
 use Rattle.decode.proofs.Laws.{decoding-number, decode-refuses}
 use Rattle.addressing.specs.Address.{resolved_of}
-use Rattle.addressing.specs.declared.Resolved.{Resolved}
-use Rattle.addressing.specs.declared.Resolved.TheVariants.{At as Addressed, Refused as NoAddress}
 use Rattle.addressing.proofs.Refusals.{resolve-refuses}
 use Rattle.evaluate.specs.Arming.{arms}
 use Rattle.evaluate.specs.Evaluate.{evaluate_of}
@@ -39,13 +34,14 @@ use Rattle.cycles.specs.Cycles.{cycles_of}
 use Rattle.calls.specs.Plans.{refused_with, accepted, fenced}
 use Rattle.calls.specs.Steps.{Reached, At, NotReached, addressed, of_decoded, decoded_to, unless_waiting, reached, finished_as, finished, planned, step_plan}
 use Rattle.calls.specs.Interrupts.{vector_of, is_held_off, taken, taken_reads, after_held_off, of_effect, interrupt_plan}
-use Rattle.calls.specs.Room.{small_at, StepSmallExactly, small_frame, small_interrupt, InterruptSmallExactly}
+use Rattle.calls.specs.Room.{small_at, StepSmallExactly, small_frame, InterruptSmallExactly}
 use Rattle.calls.specs.declared.InterruptType.{InterruptType}
 use Rattle.calls.specs.declared.Plan.{Plan}
 use Rattle.calls.proofs.Laws.{free-refused}
 use Rattle.calls.proofs.Passing.{barred-done}
+use Rattle.addressing.specs.declared.Addressed.{Addressed}
 
-abbrev is_eight : Answer → Bool
+abbrev is_eight : Result ⊤ Refusal → Bool
 is_eight a = eqb (number_of_answer a) 8
 
 -- ---- what comes before the operation is refused by another number
@@ -64,13 +60,13 @@ reached-other : (mem : List ℕ) (m : Machine) → OtherReached (reached mem m)
 unfolding reached decoded_to
 reached-other mem m = go (eqb (length mem) 65536)
   where
-    of-address : (i : Instruction) (a : Resolved) → ((x : Refusal) → a ≡ NoAddress x → x ≡ PastEnd) → OtherReached (addressed i a)
-    of-address i (Addressed a) k = tt
-    of-address i (NoAddress x) k = rw (k x refl) refl
+    of-address : (i : Instruction) (a : Result Addressed Refusal) → ((x : Refusal) → a ≡ Err x → x ≡ PastEnd) → OtherReached (addressed i a)
+    of-address i (Ok a) k = tt
+    of-address i (Err x) k = rw (k x refl) refl
 
-    of-decoded : (d : Decoded) → RefusedSo d → OtherReached (of_decoded mem m.regs d)
-    of-decoded (Taken i) k = of-address i (resolved_of mem m.regs i.operand i.next) (resolve-refuses mem m.regs i.operand i.next)
-    of-decoded (NotDecoded x) k = of-decoding x k
+    of-decoded : (d : Result Instruction Refusal) → RefusedSo d → OtherReached (of_decoded mem m.regs d)
+    of-decoded (Ok i) k = of-address i (resolved_of mem m.regs i.operand i.next) (resolve-refuses mem m.regs i.operand i.next)
+    of-decoded (Err x) k = of-decoding x k
 
     waiting : (w : Wait) → OtherReached (unless_waiting w mem m.regs)
     waiting Running = of-decoded (decoded_at mem m.regs.pc) (decode-refuses mem m.regs.pc)
@@ -87,12 +83,12 @@ done : (m : Machine) (cycles : ℕ) (mark : Bool) (reads : ℕ) (e : Effect) →
 unfolding finished
 done m cycles mark reads e = go e.answer
   where
-    go : (a : Answer) → is_eight (finished_as a m cycles mark reads e).answer ≡ is_eight a
-    go Done = refl
-    go (Refused x) = refl
+    go : (a : Result ⊤ Refusal) → is_eight (finished_as a m cycles mark reads e).answer ≡ is_eight a
+    go (Ok u) = refl
+    go (Err x) = refl
 
 -- the fence refuses by another number what was accepted before it
-fenced-eight : (s : Settings) (m : Machine) (p : Plan) → ((x : Refusal) → p.answer ≡ Refused x → p ≡ refused_with m x) → is_eight (fenced s m p).answer ≡ is_eight p.answer
+fenced-eight : (s : Settings) (m : Machine) (p : Plan) → ((x : Refusal) → p.answer ≡ Err x → p ≡ refused_with m x) → is_eight (fenced s m p).answer ≡ is_eight p.answer
 fenced-eight s m p h = go (bars s (listed p.writes)) refl
   where
     go : (b : Bool) → bars s (listed p.writes) ≡ b → is_eight (cond b (refused_with m Fenced) p).answer ≡ is_eight p.answer
@@ -109,9 +105,9 @@ step-small-exactly mem m s = fenced-eight s m (planned mem m s (reached mem m)) 
 
 -- ---- an interrupt
 
-answered : (m : Machine) (reads : ℕ) (e : Effect) (a : Answer) → is_eight (of_effect m reads e a).answer ≡ is_eight a
-answered m reads e Done = refl
-answered m reads e (Refused x) = refl
+answered : (m : Machine) (reads : ℕ) (e : Effect) (a : Result ⊤ Refusal) → is_eight (of_effect m reads e a).answer ≡ is_eight a
+answered m reads e (Ok u) = refl
+answered m reads e (Err x) = refl
 
 -- 8 for the frame; 28, 9 or nothing after it
 no-eight : (zero : Bool) → eqb (cond zero 9 0) 8 ≡ false

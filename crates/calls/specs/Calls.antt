@@ -1,7 +1,6 @@
 -- The three calls as one type, and what holds of each: a refused call changes nothing, a call stores at most twelve bytes, and widths are kept.
 -- Assumes nothing.
-use Rattle.std.specs.Prelude.{◌≡◌, ℕ, ◌≤◌, List, length}
-use Rattle.answers.specs.declared.Answer.TheVariants.{Refused}
+use Rattle.std.specs.Prelude.{◌≡◌, ℕ, ◌≤◌, List, length, Err}
 use Rattle.answers.specs.declared.Refusal.{Refusal}
 use Rattle.memory.specs.Fits.{Bytes}
 use Rattle.memory.specs.Writes.{listed}
@@ -34,7 +33,7 @@ plan_of (reset t) mem m = reset_plan mem m
 -- a refused call leaves the machine and memory, and reports no device write
 abbrev pub RefusedCall : Type 0
 RefusedCall =
-    (c : Call) (mem : List ℕ) (m : Machine) (x : Refusal) → (plan_of c mem m).answer ≡ Refused x → NothingChanged (settings_in c) m mem (plan_of c mem m)
+    (c : Call) (mem : List ℕ) (m : Machine) (x : Refusal) → (plan_of c mem m).answer ≡ Err x → NothingChanged (settings_in c) m mem (plan_of c mem m)
 
 abbrev pub FewWrites : Type 0
 FewWrites = (c : Call) (mem : List ℕ) (m : Machine) → length (listed (plan_of c mem m).writes) ≤ 12

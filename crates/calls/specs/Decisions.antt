@@ -1,7 +1,6 @@
 -- What an instruction does, told by a small value: the effect that it stands for. It is a form of a plan between functions, not a rule of the machine.
 -- Assumes nothing.
-use Rattle.std.specs.Prelude.{◌≡◌, ℕ, ◌+◌, ◌%◌, Bool, true, false, ◌&&◌, List, [], ◌∷◌, nat_le, nat_lt}
-use Rattle.answers.specs.declared.Answer.TheVariants.{Done}
+use Rattle.std.specs.Prelude.{◌≡◌, ℕ, ◌+◌, ◌%◌, Bool, true, false, ◌&&◌, List, [], ◌∷◌, nat_le, nat_lt, Ok}
 use Rattle.answers.specs.declared.Refusal.{Refusal}
 use Rattle.answers.specs.declared.Refusal.TheVariants.{Opcode}
 use Rattle.u8oru16.specs.declared.u8u16.TheVariants.{u8, u16}
@@ -71,7 +70,7 @@ plan_told m s mem d = finished m d.cycles d.arms d.reads (effect_told s mem d)
 -- what is reported where so many bytes were written and none of them to a device
 abbrev pub met_no_device : Machine → ℕ → Bool → ℕ → ℕ → Set → Report
 met_no_device m cycles arms reads writes r =
-    record { devices = writes_of []; machine = after_instruction m cycles arms r Running; reads = reads; writes = writes; answer = Done }
+    record { devices = writes_of []; machine = after_instruction m cycles arms r Running; reads = reads; writes = writes; answer = (Ok tt) }
 
 -- ---- where it lies
 

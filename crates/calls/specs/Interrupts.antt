@@ -1,9 +1,7 @@
 -- IRQ, FIRQ and NMI (document 01, section "Interrupts, SWI, reset"; document 02, [5]). The frame, the masks and the vector are those of the
 -- software interrupts (crate vectors).
 -- Assumes nothing.
-use Rattle.std.specs.Prelude.{ℕ, Bool, cond, not, List, length, ◌==◌}
-use Rattle.answers.specs.declared.Answer.{Answer}
-use Rattle.answers.specs.declared.Answer.TheVariants.{Done, Refused}
+use Rattle.std.specs.Prelude.{ℕ, Bool, cond, not, List, length, ◌==◌, Err, Ok, Result, ⊤}
 use Rattle.answers.specs.declared.Refusal.TheVariants.{MemoryLength}
 use Rattle.registers.specs.ConditionCodes.{flag}
 use Rattle.registers.specs.declared.CCBit.TheVariants.{I, F}
@@ -24,6 +22,7 @@ use Rattle.calls.specs.declared.InterruptType.{InterruptType}
 use Rattle.calls.specs.declared.InterruptType.TheVariants.{Irq, Firq, Nmi}
 use Rattle.calls.specs.declared.Plan.{Plan}
 use Rattle.calls.specs.declared.Report.{Report}
+use Rattle.answers.specs.declared.Refusal.{Refusal}
 
 abbrev pub vector_of : InterruptType → Vector
 vector_of Irq = IRQ
@@ -54,9 +53,9 @@ after_held_off Running = Running
 after_held_off Cwai = Cwai
 after_held_off Sync = Running
 
-abbrev pub of_effect : Machine → ℕ → Effect → Answer → Plan
-of_effect m reads e Done = record { writes = e.writes; machine = with_registers m e.regs Running; reads = reads; answer = Done }
-of_effect m reads e (Refused x) = refused_with m x
+abbrev pub of_effect : Machine → ℕ → Effect → Result ⊤ Refusal → Plan
+of_effect m reads e (Ok u) = record { writes = e.writes; machine = with_registers m e.regs Running; reads = reads; answer = (Ok tt) }
+of_effect m reads e (Err x) = refused_with m x
 
 abbrev pub taken_by : Machine → ℕ → Effect → Plan
 taken_by m reads e = of_effect m reads e e.answer

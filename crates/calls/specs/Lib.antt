@@ -1,3 +1,4 @@
+pub mod Plain
 pub mod Plans
 pub mod Steps
 pub mod Decisions

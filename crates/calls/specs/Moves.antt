@@ -1,8 +1,7 @@
 -- How wait state, mark and counters move (document 01, section "The machine"; document 02, [3] and [5]): by an accepted step; an interrupt
 -- moves neither mark nor counters, and a reset clears the mark.
 -- Assumes nothing.
-use Rattle.std.specs.Prelude.{◌≡◌, ℕ, ◌+◌, ◌%◌, ◌^◌, Bool, false, ◌||◌, ◌↔◌, List}
-use Rattle.answers.specs.declared.Answer.TheVariants.{Done}
+use Rattle.std.specs.Prelude.{◌≡◌, ℕ, ◌+◌, ◌%◌, ◌^◌, Bool, false, ◌||◌, ◌↔◌, List, Ok}
 use Rattle.machine.specs.declared.Machine.{Machine}
 use Rattle.machine.specs.declared.Settings.{Settings}
 use Rattle.machine.specs.declared.Wait.TheVariants.{Cwai as InCwai, Sync as InSync}
@@ -35,7 +34,7 @@ MovedBy mem (NotReached x) m n = ⊥
 
 -- an accepted step moves them by the instruction that it reached
 abbrev pub StepMoves : Type 0
-StepMoves = (mem : List ℕ) (m : Machine) (s : Settings) → (step_plan mem m s).answer ≡ Done → MovedBy mem (reached mem m) m (step_plan mem m s).machine
+StepMoves = (mem : List ℕ) (m : Machine) (s : Settings) → (step_plan mem m s).answer ≡ (Ok tt) → MovedBy mem (reached mem m) m (step_plan mem m s).machine
 
 -- how much: an extra is at most 12, and a step costs at most 20
 abbrev pub BoundedBy : List ℕ → Reached → Type 0
@@ -57,4 +56,4 @@ InterruptStill = (mem : List ℕ) (m : Machine) (s : Settings) (i : InterruptTyp
 
 -- an accepted reset clears it
 abbrev pub ResetStill : Type 0
-ResetStill = (mem : List ℕ) (m : Machine) → (reset_plan mem m).answer ≡ Done → Still false m (reset_plan mem m).machine
+ResetStill = (mem : List ℕ) (m : Machine) → (reset_plan mem m).answer ≡ (Ok tt) → Still false m (reset_plan mem m).machine

@@ -1,7 +1,6 @@
 -- Where the two flag settings part in a whole step: in V alone, where an operation that parts is reached at its listed inputs.
 -- Assumes nothing.
-use Rattle.std.specs.Prelude.{◌≡◌, ℕ, List}
-use Rattle.answers.specs.declared.Answer.TheVariants.{Done}
+use Rattle.std.specs.Prelude.{◌≡◌, ℕ, List, Ok}
 use Rattle.registers.specs.Fits.{Fits}
 use Rattle.registers.specs.declared.Flags.TheVariants.{Bought, Manual}
 use Rattle.memory.specs.Fits.{Bytes}
@@ -36,4 +35,4 @@ abbrev pub StepsPart : Type 0
 StepsPart =
     (mem : List ℕ) (m : Machine) (top : ℕ) (rs : List Range) → Bytes mem → Fits m.regs
     → PlansPart (step_plan mem m (settings_with top Bought rs)) (step_plan mem m (settings_with top Manual rs))
-    (((step_plan mem m (settings_with top Bought rs)).answer ≡ Done) × PartsAt mem (reached mem m))
+    (((step_plan mem m (settings_with top Bought rs)).answer ≡ (Ok tt)) × PartsAt mem (reached mem m))

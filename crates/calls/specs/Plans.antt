@@ -1,12 +1,12 @@
 -- A call's plan (what it will do) and its report (what it did). A refused call leaves the machine, and counts no read and no write (document 02,
 -- [11]). How many bytes are written is not said a second time: it is the length of the list of writes.
 -- Assumes nothing.
-use Rattle.std.specs.Prelude.{◌≡◌, ℕ, cond, List, [], length}
-use Rattle.answers.specs.declared.Answer.TheVariants.{Done, Refused}
+use Rattle.std.specs.Prelude.{◌≡◌, ℕ, cond, List, [], length, Err, Ok, Result, ⊤}
 use Rattle.answers.specs.declared.Refusal.{Refusal}
 use Rattle.answers.specs.declared.Refusal.TheVariants.{Fenced}
 use Rattle.memory.specs.Fits.{AllFit}
 use Rattle.memory.specs.Writes.{writes_of, listed, stored, reported}
+use Rattle.memory.specs.declared.writes.Writes.{Writes}
 use Rattle.machine.specs.Fence.{bars}
 use Rattle.machine.specs.Machine.{MachineFits}
 use Rattle.machine.specs.declared.Machine.{Machine}
@@ -15,11 +15,16 @@ use Rattle.calls.specs.declared.Plan.{Plan}
 use Rattle.calls.specs.declared.Report.{Report}
 
 abbrev pub refused_with : Machine → Refusal → Plan
-refused_with m x = record { writes = writes_of []; machine = m; reads = 0; answer = Refused x }
+refused_with m x = record { writes = writes_of []; machine = m; reads = 0; answer = Err x }
 
 -- the machine changes, so many bytes are read, and nothing is written
 abbrev pub accepted : Machine → ℕ → Plan
-accepted m reads = record { writes = writes_of []; machine = m; reads = reads; answer = Done }
+accepted m reads = record { writes = writes_of []; machine = m; reads = reads; answer = (Ok tt) }
+
+-- what an effect comes to by its answer: machine n after it and its writes, or machine m as it was
+abbrev pub ended_by : Result ⊤ Refusal → Machine → Writes → Machine → ℕ → Plan
+ended_by (Ok u) m ws n reads = record { writes = ws; machine = n; reads = reads; answer = (Ok tt) }
+ended_by (Err x) m ws n reads = refused_with m x
 
 -- 28 (document 02, [14]): a plan of machine m that would store a byte outside the profile is refused. A refused plan stores nothing
 abbrev pub fenced : Settings → Machine → Plan → Plan

@@ -1,8 +1,6 @@
 -- A step (document 01, "Numbers returned" gives the order of refusals): 1, 2, then decoding, the address, the operation, then the fence.
 -- Assumes nothing.
-use Rattle.std.specs.Prelude.{ℕ, ◌+◌, ◌%◌, ◌^◌, Bool, cond, ◌||◌, List, length, ◌==◌}
-use Rattle.answers.specs.declared.Answer.{Answer}
-use Rattle.answers.specs.declared.Answer.TheVariants.{Done, Refused}
+use Rattle.std.specs.Prelude.{ℕ, ◌+◌, ◌%◌, ◌^◌, Bool, cond, ◌||◌, List, length, ◌==◌, Err, Ok, Result, ⊤}
 use Rattle.answers.specs.declared.Refusal.{Refusal}
 use Rattle.answers.specs.declared.Refusal.TheVariants.{MemoryLength, Waiting}
 use Rattle.registers.specs.declared.Set.{Set}
@@ -13,12 +11,8 @@ use Rattle.machine.specs.declared.Settings.{Settings}
 use Rattle.machine.specs.declared.Wait.{Wait}
 use Rattle.machine.specs.declared.Wait.TheVariants.{Running, Cwai, Sync}
 use Rattle.decode.specs.Decode.{decoded_at}
-use Rattle.decode.specs.declared.instruction.Decoded.{Decoded}
-use Rattle.decode.specs.declared.instruction.Decoded.TheVariants.{Instruction as Taken, Refused as NotDecoded}
 use Rattle.decode.specs.declared.instruction.Instruction.{Instruction}
 use Rattle.addressing.specs.Address.{resolved_of}
-use Rattle.addressing.specs.declared.Resolved.{Resolved}
-use Rattle.addressing.specs.declared.Resolved.TheVariants.{At as Addressed, Refused as NoAddress}
 use Rattle.bus.specs.Reads.{instruction_reads}
 use Rattle.evaluate.specs.Arming.{arms}
 use Rattle.evaluate.specs.Evaluate.{evaluate_of}
@@ -26,6 +20,7 @@ use Rattle.cycles.specs.Cycles.{cycles_of}
 use Rattle.calls.specs.Plans.{refused_with, fenced, carried_out, memory_with}
 use Rattle.calls.specs.declared.Plan.{Plan}
 use Rattle.calls.specs.declared.Report.{Report}
+use Rattle.addressing.specs.declared.Addressed.{Addressed}
 
 -- ---- what stands before the operation
 
@@ -34,13 +29,13 @@ pub data Reached : Type 0 where
   At : Instruction → Set → ℕ → Reached
   NotReached : Refusal → Reached
 
-abbrev pub addressed : Instruction → Resolved → Reached
-addressed i (Addressed a) = At i a.regs a.ea
-addressed i (NoAddress x) = NotReached x
+abbrev pub addressed : Instruction → Result Addressed Refusal → Reached
+addressed i (Ok a) = At i a.regs a.ea
+addressed i (Err x) = NotReached x
 
-abbrev pub of_decoded : List ℕ → Set → Decoded → Reached
-of_decoded mem r (Taken i) = addressed i (resolved_of mem r i.operand i.next)
-of_decoded mem r (NotDecoded x) = NotReached x
+abbrev pub of_decoded : List ℕ → Set → Result Instruction Refusal → Reached
+of_decoded mem r (Ok i) = addressed i (resolved_of mem r i.operand i.next)
+of_decoded mem r (Err x) = NotReached x
 
 -- 4, 3, 4, 5 or 24, 4 by decoding, then 4 by the next address
 unfoldable pub decoded_to : List ℕ → Set → Reached
@@ -69,10 +64,10 @@ after_instruction m cycles a r w =
       armed = m.armed || a;
     }
 
-abbrev pub finished_as : Answer → Machine → ℕ → Bool → ℕ → Effect → Plan
-finished_as Done m cycles a reads e =
-    record { writes = e.writes; machine = after_instruction m cycles a e.regs e.wait; reads = reads; answer = Done }
-finished_as (Refused x) m cycles a reads e = refused_with m x
+abbrev pub finished_as : Result ⊤ Refusal → Machine → ℕ → Bool → ℕ → Effect → Plan
+finished_as (Ok u) m cycles a reads e =
+    record { writes = e.writes; machine = after_instruction m cycles a e.regs e.wait; reads = reads; answer = (Ok tt) }
+finished_as (Err x) m cycles a reads e = refused_with m x
 
 unfoldable pub finished : Machine → ℕ → Bool → ℕ → Effect → Plan
 finished m cycles a reads e = finished_as e.answer m cycles a reads e

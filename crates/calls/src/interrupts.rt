@@ -2,32 +2,33 @@
 ghost use Rattle.std.specs.Prelude.{◌≡◌};
 ghost use Rattle.calls.specs.Interrupts.{vector_of, is_held_off, taken, after_held_off, of_effect, interrupt_plan, interrupt_of, memory_after_interrupt};
 
-use super::plans::{accept, carry_out, refused};
+use super::plans::{accept, by_effect, carry_out, refused};
 use super::{InterruptType, Plan, Report};
-use answers::{Answer, Refusal};
+use answers::Refusal;
 use machine::{Effect, Machine, Settings, Wait};
 use registers::{CCBit, Set};
 use vectors::Vector;
 
-fn vector_of(which: InterruptType) -> Vector
-    ensures { result ≡ vector_of which }
-{
-    match which {
-        InterruptType::Irq => Vector::Irq,
-        InterruptType::Firq => Vector::Firq,
-        InterruptType::Nmi => Vector::Nmi,
+impl InterruptType {
+    fn vector(self) -> Vector
+        ensures { result ≡ vector_of self }
+    {
+        match self {
+            InterruptType::Irq => Vector::Irq,
+            InterruptType::Firq => Vector::Firq,
+            InterruptType::Nmi => Vector::Nmi,
+        }
     }
-}
 
-// IRQ and FIRQ by their mask, NMI until S is loaded.
-fn is_held_off(which: InterruptType, machine: Machine) -> bool
-    ensures { result ≡ is_held_off which machine }
-{
-    let regs = machine.regs;
-    match which {
-        InterruptType::Irq => regs.cc.is_set(CCBit::I),
-        InterruptType::Firq => regs.cc.is_set(CCBit::F),
-        InterruptType::Nmi => !machine.armed,
+    // IRQ and FIRQ by their mask, NMI until S is loaded.
+    fn is_held_off(self, machine: Machine) -> bool
+        ensures { result ≡ is_held_off self machine }
+    {
+        match self {
+            InterruptType::Irq => machine.regs.cc.is_set(CCBit::I),
+            InterruptType::Firq => machine.regs.cc.is_set(CCBit::F),
+            InterruptType::Nmi => !machine.armed,
+        }
     }
 }
 
@@ -36,8 +37,7 @@ fn take(mem: &[u8], settings: Settings, wait: Wait, regs: Set, vector: Vector) -
     ensures { result ≡ taken wait mem.now settings regs vector }
 {
     match wait {
-        Wait::Running => vectors::serve(mem, settings, regs, vector),
-        Wait::Sync => vectors::serve(mem, settings, regs, vector),
+        Wait::Running | Wait::Sync => vectors::serve(mem, settings, regs, vector),
         Wait::Cwai => vectors::take_vector(mem, settings, regs, Effect::changes(regs), vector),
     }
 }
@@ -46,27 +46,16 @@ fn after_held_off(wait: Wait) -> Wait
     ensures { result ≡ after_held_off wait }
 {
     match wait {
-        Wait::Running => Wait::Running,
-        Wait::Cwai => Wait::Cwai,
         Wait::Sync => Wait::Running,
+        other => other,
     }
 }
 
 fn finish(machine: Machine, reads: u8, effect: Effect) -> Plan
     ensures { result ≡ of_effect machine reads effect effect.answer }
 {
-    let answer = effect.answer;
-    let writes = effect.writes;
-    let regs = effect.regs;
-    match answer {
-        Answer::Refused(refusal) => refused(machine, refusal),
-        Answer::Done => Plan {
-            writes,
-            machine: machine.with_registers(regs, Wait::Running),
-            reads,
-            answer,
-        },
-    }
+    let after = machine.with_registers(effect.regs, Wait::Running);
+    by_effect(machine, effect, after, reads)
 }
 
 // What an interrupt will do: 1 by the memory's length; then, unless it is held off, 8, 28 and 9 as they are met.
@@ -81,18 +70,13 @@ pub fn plan_interrupt(
     if mem.len() != 65536 {
         return refused(machine, Refusal::MemoryLength);
     }
-    let regs = machine.regs;
-    let wait = machine.wait;
-    if is_held_off(which, machine) {
-        accept(machine.with_registers(regs, after_held_off(wait)), 0)
-    } else {
-        // The vector's two bytes and the one that it leads to.
-        finish(
-            machine,
-            3,
-            take(mem, settings, wait, regs, vector_of(which)),
-        )
+    if which.is_held_off(machine) {
+        let wait = after_held_off(machine.wait);
+        return accept(machine.with_registers(machine.regs, wait), 0);
     }
+    let effect = take(mem, settings, machine.wait, machine.regs, which.vector());
+    // The vector's two bytes and the one that it leads to.
+    finish(machine, 3, effect)
 }
 
 pub fn interrupt(

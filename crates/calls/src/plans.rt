@@ -1,11 +1,11 @@
 // A call's plan, and how it is carried out. Public for the recorded calls, and for another engine that makes plans of its own.
 ghost use Rattle.std.specs.Prelude.{◌≡◌, length};
 ghost use Rattle.memory.specs.Writes.{listed};
-ghost use Rattle.calls.specs.Plans.{refused_with, accepted, carried_out, memory_with};
+ghost use Rattle.calls.specs.Plans.{refused_with, accepted, ended_by, carried_out, memory_with};
 
 use super::{Plan, Report};
-use answers::{Answer, Refusal};
-use machine::{Machine, Settings};
+use answers::Refusal;
+use machine::{Effect, Machine, Settings};
 use memory::Writes;
 
 // A refused call leaves the machine and writes nothing.
@@ -13,10 +13,8 @@ pub fn refused(machine: Machine, refusal: Refusal) -> Plan
     ensures { result ≡ refused_with machine refusal }
 {
     Plan {
-        writes: Writes::none(),
-        machine,
-        reads: 0,
-        answer: Answer::Refused(refusal),
+        answer: Err(refusal),
+        ..accept(machine, 0)
     }
 }
 
@@ -28,7 +26,21 @@ pub fn accept(machine: Machine, reads: u8) -> Plan
         writes: Writes::none(),
         machine,
         reads,
-        answer: Answer::Done,
+        answer: Ok(()),
+    }
+}
+
+// What an effect comes to: its refusal, or the machine `after` it and what is to be written. A plan is no Result, so that an arm hands the
+// refusal on, and no `?`.
+pub fn by_effect(machine: Machine, effect: Effect, after: Machine, reads: u8) -> Plan
+    ensures { result ≡ ended_by effect.answer machine effect.writes after reads }
+{
+    match effect.answer {
+        Err(refusal) => refused(machine, refusal),
+        Ok(()) => Plan {
+            writes: effect.writes,
+            ..accept(after, reads)
+        },
     }
 }
 
@@ -36,22 +48,17 @@ pub fn accept(machine: Machine, reads: u8) -> Plan
 fn how_many(writes: Writes) -> u8
     ensures { result ≡ length (listed writes) }
 {
-    let count = writes.count;
-    if count < 12 { count as u8 } else { 12 }
+    writes.count.min(12) as u8
 }
 
 pub fn carry_out(mem: &mut [u8], settings: Settings, plan: Plan) -> Report
     ensures { (result ≡ carried_out settings plan) × (mem.new ≡ memory_with settings plan mem.old) }
 {
-    let writes = plan.writes;
-    let machine = plan.machine;
-    let answer = plan.answer;
-    let devices = memory::store_all(mem, settings.ram_top, writes);
     Report {
-        devices,
-        machine,
+        devices: memory::store_all(mem, settings.ram_top, plan.writes),
+        machine: plan.machine,
         reads: plan.reads,
-        writes: how_many(writes),
-        answer,
+        writes: how_many(plan.writes),
+        answer: plan.answer,
     }
 }

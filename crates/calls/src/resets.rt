@@ -20,6 +20,7 @@ pub fn plan_reset(mem: &[u8], machine: Machine) -> Plan
     accept(machine.with_registers(regs, Wait::Running).marked(false), 2)
 }
 
+// As `interrupt` does: with a closure that makes the plan, one function for both would be no shorter than these two lines.
 pub fn reset(mem: &mut [u8], machine: Machine, settings: Settings) -> Report
     ensures { (result ≡ reset_of mem.old machine settings) × (mem.new ≡ memory_after_reset mem.old machine settings) }
 {

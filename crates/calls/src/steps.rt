@@ -3,111 +3,93 @@ ghost use Rattle.std.specs.Prelude.{◌≡◌, ◌≤◌, true, false, length};
 ghost use Rattle.registers.specs.Names.{stack_word};
 ghost use Rattle.registers.specs.RegisterSet.{word_of};
 ghost use Rattle.machine.specs.Effect.{changes};
+ghost use Rattle.machine.specs.declared.Wait.TheVariants.{Running};
 ghost use Rattle.stack.specs.Pushing.{bytes_pushed, pushed};
 ghost use Rattle.calls.specs.Plans.{refused_with, fenced, carried_out, memory_with};
 ghost use Rattle.calls.specs.Steps.{after_instruction, finished, decoded_to, planned, step_plan, step_of, memory_after_step};
 ghost use Rattle.calls.specs.Decisions.{plan_told, met_no_device, is_plain};
 
 use super::decisions::{Decision, Kind, decide, is_plain};
-use super::plans::{carry_out, refused};
+use super::plans::{accept, by_effect, carry_out, refused};
 use super::{Plan, Report, plain};
-use answers::{Answer, Refusal};
+use answers::Refusal;
 use machine::{Effect, Machine, Settings, Wait, bars};
 use memory::{Write, Writes};
-use registers::{Set, Stack};
+use registers::Set;
+use u8oru16::u8u16;
 
 // An instruction that is carried out counts once, and its cycles are added; once NMI is armed, it stays so.
-fn advance(machine: Machine, cycles: u16, arms: bool, regs: Set, wait: Wait) -> Machine
+fn counted(machine: Machine, cycles: u16, arms: bool, regs: Set, wait: Wait) -> Machine
     ensures { result ≡ after_instruction machine cycles arms regs wait }
 {
     Machine {
-        cycles: std::num::wrapping_add_u64(machine.cycles, cycles as u64),
-        instructions: std::num::wrapping_add_u64(machine.instructions, 1),
+        cycles: machine.cycles.wrapping_add(cycles as u64),
+        instructions: machine.instructions.wrapping_add(1),
         regs,
         wait,
         armed: machine.armed | arms,
     }
 }
 
-// An instruction that changes registers alone: no list of writes is carried along for it.
-fn change(machine: Machine, cycles: u16, arms: bool, reads: u8, regs: Set) -> Plan
-    ensures { result ≡ finished machine cycles arms reads (changes regs) }
+// The same where what was decided leaves the machine running.
+fn advance(machine: Machine, decision: Decision, regs: Set) -> Machine
+    ensures { result ≡ after_instruction machine decision.cycles decision.arms regs Running }
 {
-    Plan {
-        writes: Writes::none(),
-        machine: advance(machine, cycles, arms, regs, Wait::Running),
-        reads,
-        answer: Answer::Done,
-    }
+    counted(machine, decision.cycles, decision.arms, regs, Wait::Running)
+}
+
+// An instruction that changes registers alone: no list of writes is carried along for it.
+fn change(machine: Machine, decision: Decision) -> Plan
+    ensures { result ≡ finished machine decision.cycles decision.arms decision.reads (changes decision.regs) }
+{
+    accept(advance(machine, decision, decision.regs), decision.reads)
 }
 
 // An operation's effect as a plan: its refusal, or the machine after the instruction and what is to be written.
+// Its numbers are no `Decision`: an engine that decides nothing calls it too (crate training).
 pub fn finish(machine: Machine, cycles: u16, arms: bool, reads: u8, effect: Effect) -> Plan
     ensures { result ≡ finished machine cycles arms reads effect }
 {
-    let answer = effect.answer;
-    let writes = effect.writes;
-    let regs = effect.regs;
-    let wait = effect.wait;
-    match answer {
-        Answer::Refused(refusal) => refused(machine, refusal),
-        Answer::Done => Plan {
-            writes,
-            machine: advance(machine, cycles, arms, regs, wait),
-            reads,
-            answer,
-        },
-    }
+    let after = counted(machine, cycles, arms, effect.regs, effect.wait);
+    by_effect(machine, effect, after, reads)
 }
 
 // The list of writes of what was decided.
 fn plan_free(mem: &[u8], machine: Machine, settings: Settings, decision: Decision) -> Plan
     ensures { result ≡ plan_told machine settings mem.now decision }
 {
-    let kind = decision.kind;
-    let cycles = decision.cycles;
-    let arms = decision.arms;
-    let reads = decision.reads;
-    let regs = decision.regs;
-    let at = decision.at;
-    match kind {
-        Kind::Refused => {
-            let refusal = decision.refusal;
-            refused(machine, refusal)
-        }
-        Kind::Change => change(machine, cycles, arms, reads, regs),
+    let Decision {
+        regs,
+        cycles,
+        at,
+        reads,
+        arms,
+        ..
+    } = decision;
+    let effect = match decision.kind {
+        Kind::Refused => return refused(machine, decision.refusal),
+        Kind::Change => return change(machine, decision),
         Kind::Byte => {
+            // The value of a byte is below 256: the remainder shows that nothing is cut.
             let one = Write {
                 at,
                 byte: (decision.value % 256) as u8,
                 system: false,
             };
-            let writes = Writes::none().add(one);
-            finish(machine, cycles, arms, reads, Effect::stores(regs, writes))
+            Effect::stores(regs, Writes::none().add(one))
         }
-        Kind::Word => {
-            let writes = Writes::none().add_word(at, decision.value, false);
-            finish(machine, cycles, arms, reads, Effect::stores(regs, writes))
-        }
-        Kind::Push => {
-            let own = decision.own;
-            let effect = stack::push(regs, own, decision.mask, false);
-            finish(machine, cycles, arms, reads, effect)
-        }
-        Kind::Rest => {
-            let op = decision.op;
-            let effect = evaluate::evaluate_memory(op, settings, mem, regs, at);
-            finish(machine, cycles, arms, reads, effect)
-        }
-    }
+        Kind::Word => Effect::stores(regs, Writes::none().add_word(at, decision.value, false)),
+        Kind::Push => stack::push(regs, decision.own, decision.mask, false),
+        Kind::Rest => evaluate::evaluate_memory(decision.op, settings, mem, regs, at),
+    };
+    finish(machine, cycles, arms, reads, effect)
 }
 
 // What a plan would store is judged once it is listed. Each plan of a step passes here.
 pub fn fence(settings: Settings, machine: Machine, plan: Plan) -> Plan
     ensures { result ≡ fenced settings machine plan }
 {
-    let writes = plan.writes;
-    if bars(settings, writes) {
+    if bars(settings, plan.writes) {
         return refused(machine, Refusal::Fenced);
     }
     plan
@@ -139,27 +121,26 @@ pub fn plan_step(mem: &[u8], machine: Machine, settings: Settings) -> Plan
     if mem.len() != 65536 {
         return refused(machine, Refusal::MemoryLength);
     }
-    let wait = machine.wait;
-    match wait {
+    match machine.wait {
         Wait::Running => plan_running(mem, machine, settings),
-        Wait::Cwai => refused(machine, Refusal::Waiting),
-        Wait::Sync => refused(machine, Refusal::Waiting),
+        Wait::Cwai | Wait::Sync => refused(machine, Refusal::Waiting),
     }
 }
 
 // A step that is done, whose writes, if it has some, met no device.
-fn did(machine: Machine, cycles: u16, arms: bool, reads: u8, writes: u8, regs: Set) -> Report
-    ensures { result ≡ met_no_device machine cycles arms reads writes regs }
+fn did(machine: Machine, decision: Decision, writes: u8, regs: Set) -> Report
+    ensures { result ≡ met_no_device machine decision.cycles decision.arms decision.reads writes regs }
 {
     Report {
         devices: Writes::none(),
-        machine: advance(machine, cycles, arms, regs, Wait::Running),
-        reads,
+        machine: advance(machine, decision, regs),
+        reads: decision.reads,
         writes,
-        answer: Answer::Done,
+        answer: Ok(()),
     }
 }
 
+// Written out, as `did` is: of the five fields the two share only the first.
 fn refuse(machine: Machine, refusal: Refusal) -> Report
     ensures { (s : Settings) → result ≡ carried_out s (refused_with machine refusal) }
 {
@@ -168,69 +149,47 @@ fn refuse(machine: Machine, refusal: Refusal) -> Report
         machine,
         reads: 0,
         writes: 0,
-        answer: Answer::Refused(refusal),
+        answer: Err(refusal),
     }
 }
 
 // The registers of a post-byte are stored, and the pointer in use is lowered.
-fn carry_push(
-    mem: &mut [u8],
-    machine: Machine,
-    cycles: u16,
-    arms: bool,
-    reads: u8,
-    regs: Set,
-    own: Stack,
-    mask: u8,
-) -> Report
-    requires { (length mem.old ≡ 65536) × ((word_of regs (stack_word own) ≤ 0xFF00) × (bytes_pushed mask ≤ word_of regs (stack_word own))) }
-    ensures { (s : Settings) → word_of regs (stack_word own) ≤ s.ram_top → (result ≡ carried_out s (finished machine cycles arms reads (pushed regs own mask false))) × (mem.new ≡ memory_with s (finished machine cycles arms reads (pushed regs own mask false)) mem.old) }
+fn carry_push(mem: &mut [u8], machine: Machine, decision: Decision) -> Report
+    requires { (length mem.old ≡ 65536) × ((word_of decision.regs (stack_word decision.own) ≤ 0xFF00) × (bytes_pushed decision.mask ≤ word_of decision.regs (stack_word decision.own))) }
+    ensures { (s : Settings) → word_of decision.regs (stack_word decision.own) ≤ s.ram_top → (result ≡ carried_out s (finished machine decision.cycles decision.arms decision.reads (pushed decision.regs decision.own decision.mask false))) × (mem.new ≡ memory_with s (finished machine decision.cycles decision.arms decision.reads (pushed decision.regs decision.own decision.mask false)) mem.old) }
 {
+    let Decision {
+        regs,
+        own,
+        mask,
+        ..
+    } = decision;
     let word = own.word();
     let top = regs.word(word);
     let pointer = plain::push(mem, regs, own, top, mask);
     // As many bytes as the pointer fell.
     let writes = (top - pointer) as u8;
-    did(
-        machine,
-        cycles,
-        arms,
-        reads,
-        writes,
-        regs.with_word(word, pointer),
-    )
+    did(machine, decision, writes, regs.with_word(word, pointer))
 }
 
-// Where all is plain, nothing but the stores is to be done.
+// Where all is plain, nothing but the stores is to be done. It asks the kinds again that `plan_free` asks, and makes no list of writes
+// (docs/PERFORMANCE.md).
 fn carry_plain(mem: &mut [u8], machine: Machine, settings: Settings, decision: Decision) -> Report
     requires { (length mem.old ≡ 65536) × (is_plain settings decision ≡ true) }
     ensures { (result ≡ carried_out settings (plan_told machine settings mem.old decision)) × (mem.new ≡ memory_with settings (plan_told machine settings mem.old decision) mem.old) }
 {
-    let kind = decision.kind;
-    let cycles = decision.cycles;
-    let arms = decision.arms;
-    let reads = decision.reads;
-    let regs = decision.regs;
-    let at = decision.at;
-    match kind {
-        Kind::Refused => {
-            let refusal = decision.refusal;
-            refuse(machine, refusal)
-        }
-        Kind::Change => did(machine, cycles, arms, reads, 0, regs),
+    match decision.kind {
+        Kind::Refused => refuse(machine, decision.refusal),
+        Kind::Change | Kind::Rest => did(machine, decision, 0, decision.regs),
         Kind::Byte => {
-            plain::put_byte(mem, at, (decision.value % 256) as u8);
-            did(machine, cycles, arms, reads, 1, regs)
+            plain::put(mem, decision.at, u8u16::u8((decision.value % 256) as u8));
+            did(machine, decision, 1, decision.regs)
         }
         Kind::Word => {
-            plain::put_word(mem, at, decision.value);
-            did(machine, cycles, arms, reads, 2, regs)
+            plain::put(mem, decision.at, u8u16::u16(decision.value));
+            did(machine, decision, 2, decision.regs)
         }
-        Kind::Push => {
-            let own = decision.own;
-            carry_push(mem, machine, cycles, arms, reads, regs, own, decision.mask)
-        }
-        Kind::Rest => did(machine, cycles, arms, reads, 0, regs),
+        Kind::Push => carry_push(mem, machine, decision),
     }
 }
 
@@ -256,8 +215,8 @@ pub fn carry(mem: &mut [u8], machine: Machine, settings: Settings, decision: Dec
     report
 }
 
-// The same for a step that is not recorded. The list's way is called at two places here, and so is not compiled in: the rest is small enough to
-// be compiled into the loop that makes the steps (docs/PERFORMANCE.md).
+// The same for a step that is not recorded. The list's way is called at two places here, and so is not compiled in: the rest is small
+// enough to be compiled into the loop that makes the steps (docs/PERFORMANCE.md).
 fn carry_unrecorded(
     mem: &mut [u8],
     machine: Machine,
@@ -294,10 +253,8 @@ pub fn step(mem: &mut [u8], machine: Machine, settings: Settings) -> Report
     if mem.len() != 65536 {
         return refuse(machine, Refusal::MemoryLength);
     }
-    let wait = machine.wait;
-    match wait {
+    match machine.wait {
         Wait::Running => step_running(mem, machine, settings),
-        Wait::Cwai => refuse(machine, Refusal::Waiting),
-        Wait::Sync => refuse(machine, Refusal::Waiting),
+        Wait::Cwai | Wait::Sync => refuse(machine, Refusal::Waiting),
     }
 }

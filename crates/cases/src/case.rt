@@ -1,85 +1,58 @@
 // A case, and what is answered to it.
+use answers::Refusal;
+use std::num::TryFromIntError;
 use u8oru16::u8u16;
 
 // The number of a function, and the four words after it.
 #[derive(Clone, Copy)]
 pub struct Case {
-    pub function: u16,
-    pub w1: u16,
-    pub w2: u16,
-    pub w3: u16,
-    pub w4: u16,
+    pub function: u8,
+    pub words: [u16; 4],
 }
 
-// The answer's number, and the three words of the result.
-#[derive(Clone, Copy)]
-pub struct Words {
-    pub number: u16,
-    pub r1: u16,
-    pub r2: u16,
-    pub r3: u16,
-}
+// The three words of a result.
+pub type Words = [u16; 3];
 
+// Why there is no result: the line is no case, or the call refuses.
 #[derive(Clone, Copy)]
-pub enum Reply {
-    Done(Words),
+pub enum Failure {
     BadCase,
+    Refused(Refusal),
 }
 
-pub fn done(r1: u16, r2: u16, r3: u16) -> Reply {
-    Reply::Done(Words {
-        number: 0,
-        r1,
-        r2,
-        r3,
-    })
+pub type Reply = Result<Words, Failure>;
+
+impl From<Refusal> for Failure {
+    fn from(refusal: Refusal) -> Self {
+        Failure::Refused(refusal)
+    }
 }
 
-// What one word shows, and a digest in the two others.
-pub fn digested(r1: u16, digest: u32) -> Reply {
-    done(r1, (digest / 0x10000) as u16, (digest % 0x10000) as u16)
+// Of a word that has to be a byte.
+impl From<TryFromIntError> for Failure {
+    fn from(_wide: TryFromIntError) -> Self {
+        Failure::BadCase
+    }
 }
 
-pub fn single(r1: u16) -> Reply {
-    done(r1, 0, 0)
+// What one word shows, and a digest in the two others: no method splits a number into words.
+pub fn digested(shown: u16, digest: u32) -> Words {
+    [shown, (digest / 0x10000) as u16, (digest % 0x10000) as u16]
 }
 
-pub fn refused(number: u8) -> Reply {
-    Reply::Done(Words {
-        number: number as u16,
-        r1: 0,
-        r2: 0,
-        r3: 0,
-    })
+pub fn single(shown: u16) -> Words {
+    [shown, 0, 0]
 }
 
-pub fn sized(v: u8u16) -> Reply {
-    flagged(v, false)
-}
-
-// The enum is taken apart here: `size` and `u16` are themselves among the functions compared.
-pub fn flagged(v: u8u16, flag: bool) -> Reply {
+// A value in two words, and a third beside it. The enum is taken apart here: `size` and `u16` are themselves among the functions compared.
+pub fn sized(v: u8u16, beside: u16) -> Words {
     match v {
-        u8u16::u8(b) => done(1, b as u16, flag as u16),
-        u8u16::u16(w) => done(2, w, flag as u16),
+        u8u16::u8(b) => [1, b as u16, beside],
+        u8u16::u16(w) => [2, w, beside],
     }
 }
 
-pub fn pair(high: u8, low: u8) -> u16 {
-    high as u16 * 0x100 + low as u16
-}
-
-// The byte at an index of a name, of which the first `len` bytes count: 00 past its end. Nothing says here that `len` lies within
-// the name, so both are tested.
-pub fn letter_at(name: &[u8], len: usize, index: u16) -> u16 {
-    let i = index as usize;
-    if i < len && i < name.len() {
-        wide(name[i])
-    } else {
-        0
-    }
-}
-
-fn wide(b: u8) -> u16 {
-    b as u16
+// The byte at an index of a name: 00 past its end.
+pub fn letter_at(name: &[u8], index: u16) -> u16 {
+    name.get(index as usize).map_or(0, |b| *b as u16)
 }

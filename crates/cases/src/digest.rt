@@ -1,47 +1,39 @@
 // Digests: registers and memory in 32 bits, for answers that have no room for them.
-use super::machine_memory::{BYTES, Memory};
+use super::machine_memory::Memory;
 use registers::{Name, Set};
 
 // Each byte counts FACTOR times as much as the next, modulo 2^32. FACTOR is odd, and no two of its powers within a digest are equal:
 // a change of one byte shows, and so does an exchange of two.
-const FACTOR: u64 = 0x01000193;
+const FACTOR: u32 = 0x01000193;
 
-fn with_byte(sum: u32, b: u8) -> u32 {
-    ((sum as u64 * FACTOR + b as u64) % 0x100000000) as u32
-}
-
-fn with_word(sum: u32, w: u16) -> u32 {
-    with_byte(with_byte(sum, (w / 0x100) as u8), (w % 0x100) as u8)
-}
-
-// D is among them: the Rust stores it beside A and B.
-fn with_registers(sum: u32, regs: Set) -> u32 {
-    let bytes = with_byte(with_byte(sum, regs.a), regs.b);
-    let d = with_word(bytes, regs.get_register(Name::D).u16());
-    let index = with_word(with_word(d, regs.x), regs.y);
-    let stacks = with_word(with_word(index, regs.u), regs.s);
-    let pc = with_word(stacks, regs.pc);
-    with_byte(with_byte(pc, regs.dp), regs.cc.reg)
-}
-
-// All of the memory, after what the sum stands for.
-fn with_memory(sum: u32, mem: &Memory) -> u32 {
+fn with_bytes(sum: u32, bytes: &[u8]) -> u32 {
     let mut all = sum;
-    let mut place = 0;
-    while place < BYTES {
-        all = with_byte(all, mem[place]);
-        place += 1;
+    for b in bytes {
+        all = all.wrapping_mul(FACTOR).wrapping_add(*b as u32);
     }
     all
 }
 
+// D is among them: the Rust stores it beside A and B.
+fn with_registers(sum: u32, regs: Set) -> u32 {
+    let d = regs.get_register(Name::D).u16();
+    let words = [d, regs.x, regs.y, regs.u, regs.s, regs.pc];
+    let all = words
+        .iter()
+        .fold(with_bytes(sum, &[regs.a, regs.b]), |sum, w| {
+            with_bytes(sum, &w.to_be_bytes())
+        });
+    with_bytes(all, &[regs.dp, regs.cc.reg])
+}
+
 pub fn memory_digest(mem: &Memory) -> u32 {
-    with_memory(0, mem)
+    with_bytes(0, mem)
 }
 
 // An instruction's size, every register, and the memory.
 pub fn machine_digest(size: u16, regs: Set, mem: &Memory) -> u32 {
-    with_memory(with_registers(with_word(0, size), regs), mem)
+    let start = with_bytes(0, &size.to_be_bytes());
+    with_bytes(with_registers(start, regs), mem)
 }
 
 // Both halves of the memory's digest in one word.

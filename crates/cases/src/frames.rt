@@ -1,12 +1,28 @@
 // System pushes and the frames of interrupts, 44 and 45, and how 45 and 46 show what is left afterwards.
-use super::case::{Case, Reply, done, pair, refused};
+use super::case::{Case, Failure, Reply, Words};
 use super::digest::short_digest;
-use super::machine_memory::{Memory, put_back, raw_at_place};
-use super::operands::{register, seeded, truth};
-use answers::Answer;
+use super::machine_memory::{Memory, put_back, raw_word};
+use super::operands::{numbered, register, seeded, truth};
+use answers::Refusal;
 use machine::{Effect, Wait};
 use registers::{Name, Set, Stack, Word};
-use u8oru16::u8u16;
+
+// Which three words of what is left are shown: PC, S and CC; those at S; those six bytes above it; and what stands for the rest.
+#[derive(Clone, Copy)]
+pub enum View {
+    Codes,
+    Near,
+    Far,
+    Rest,
+}
+
+impl TryFrom<u16> for View {
+    type Error = Failure;
+
+    fn try_from(w: u16) -> Result<Self, Failure> {
+        numbered(&[View::Codes, View::Near, View::Far, View::Rest], w)
+    }
+}
 
 // The registers of a seed, with another S.
 pub fn stacking(seed: u16, s: u16) -> Set {
@@ -21,8 +37,7 @@ fn mask(name: Name) -> u8 {
         Name::D => 0x06,
         Name::X => 0x10,
         Name::Y => 0x20,
-        Name::U => 0x40,
-        Name::S => 0x40,
+        Name::U | Name::S => 0x40,
         Name::PC => 0x80,
         Name::DP => 0x08,
         Name::CC => 0x01,
@@ -36,68 +51,63 @@ fn with_s_in_u(regs: Set, name: Name) -> Set {
     }
 }
 
-// The Rust's system_psh: a push of one register by System writes.
+// The Rust's system_psh: a push of one register by System writes. The last word is unused.
 pub fn push(case: Case, mem: &mut Memory) -> Reply {
-    let name = register(case.w1);
-    let s = case.w2;
-    let regs = with_s_in_u(stacking(case.w3, s), name);
+    let [name, s, seed, 0] = case.words else {
+        return Err(Failure::BadCase);
+    };
+    let name = register(name)?;
+    let regs = with_s_in_u(stacking(seed, s), name);
     let effect = stack::push(regs, Stack::S, mask(name), true);
-    let writes = effect.writes;
-    let after = effect.regs;
-    let answer = effect.answer;
-    memory::store_all(mem, case.w3, writes);
-    let reply = pushed(mem, after.s, answer);
+    memory::store_all(mem, seed, effect.writes);
+    let at = effect.regs.s;
+    let shown = effect
+        .answer
+        .map(|()| [at, raw_word(mem, at, 0), short_digest(mem)]);
     unstack(mem, s);
-    reply
-}
-
-fn pushed(mem: &Memory, at: u16, answer: Answer) -> Reply {
-    match answer {
-        Answer::Done => done(at, stacked(mem, at, 0), short_digest(mem)),
-        Answer::Refused(refusal) => refused(refusal.number()),
-    }
+    Ok(shown?)
 }
 
 // A frame and no more.
 pub fn frame(case: Case, mem: &mut Memory) -> Reply {
-    let s = case.w2;
-    let effect = stack::frame(stacking(case.w3, s), truth(case.w1 / 16));
-    let reply = carried_out(mem, case.w3, case.w1 % 16, effect);
+    let [kind, s, seed, 0] = case.words else {
+        return Err(Failure::BadCase);
+    };
+    let view = View::try_from(kind % 16)?;
+    let effect = stack::frame(stacking(seed, s), truth(kind / 16)?);
+    let shown = carried_out(mem, seed, effect).map(|left| left.shown(mem, view));
     unstack(mem, s);
-    reply
+    Ok(shown?)
 }
 
-// What an effect writes is stored, and then shown.
-pub fn carried_out(mem: &mut Memory, ram_top: u16, view: u16, effect: Effect) -> Reply {
-    let writes = effect.writes;
-    let regs = effect.regs;
-    let wait = effect.wait;
-    let answer = effect.answer;
-    memory::store_all(mem, ram_top, writes);
-    shown(mem, view, regs, wait, answer)
+// The registers and the wait state that are left.
+#[derive(Clone, Copy)]
+pub struct Left {
+    pub regs: Set,
+    pub wait: Wait,
 }
 
-pub fn shown(mem: &Memory, view: u16, regs: Set, wait: Wait, answer: Answer) -> Reply {
-    match answer {
-        Answer::Done => seen(mem, view, regs, wait),
-        Answer::Refused(refusal) => refused(refusal.number()),
+// What an effect writes is stored.
+pub fn carried_out(mem: &mut Memory, ram_top: u16, effect: Effect) -> Result<Left, Refusal> {
+    memory::store_all(mem, ram_top, effect.writes);
+    effect.answer?;
+    Ok(Left {
+        regs: effect.regs,
+        wait: effect.wait,
+    })
+}
+
+impl Left {
+    pub fn shown(self, mem: &Memory, view: View) -> Words {
+        let regs = self.regs;
+        let word = |above: u16| raw_word(mem, regs.s, above);
+        match view {
+            View::Codes => [regs.pc, regs.s, regs.cc.reg as u16],
+            View::Near => [word(0), word(2), word(4)],
+            View::Far => [word(6), word(8), word(10)],
+            View::Rest => [others(regs), short_digest(mem), wait_number(self.wait)],
+        }
     }
-}
-
-fn seen(mem: &Memory, view: u16, regs: Set, wait: Wait) -> Reply {
-    let s = regs.s;
-    match view {
-        0 => done(regs.pc, s, regs.cc.reg as u16),
-        1 => done(stacked(mem, s, 0), stacked(mem, s, 2), stacked(mem, s, 4)),
-        2 => done(stacked(mem, s, 6), stacked(mem, s, 8), stacked(mem, s, 10)),
-        _ => done(others(regs), short_digest(mem), wait_number(wait)),
-    }
-}
-
-// The word that stands k bytes above S.
-fn stacked(mem: &Memory, s: u16, k: u16) -> u16 {
-    let at = s as u32 + k as u32;
-    pair(raw_at_place(mem, at), raw_at_place(mem, at + 1))
 }
 
 // The registers that an interrupt leaves alone, each with a factor of its own.
@@ -118,9 +128,7 @@ fn wait_number(wait: Wait) -> u16 {
 
 // A frame has at most twelve bytes, and they lie below S.
 pub fn unstack(mem: &mut Memory, s: u16) {
-    let mut below = 1;
-    while below <= 12 {
-        put_back(mem, std::num::wrapping_sub_u16(s, below) as u32);
-        below += 1;
+    for below in 1..=12 {
+        put_back(mem, s.wrapping_sub(below) as u32);
     }
 }

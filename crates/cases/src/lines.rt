@@ -1,99 +1,65 @@
 // The lines: reading a case, writing an answer.
 ghost use Rattle.std.specs.Prelude.{◌+◌, ◌≤◌, length};
 
-use super::case::{Case, Words};
+use super::case::{Case, Failure, Reply};
 
-// A case's line, the 1024 lines that are read at once, and the room that their answers take.
+// A case's line, the lines that are read at once, and the room that their answers take.
 pub const LINE: usize = 23;
 
 pub const BLOCK: usize = 1024 * LINE;
 
 pub const ROOM: usize = 1024 * 20;
 
-pub type Lines = [u8; BLOCK];
-
-// What a line reads as.
-#[derive(Clone, Copy)]
-pub enum Reading {
-    Case(Case),
-    Malformed,
-}
-
-fn is_byte(lines: &Lines, at: usize) -> bool
-    requires { at + 2 ≤ 23552 }
-{
-    text::is_digit(lines[at]) & text::is_digit(lines[at + 1])
-}
-
-// A space and four digits.
-fn is_word(lines: &Lines, at: usize) -> bool
-    requires { at + 5 ≤ 23552 }
-{
-    (lines[at] == b' ') & is_byte(lines, at + 1) & is_byte(lines, at + 3)
-}
-
-fn is_case(lines: &Lines, at: usize) -> bool
-    requires { at + 23 ≤ 23552 }
-{
-    is_byte(lines, at)
-        & is_word(lines, at + 2)
-        & is_word(lines, at + 7)
-        & is_word(lines, at + 12)
-        & is_word(lines, at + 17)
-        & (lines[at + 22] == b'\n')
-}
-
-fn byte_at(lines: &Lines, at: usize) -> u16
-    requires { at + 2 ≤ 23552 }
-    ensures { result ≤ 255 }
-{
-    text::byte(lines[at], lines[at + 1]) as u16
-}
-
-fn word_at(lines: &Lines, at: usize) -> u16
-    requires { at + 4 ≤ 23552 }
-{
-    byte_at(lines, at) * 256 + byte_at(lines, at + 2)
-}
-
-pub fn case_at(lines: &Lines, at: usize) -> Reading
-    requires { at + 23 ≤ 23552 }
-{
-    if is_case(lines, at) {
-        Reading::Case(Case {
-            function: byte_at(lines, at),
-            w1: word_at(lines, at + 3),
-            w2: word_at(lines, at + 8),
-            w3: word_at(lines, at + 13),
-            w4: word_at(lines, at + 18),
-        })
+fn byte(high: u8, low: u8) -> Result<u8, Failure> {
+    if text::is_digit(high) & text::is_digit(low) {
+        Ok(text::byte(high, low))
     } else {
-        Reading::Malformed
+        Err(Failure::BadCase)
     }
 }
 
-fn put_word(out: &mut [u8], at: usize, w: u16) {
-    let digits = text::hex4(w);
-    text::put(out, at, &digits);
+// A space and four digits.
+fn word(part: [u8; 5]) -> Result<u16, Failure> {
+    let [b' ', a, b, c, d] = part else {
+        return Err(Failure::BadCase);
+    };
+    Ok(u16::from_be_bytes([byte(a, b)?, byte(c, d)?]))
 }
 
-// Each of the two below returns where the next line goes.
-pub fn put_words(out: &mut [u8], at: usize, words: Words) -> usize
+impl TryFrom<&[u8]> for Case {
+    type Error = Failure;
+
+    fn try_from(line: &[u8]) -> Result<Self, Failure> {
+        let [high, low, words @ .., b'\n'] = line else {
+            return Err(Failure::BadCase);
+        };
+        let (&[w1, w2, w3, w4], []) = words.as_chunks::<5>() else {
+            return Err(Failure::BadCase);
+        };
+        Ok(Case {
+            function: byte(*high, *low)?,
+            words: [word(w1)?, word(w2)?, word(w3)?, word(w4)?],
+        })
+    }
+}
+
+// Writes an answer, and returns where the next one goes.
+pub fn put(out: &mut [u8], at: usize, reply: Reply) -> usize
     requires { at + 20 ≤ length out.old }
     ensures { result ≤ at + 20 }
 {
+    // The one place that prints a refusal: there is nothing to hand it on to.
+    let (number, [r1, r2, r3]) = match reply {
+        Ok(words) => (0, words),
+        Err(Failure::Refused(refusal)) => (refusal.number(), [0; 3]),
+        Err(Failure::BadCase) => {
+            text::put(out, at, b"bad case\n");
+            return at + 9;
+        }
+    };
     text::put(out, at, b"0000 0000 0000 0000\n");
-    put_word(out, at, words.number);
-    put_word(out, at + 5, words.r1);
-    put_word(out, at + 10, words.r2);
-    put_word(out, at + 15, words.r3);
+    for (i, word) in [number as u16, r1, r2, r3].iter().enumerate() {
+        text::put(out, at + 5 * i, &text::hex4(*word));
+    }
     at + 20
-}
-
-pub fn put_bad_case(out: &mut [u8], at: usize) -> usize
-    requires { at + 20 ≤ length out.old }
-    ensures { result ≤ at + 20 }
-{
-    text::put(out, at, b"bad case\n");
-    at + 9
 }

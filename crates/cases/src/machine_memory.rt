@@ -1,10 +1,9 @@
 // The memory that 40 to 47 act on, and 40 to 42 themselves.
-ghost use Rattle.std.specs.Prelude.{◌≤◌};
-
-use super::case::{Case, Reply, digested, pair, refused, single};
+use super::case::{Case, Failure, Reply, digested, single};
 use super::digest::memory_digest;
 use super::operands::{access, value};
-use answers::Answer;
+use memory::AccessType;
+use u8oru16::u8u16;
 
 pub const BYTES: usize = 0x10000;
 
@@ -18,68 +17,70 @@ fn pattern(place: u16) -> u8 {
 
 // One memory serves all cases, since to lay it out takes longer than to answer: each case puts back what it changed.
 pub fn fill(mem: &mut Memory) {
-    let mut place = 0;
-    while place < BYTES {
-        mem[place] = pattern(place as u16);
-        place += 1;
+    for (place, b) in mem.iter_mut().enumerate() {
+        *b = pattern(place as u16);
     }
 }
 
-// A byte at an address, through the map. Past FFFF, here and below, there is none.
+// The place of a byte at an address, through the map. Past FFFF there is none.
+fn place(at: u32) -> Option<u16> {
+    u16::try_from(at).ok().map(|at| memory::place(at))
+}
+
 pub fn put(mem: &mut Memory, at: u32, b: u8) {
-    if at <= 0xFFFF {
-        let place = memory::place(at as u16);
-        mem[place as usize] = b;
+    if let Some(p) = place(at) {
+        mem[p as usize] = b;
     }
 }
 
 pub fn put_back(mem: &mut Memory, at: u32) {
-    if at <= 0xFFFF {
-        let place = memory::place(at as u16);
-        mem[place as usize] = pattern(place);
+    if let Some(p) = place(at) {
+        mem[p as usize] = pattern(p);
     }
 }
 
-// The memory itself at an address's place, and not by the reads that are compared.
-pub fn raw_at_place(mem: &Memory, at: u32) -> u8 {
-    if at <= 0xFFFF {
-        mem[memory::place(at as u16) as usize]
-    } else {
-        0
-    }
+// A word at an address and the next, for as long as a case takes.
+pub fn put_word(mem: &mut Memory, at: u16, w: u16) {
+    let [high, low] = w.to_be_bytes();
+    put(mem, at as u32, high);
+    put(mem, at as u32 + 1, low);
 }
 
+pub fn put_word_back(mem: &mut Memory, at: u16) {
+    put_back(mem, at as u32);
+    put_back(mem, at as u32 + 1);
+}
+
+// The word so many bytes above an address: the memory itself at both places, 00 past FFFF, and not by the reads that are compared.
+pub fn raw_word(mem: &Memory, at: u16, above: u16) -> u16 {
+    let high = at as u32 + above as u32;
+    u16::from_be_bytes([raw_byte(mem, high), raw_byte(mem, high + 1)])
+}
+
+fn raw_byte(mem: &Memory, at: u32) -> u8 {
+    place(at).map_or(0, |p| mem[p as usize])
+}
+
+// A word at FFFF is no case: the Rust has none there.
 pub fn answer(case: Case, mem: &mut Memory) -> Reply {
-    let function = case.function;
-    let at = case.w1;
-    match function {
-        0x40 => single(memory::read_u8(mem, at) as u16),
-        0x41 => single(memory::read_u16(mem, at)),
-        _ => write(case, mem),
+    match (case.function, case.words) {
+        (0x40, [at, 0, 0, 0]) => Ok(single(memory::read_u8(mem, at) as u16)),
+        (0x41, [at, 0, 0, 0]) if at < 0xFFFF => Ok(single(memory::read_u16(mem, at))),
+        (0x42, [ram_top, at, number, kind]) if (kind % 16 == 1) | (at < 0xFFFF) => write(
+            mem,
+            ram_top,
+            access(kind / 16)?,
+            at,
+            value(kind % 16, number)?,
+        ),
+        _ => Err(Failure::BadCase),
     }
 }
 
 // A byte is written at the address, a word there and at the next: both are put back.
-fn write(case: Case, mem: &mut Memory) -> Reply {
-    let at = case.w2;
-    let kind = case.w4;
-    let data = value(kind % 16, case.w3);
-    let wrote = memory::write_u8u16(mem, case.w1, access(kind / 16), at, data);
-    let answer = wrote.answer;
-    let reply = written(mem, at as u32, answer);
-    put_back(mem, at as u32);
-    put_back(mem, at as u32 + 1);
-    reply
-}
-
-fn written(mem: &Memory, at: u32, answer: Answer) -> Reply
-    requires { at ≤ 0xFFFF }
-{
-    match answer {
-        Answer::Done => digested(
-            pair(raw_at_place(mem, at), raw_at_place(mem, at + 1)),
-            memory_digest(mem),
-        ),
-        Answer::Refused(refusal) => refused(refusal.number()),
-    }
+fn write(mem: &mut Memory, ram_top: u16, atype: AccessType, at: u16, v: u8u16) -> Reply {
+    let wrote = memory::write_u8u16(mem, ram_top, atype, at, v);
+    let shown = wrote.map(|_| digested(raw_word(mem, at, 0), memory_digest(mem)));
+    put_word_back(mem, at);
+    Ok(shown?)
 }

@@ -12,24 +12,20 @@ mod machine_memory;
 mod operands;
 mod register_set;
 mod served;
-mod table;
 mod values;
 
-ghost use Rattle.std.specs.Prelude.{◌+◌, ◌<◌, ◌≤◌, length};
+ghost use Rattle.std.specs.Prelude.{◌≤◌, length};
 ghost use Rattle.streams.specs.Counts.{IsPrefixLen};
 
-use case::{Case, Reply};
-use lines::{BLOCK, LINE, Lines, ROOM, Reading};
+use case::{Case, Failure, Reply};
+use lines::{BLOCK, LINE, ROOM};
 use machine_memory::{BYTES, Memory};
 use std::io;
 
-// `table` has refused every number that is no function's, so the last arm here and in each group is the last that is left.
+// A function has the number that the table of the lines gives it. The number stands once, in the arm that calls the function: an enum
+// between the two would name each function twice more, and no arm would be shorter.
 fn answer(case: Case, mem: &mut Memory) -> Reply {
-    if !table::fits(case) {
-        return Reply::BadCase;
-    }
-    let function = case.function;
-    match function {
+    match case.function {
         0x00..=0x10 => values::answer(case),
         0x20..=0x26 => codes::answer(case),
         0x27..=0x39 => arithmetic::answer(case),
@@ -39,44 +35,24 @@ fn answer(case: Case, mem: &mut Memory) -> Reply {
         0x44 => frames::push(case, mem),
         0x45 => frames::frame(case, mem),
         0x46 => served::interrupt(case, mem),
-        _ => served::reset(case, mem),
+        0x47 => served::reset(case, mem),
+        _ => Err(Failure::BadCase),
     }
 }
 
-fn reply(lines: &Lines, at: usize, mem: &mut Memory) -> Reply
-    requires { at + 23 ≤ 23552 }
-{
-    match lines::case_at(lines, at) {
-        Reading::Case(case) => answer(case, mem),
-        Reading::Malformed => Reply::BadCase,
-    }
-}
-
-// Answers line i, and returns where the next answer goes.
-fn answer_line(lines: &Lines, i: usize, mem: &mut Memory, out: &mut [u8], end: usize) -> usize
-    requires { (i < 1024) × (end + 20 ≤ length out.old) }
-    ensures { result ≤ end + 20 }
-{
-    match reply(lines, i * LINE, mem) {
-        Reply::Done(words) => lines::put_words(out, end, words),
-        Reply::BadCase => lines::put_bad_case(out, end),
-    }
+fn reply(line: &[u8], mem: &mut Memory) -> Reply {
+    answer(Case::try_from(line)?, mem)
 }
 
 // Answers the first n bytes of a block, and returns how many bytes the answers take. What is left after the last whole line is one
 // bad case.
-fn answer_block(lines: &Lines, n: usize, mem: &mut Memory, out: &mut [u8]) -> usize
-    requires { (n ≤ 23552) × (20480 ≤ length out.old) }
+fn answer_block(block: &[u8; BLOCK], n: usize, mem: &mut Memory, out: &mut [u8; ROOM]) -> usize
+    requires { n ≤ 23552 }
     ensures { IsPrefixLen result out.new }
 {
     let mut end = 0;
-    let mut i = 0;
-    while i < n / LINE {
-        end = answer_line(lines, i, mem, out, end);
-        i += 1;
-    }
-    if n % LINE != 0 {
-        end = lines::put_bad_case(out, end);
+    for line in block[..n].chunks(LINE) {
+        end = lines::put(out, end, reply(line, mem));
     }
     end
 }

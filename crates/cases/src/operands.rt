@@ -1,101 +1,129 @@
-// What a word of a case stands for. Each function here takes every word; `table` has refused those that are out of range.
-ghost use Rattle.std.specs.Prelude.{◌≤◌};
-
+// What a word of a case stands for. A word that is out of range makes no case.
+use super::case::Failure;
 use memory::AccessType;
 use opcodes::Mode;
 use registers::{CCBit, CCBits, Name, Set};
 use u8oru16::u8u16;
 
-pub fn is_byte(w: u16) -> bool {
-    w < 0x100
+// The one that has a word's number, of all that there are.
+pub fn numbered<T: Copy>(all: &[T], number: u16) -> Result<T, Failure> {
+    all.get(number as usize).copied().ok_or(Failure::BadCase)
 }
 
-pub fn byte(w: u16) -> u8 {
-    (w % 0x100) as u8
+pub fn byte(w: u16) -> Result<u8, Failure> {
+    Ok(u8::try_from(w)?)
 }
 
-pub fn is_truth(w: u16) -> bool {
-    w < 2
+pub fn truth(w: u16) -> Result<bool, Failure> {
+    numbered(&[false, true], w)
 }
 
-pub fn truth(w: u16) -> bool {
-    w == 1
-}
-
-pub fn is_value(size: u16, number: u16) -> bool {
-    (size == 2) | ((size == 1) & is_byte(number))
-}
-
-pub fn value(size: u16, number: u16) -> u8u16 {
-    if size == 1 {
-        u8u16::u8(byte(number))
-    } else {
-        u8u16::u16(number)
+pub fn value(size: u16, number: u16) -> Result<u8u16, Failure> {
+    match size {
+        1 => Ok(u8u16::u8(byte(number)?)),
+        2 => Ok(u8u16::u16(number)),
+        _ => Err(Failure::BadCase),
     }
 }
 
-pub fn is_length(w: u16) -> bool {
-    w <= 4
+pub fn codes(w: u16) -> Result<CCBits, Failure> {
+    Ok(CCBits { reg: byte(w)? })
 }
 
-pub fn length(w: u16) -> usize
-    ensures { result ≤ 4 }
-{
-    (w % 5) as usize
+pub fn flag(w: u16) -> Result<CCBit, Failure> {
+    numbered(
+        &[
+            CCBit::C,
+            CCBit::V,
+            CCBit::Z,
+            CCBit::N,
+            CCBit::I,
+            CCBit::H,
+            CCBit::F,
+            CCBit::E,
+        ],
+        w,
+    )
 }
 
-pub fn codes(w: u16) -> CCBits {
-    CCBits { reg: byte(w) }
+pub fn register(w: u16) -> Result<Name, Failure> {
+    numbered(
+        &[
+            Name::A,
+            Name::B,
+            Name::D,
+            Name::X,
+            Name::Y,
+            Name::U,
+            Name::S,
+            Name::PC,
+            Name::DP,
+            Name::CC,
+        ],
+        w,
+    )
 }
 
-pub fn is_flag(w: u16) -> bool {
-    w < 8
+pub fn access(w: u16) -> Result<AccessType, Failure> {
+    numbered(
+        &[
+            AccessType::Program,
+            AccessType::UserStack,
+            AccessType::SystemStack,
+            AccessType::Generic,
+            AccessType::System,
+        ],
+        w,
+    )
 }
 
-pub fn flag(w: u16) -> CCBit {
-    match w {
-        0 => CCBit::C,
-        1 => CCBit::V,
-        2 => CCBit::Z,
-        3 => CCBit::N,
-        4 => CCBit::I,
-        5 => CCBit::H,
-        6 => CCBit::F,
-        _ => CCBit::E,
-    }
+// Of the first word of 43: the mode from bit 12 up, whether it is wide, whether the opcode is long, two bits that are not used, and the
+// first operand byte. An immediate operand and a relative offset are the two that may be wide.
+#[derive(Clone, Copy)]
+pub struct Instruction {
+    pub mode: Mode,
+    pub is_long: bool,
+    pub first: u8,
 }
 
-pub fn is_register(w: u16) -> bool {
-    w < 10
-}
+impl TryFrom<u16> for Instruction {
+    type Error = Failure;
 
-pub fn register(w: u16) -> Name {
-    match w {
-        0 => Name::A,
-        1 => Name::B,
-        2 => Name::D,
-        3 => Name::X,
-        4 => Name::Y,
-        5 => Name::U,
-        6 => Name::S,
-        7 => Name::PC,
-        8 => Name::DP,
-        _ => Name::CC,
+    fn try_from(w: u16) -> Result<Self, Failure> {
+        let mode = match w / 0x800 {
+            0x0 => Mode::Inherent,
+            0x2 => Mode::Immediate8,
+            0x3 => Mode::Immediate16,
+            0x4 => Mode::Direct,
+            0x6 => Mode::Indexed,
+            0x8 => Mode::Extended,
+            0xA => Mode::Relative8,
+            0xB => Mode::Relative16,
+            _ => return Err(Failure::BadCase),
+        };
+        Ok(Instruction {
+            mode,
+            is_long: truth(w / 0x400 % 2)?,
+            first: byte(w % 0x400)?,
+        })
     }
 }
 
 // The registers that a seed stands for. D is not stored: the seed's is 256 A + B.
 pub fn seeded(n: u16) -> Set {
+    let [a_high, a_low] = n.to_be_bytes();
     Set {
-        x: std::num::wrapping_add_u16(n, 1),
-        y: std::num::wrapping_add_u16(n, 2),
-        u: std::num::wrapping_add_u16(n, 3),
-        s: std::num::wrapping_add_u16(n, 4),
-        pc: std::num::wrapping_add_u16(n, 5),
-        a: byte(n),
-        b: (n / 0x100) as u8,
-        dp: byte(std::num::wrapping_add_u16(n, 6)),
-        cc: codes(std::num::wrapping_add_u16(n, 7)),
+        x: n.wrapping_add(1),
+        y: n.wrapping_add(2),
+        u: n.wrapping_add(3),
+        s: n.wrapping_add(4),
+        pc: n.wrapping_add(5),
+        a: a_low,
+        b: a_high,
+        dp: a_low.wrapping_add(6),
+        cc: CCBits {
+            reg: a_low.wrapping_add(7),
+        },
     }
 }
 
@@ -105,65 +133,21 @@ pub fn mixed(seed: u16, rest: u16, pc: u16) -> Set {
     let n = seed as u32;
     let r = rest as u32;
     let p = pc as u32;
-    let d = low16(0x2C4B * r + 0x1A36 * p + 0x9E37);
-    let dp_cc = low16(0x1E6A * n + 0x0D73 * r + 0x35BF * p + 0x6A09);
+    let [a, b] = low16(0x2C4B * r + 0x1A36 * p + 0x9E37).to_be_bytes();
+    let [dp, reg] = low16(0x1E6A * n + 0x0D73 * r + 0x35BF * p + 0x6A09).to_be_bytes();
     Set {
         x: low16(0x1D2B * n + 0x0E52 * r + 0x3A8E * p + 0x51C1),
         y: low16(0x25A7 * n + 0x1F3A * r + 0x0B6D * p + 0xC2B2),
         u: low16(0x3163 * n + 0x2D59 * r + 0x17C2 * p + 0x27D4),
         s: low16(0x0F95 * n + 0x3B47 * r + 0x26E1 * p + 0xE913),
         pc,
-        a: (d / 0x100) as u8,
-        b: byte(d),
-        dp: (dp_cc / 0x100) as u8,
-        cc: codes(dp_cc),
+        a,
+        b,
+        dp,
+        cc: CCBits { reg },
     }
 }
 
 fn low16(sum: u32) -> u16 {
     (sum % 0x10000) as u16
-}
-
-pub fn is_access(w: u16) -> bool {
-    w < 5
-}
-
-pub fn access(w: u16) -> AccessType {
-    match w {
-        0 => AccessType::Program,
-        1 => AccessType::UserStack,
-        2 => AccessType::SystemStack,
-        3 => AccessType::Generic,
-        _ => AccessType::System,
-    }
-}
-
-// Of the first word of 43: the mode from bit 12 up, then the two below, then two bits that are not used.
-fn is_wide(w: u16) -> bool {
-    w & 0x0800 != 0
-}
-
-pub fn mode(w: u16) -> Mode {
-    match w / 0x1000 {
-        0 => Mode::Inherent,
-        1 => sized_mode(w, Mode::Immediate8, Mode::Immediate16),
-        2 => Mode::Direct,
-        3 => Mode::Indexed,
-        4 => Mode::Extended,
-        _ => sized_mode(w, Mode::Relative8, Mode::Relative16),
-    }
-}
-
-fn sized_mode(w: u16, narrow: Mode, wide: Mode) -> Mode {
-    if is_wide(w) { wide } else { narrow }
-}
-
-pub fn is_long(w: u16) -> bool {
-    w & 0x0400 != 0
-}
-
-// An immediate operand and a relative offset are the two that may be wide.
-pub fn is_instruction(w: u16) -> bool {
-    let mode = w / 0x1000;
-    (mode < 6) & (w & 0x0300 == 0) & (!is_wide(w) | (mode == 1) | (mode == 5))
 }

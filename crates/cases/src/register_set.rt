@@ -1,28 +1,28 @@
 // The register set and its names, 3A to 3D.
-use super::case::{Case, Reply, letter_at, single, sized};
+use super::case::{Case, Failure, Reply, Words, letter_at, single, sized};
 use super::operands::{register, seeded, value};
 use registers::{Name, Set, reg_size};
+use u8oru16::u8u16;
 
 pub fn answer(case: Case) -> Reply {
-    let function = case.function;
-    let name = register(case.w1);
-    match function {
-        0x3A => single(reg_size(name)),
-        0x3B => letter(name, case.w2),
-        0x3C => sized(Set::reset().get_register(name)),
-        _ => set_then_get(case),
+    match (case.function, case.words) {
+        (0x3A, [name, 0, 0, 0]) => Ok(single(reg_size(register(name)?))),
+        (0x3B, [name, index, 0, 0]) => Ok(letter(register(name)?, index)),
+        (0x3C, [name, _, 0, 0]) => Ok(sized(Set::reset().get_register(register(name)?), 0)),
+        (0x3D, [both, size, number, seed]) => Ok(set_then_get(
+            register(both / 16)?,
+            register(both % 16)?,
+            value(size, number)?,
+            seeded(seed),
+        )),
+        _ => Err(Failure::BadCase),
     }
 }
 
-fn letter(name: Name, index: u16) -> Reply {
-    let letters = name.to_str();
-    let bytes = letters.bytes;
-    single(letter_at(&bytes, letters.len, index))
+fn letter(name: Name, index: u16) -> Words {
+    single(letter_at(name.to_str().as_bytes(), index))
 }
 
-fn set_then_get(case: Case) -> Reply {
-    let both = case.w1;
-    let set = seeded(case.w4);
-    let after = set.set_register(register(both / 16), value(case.w2, case.w3));
-    sized(after.get_register(register(both % 16)))
+fn set_then_get(set: Name, read: Name, v: u8u16, regs: Set) -> Words {
+    sized(regs.set_register(set, v).get_register(read), 0)
 }

@@ -1,5 +1,6 @@
 -- The rows on post-bytes and writes, from tests of their numbers.
 -- Assumes nothing.
+use Rattle.std.specs.Prelude.{Err, Ok, Result}
 use Prim.Native.Nat.{ℕ, ◌+◌, ◌/◌, ◌%◌, ◌≤◌, ◌<◌}
 use mathlib.Core.Path.{◌≡◌, refl, sym, ap, ◌∙◌}
 use mathlib.Core.Bool.{Bool, true, false, ◌&&◌}
@@ -20,11 +21,10 @@ use Rattle.opcodes.specs.declared.Mode.TheVariants.{Indexed}
 use Rattle.decode.specs.PostByte.{is_indirect, form_of, is_refused, index_of, five_bits}
 use Rattle.decode.specs.Operand.{with_form, operand_of, operand_at}
 use Rattle.decode.specs.declared.postbyte.Form.TheVariants.{Offset5}
-use Rattle.decode.specs.declared.postbyte.PostByte.{PostByte}
-use Rattle.decode.specs.declared.postbyte.PostByte.TheVariants.{Form as Taken, Refused}
 use Rattle.addressing.specs.Address.{at_address, indexed_address}
-use Rattle.addressing.specs.declared.Resolved.TheVariants.{At}
 use Rattle.checked.specs.Rows.{effective_of_read, number_of_resolved}
+use Rattle.answers.specs.declared.Refusal.{Refusal}
+use Rattle.decode.specs.declared.postbyte.Form.{Form}
 
 -- decoding reads the post-byte, which lies within memory's addresses
 decoded : (mem : List ℕ) (at post : ℕ) → at < 65536 → byte_at mem at ≡ post → operand_at Indexed mem at ≡ operand_of Indexed mem at post (at + 1)
@@ -32,7 +32,7 @@ unfolding operand_at
 decoded mem at post l e = rw (le-leb (at + 1) 0x10000 (omega arith), e)
 
 -- bit 7 clear: a five-bit offset, and no indirection
-five : (post : ℕ) → post < 0x80 → form_of post ≡ Taken Offset5
+five : (post : ℕ) → post < 0x80 → form_of post ≡ Ok Offset5
 unfolding form_of
 five post l = rw (lt-ltb (bit_and post 0x8F) 0x80 (omega (arith, and_le_l post 0x8F)))
 
@@ -45,19 +45,19 @@ unfolding index_of
 names-x post e = rw e
 
 pub offset-row : (p x a : ℕ) → p < 0x80 → p / 32 % 4 ≡ 0 → (x + five_bits p) % 65536 ≡ a
-    → (mem : List ℕ) (at : ℕ) (r : Set) → at < 65536 → byte_at mem at ≡ p → r.x ≡ x → effective_of_read mem r (operand_at Indexed mem at) ≡ At (at_address r a)
+    → (mem : List ℕ) (at : ℕ) (r : Set) → at < 65536 → byte_at mem at ≡ p → r.x ≡ x → effective_of_read mem r (operand_at Indexed mem at) ≡ Ok (at_address r a)
 unfolding indexed_address with_form
 offset-row p x a l f e mem at r h b g = rw (decoded mem at p h b, five p l, direct p l, names-x p f, g, e)
 
 -- a refused form
-abbrev pub number_of_form : PostByte → ℕ
-number_of_form (Taken form) = 0
-number_of_form (Refused x) = number_of x
+abbrev pub number_of_form : Result Form Refusal → ℕ
+number_of_form (Ok form) = 0
+number_of_form (Err x) = number_of x
 
-pub refused-row : (p : ℕ) (q : PostByte) → form_of p ≡ q → T (is_refused q)
+pub refused-row : (p : ℕ) (q : Result Form Refusal) → form_of p ≡ q → T (is_refused q)
     → (mem : List ℕ) (at : ℕ) (r : Set) → at < 65536 → byte_at mem at ≡ p → number_of_resolved (effective_of_read mem r (operand_at Indexed mem at)) ≡ number_of_form q
-refused-row p (Taken form) e t mem at r h b = absurd t
-refused-row p (Refused x) e t mem at r h b = rw (decoded mem at p h b, e)
+refused-row p (Ok form) e t mem at r h b = absurd t
+refused-row p (Err x) e t mem at r h b = rw (decoded mem at p h b, e)
 
 -- a System write is stored whatever ram_top is, and a program's above it is not
 pub system-row : (at p : ℕ) → (at < 0xFF00) ⊎ (0xFFE0 ≤ at) → place_of at ≡ p → (top : ℕ) → landing_of at top true ≡ Stored p

@@ -53,5 +53,5 @@ facts = record {
   last-operation = refl;
   past-the-last = refl;
   refused-file = λ t n file x e. rw e refl;
-  no_step = λ t file e. rw e (append-nil _);
+  no_step = λ t file at e. rw e (append-nil _);
 }

@@ -1,9 +1,8 @@
 -- Single cases that document 01 decides, each of them one that a likely slip would answer otherwise. For each, an edit of must-fail/ says what
 -- the slip would give.
 -- Assumes nothing.
-use Rattle.std.specs.Prelude.{ℕ, ◌+◌, ◌-◌, ◌*◌, ◌%◌, ◌^◌, ◌≤◌, ◌<◌, ◌≡◌, true, false, List, [], ◌∷◌, ◌≢◌, eqb, length}
+use Rattle.std.specs.Prelude.{ℕ, ◌+◌, ◌-◌, ◌*◌, ◌%◌, ◌^◌, ◌≤◌, ◌<◌, ◌≡◌, true, false, List, [], ◌∷◌, ◌≢◌, eqb, length, Err, None, Ok, Some}
 use Rattle.answers.specs.Numbers.{number_of, number_of_answer}
-use Rattle.answers.specs.declared.Answer.TheVariants.{Done, Refused}
 use Rattle.answers.specs.declared.Refusal.{Refusal}
 use Rattle.text.specs.Lines.{alone}
 use Rattle.srecord.specs.Layout.{kind1}
@@ -37,7 +36,6 @@ use Rattle.calls.specs.declared.InterruptType.{InterruptType}
 use Rattle.calls.specs.declared.InterruptType.TheVariants.{Nmi}
 use Rattle.refusals.specs.Steps.{Runs}
 use Rattle.runfile.specs.Format.{next_of, operation_at}
-use Rattle.runfile.specs.declared.Next.TheVariants.{Is, None}
 use Rattle.runfile.specs.declared.Operation.TheVariants.{Step, Undo}
 use Rattle.player.specs.Boots.{report_line, boot_lines}
 use Rattle.player.specs.Plays.{zeros}
@@ -58,7 +56,7 @@ pub record Facts : Type 0 where
   pub step-in-sync : (mem : List ℕ) (m : Machine) (s : Settings) → length mem ≡ 65536 → m.wait ≡ Sync
       → number_of_answer (step_of mem m s).answer ≡ 2
   -- an accepted step counts one instruction, also after the first
-  pub counts : (mem : List ℕ) (m : Machine) (s : Settings) → 0 < m.instructions → (step_of mem m s).answer ≡ Done
+  pub counts : (mem : List ℕ) (m : Machine) (s : Settings) → 0 < m.instructions → (step_of mem m s).answer ≡ (Ok tt)
       → (step_of mem m s).machine.instructions ≡ (m.instructions + 1) % 2 ^ 64
   -- 3: an opcode that no row of the manual has
   pub no_row : (mem : List ℕ) (m : Machine) (s : Settings) → Bytes mem → m.regs.pc < 65536 → Runs mem m → Unnamed (located mem m.regs.pc)
@@ -73,11 +71,11 @@ pub record Facts : Type 0 where
   -- "S-records": an S1 line has at most 252 data bytes
   pub data-bytes : (may_hold kind1 252 ≡ true) × (may_hold kind1 253 ≡ false)
   -- "The run program": the operations are 0 to 5, a step the first and undo the last
-  pub first-operation : next_of (operation_at (0 ∷ []) 0) ≡ Is Step
-  pub last-operation : next_of (operation_at (5 ∷ []) 0) ≡ Is Undo
+  pub first-operation : next_of (operation_at (0 ∷ []) 0) ≡ Some Step
+  pub last-operation : next_of (operation_at (5 ∷ []) 0) ≡ Some Undo
   pub past-the-last : next_of (operation_at (6 ∷ []) 0) ≡ None
   -- firmware as S-records: a refused file prints the number of its refusal; with no step asked for, a sound one prints the reset's line alone
-  pub refused-file : (t : Settings) (n : ℕ) (file : List ℕ) (x : Refusal) → (loaded_of (zeros 65536) file).answer ≡ Refused x
+  pub refused-file : (t : Settings) (n : ℕ) (file : List ℕ) (x : Refusal) → loaded_of (zeros 65536) file ≡ Err x
       → boot_lines t n file ≡ alone (number_of x)
-  pub no_step : (t : Settings) (file : List ℕ) → (loaded_of (zeros 65536) file).answer ≡ Done
+  pub no_step : (t : Settings) (file : List ℕ) (at : ℕ) → loaded_of (zeros 65536) file ≡ Ok at
       → boot_lines t 0 file ≡ report_line (reset_of (memory_loaded (zeros 65536) file) fresh t)

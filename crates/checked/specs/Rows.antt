@@ -1,6 +1,6 @@
 -- The table of checked examples that are proved, and what it is for a row to hold.
 -- Assumes nothing.
-use Rattle.std.specs.Prelude.{ℕ, ◌<◌, ◌≡◌, List, [], ◌∷◌, true, false, ◌≢◌, length}
+use Rattle.std.specs.Prelude.{ℕ, ◌<◌, ◌≡◌, List, [], ◌∷◌, true, false, ◌≢◌, length, Err, Ok, Result}
 use Rattle.registers.specs.ConditionCodes.{flag}
 use Rattle.registers.specs.Arithmetic.{Operation, ADC, SBC, DEC, INC, MUL, Line, ◌:=◌, codes}
 use Rattle.registers.specs.Settings.{by}
@@ -15,17 +15,16 @@ use Rattle.memory.specs.declared.AccessType.TheVariants.{Program, System}
 use Rattle.memory.specs.declared.Landing.TheVariants.{Stored, Ignored}
 use Rattle.opcodes.specs.declared.Mode.TheVariants.{Indexed}
 use Rattle.decode.specs.Operand.{operand_at}
-use Rattle.decode.specs.declared.operand.OperandRead.{OperandRead}
-use Rattle.decode.specs.declared.operand.OperandRead.TheVariants.{Operand as Read, Refused as NotRead}
 use Rattle.addressing.specs.Address.{at_address, effective_of}
-use Rattle.addressing.specs.declared.Resolved.{Resolved}
-use Rattle.addressing.specs.declared.Resolved.TheVariants.{At, Refused}
 use Rattle.machine.specs.declared.Wait.TheVariants.{Cwai}
 use Rattle.machine.specs.declared.Machine.{Machine}
 use Rattle.machine.specs.declared.Settings.{Settings}
 use Rattle.calls.specs.Interrupts.{is_held_off, interrupt_of}
 use Rattle.calls.specs.declared.InterruptType.{InterruptType}
 use Rattle.calls.specs.declared.InterruptType.TheVariants.{Irq}
+use Rattle.addressing.specs.declared.Addressed.{Addressed}
+use Rattle.answers.specs.declared.Refusal.{Refusal}
+use Rattle.decode.specs.declared.operand.Operand.{Operand}
 
 pub data Example : Type 0 where
   -- an operation on a and b: the result, flags as bought, flags by the manual; whatever the condition codes were
@@ -52,20 +51,20 @@ abbrev pub Gives : Flags → Operation → CCBits → ℕ → ℕ → ℕ → Li
 Gives s o cc a b r lines = let p = by s o cc a b in (p.value ≡ r) × Shown (codes cc p.flags) lines
 
 -- the effective address of an indexed operand whose post-byte stands at `at`
-abbrev pub effective_of_read : List ℕ → Set → OperandRead → Resolved
-effective_of_read mem r (Read operand next) = At (effective_of operand mem r next)
-effective_of_read mem r (NotRead x) = Refused x
+abbrev pub effective_of_read : List ℕ → Set → Result (Operand × ℕ) Refusal → Result Addressed Refusal
+effective_of_read mem r (Ok (operand, next)) = Ok (effective_of operand mem r next)
+effective_of_read mem r (Err x) = Err x
 
-abbrev pub number_of_resolved : Resolved → ℕ
-number_of_resolved (At a) = 0
-number_of_resolved (Refused x) = number_of x
+abbrev pub number_of_resolved : Result Addressed Refusal → ℕ
+number_of_resolved (Ok a) = 0
+number_of_resolved (Err x) = number_of x
 
 abbrev pub Holds : Example → Type 0
 Holds (of o a b r bought manual) = (cc : CCBits) → Gives Bought o cc a b r bought × Gives Manual o cc a b r manual
 Holds (carrying o a b r bought manual) =
     (cc : CCBits) → flag C cc ≡ true → Gives Bought o cc a b r bought × Gives Manual o cc a b r manual
 Holds (post_byte p x a) =
-    (mem : List ℕ) (at : ℕ) (r : Set) → at < 65536 → byte_at mem at ≡ p → r.x ≡ x → effective_of_read mem r (operand_at Indexed mem at) ≡ At (at_address r a)
+    (mem : List ℕ) (at : ℕ) (r : Set) → at < 65536 → byte_at mem at ≡ p → r.x ≡ x → effective_of_read mem r (operand_at Indexed mem at) ≡ Ok (at_address r a)
 Holds (bad_post_byte p n) =
     (mem : List ℕ) (at : ℕ) (r : Set) → at < 65536 → byte_at mem at ≡ p → number_of_resolved (effective_of_read mem r (operand_at Indexed mem at)) ≡ n
 Holds (system_write at p) = (top : ℕ) → landing_of at top (is_system System) ≡ Stored p

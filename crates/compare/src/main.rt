@@ -12,20 +12,15 @@ const INPUT: usize = 131137;
 // 48 bytes for each of at most 32,781 lines: no text is longer (`told-fits`).
 const OUT: usize = 48 * 32781;
 
-// Functions of their own, so that the proof of `main` knows their lengths and nothing of their bytes.
-fn in_buffer() -> [u8; INPUT]
-    ensures { 131137 ≡ length result }
+// A function of its own, so that the proof of `main` knows the length and nothing of the bytes.
+fn zeros<const N: usize>() -> [u8; N]
+    ensures { N ≡ length result }
 {
-    [0; INPUT]
-}
-
-fn out_buffer() -> [u8; OUT]
-    ensures { 48 * 32781 ≡ length result }
-{
-    [0; OUT]
+    [0; N]
 }
 
 // Writes the text, and returns its length, which is at most that of the buffer (`told-fits`).
+// Each program has such a function: it makes of its own call's promise the bound by which `main` slices.
 fn tell_into(input: &[u8], out: &mut [u8]) -> usize
     ensures { result ≤ 48 * 32781 }
 {
@@ -33,9 +28,9 @@ fn tell_into(input: &[u8], out: &mut [u8]) -> usize
 }
 
 fn main(rt: HostRuntime) -> io::Result<()> {
-    let mut input = in_buffer();
+    let mut input = zeros::<INPUT>();
     let n = streams::read_full(&mut rt.stdin(), &mut input)?;
-    let mut out = out_buffer();
+    let mut out = zeros::<OUT>();
     let used = tell_into(&input[..n], &mut out);
     rt.write_all(&out[..used])
 }

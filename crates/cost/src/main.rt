@@ -19,47 +19,41 @@ fn settings() -> Settings {
 }
 
 fn start() -> Twin {
-    let machine = costing::start();
-    let mut twin = Twin::fresh();
-    twin.machine = machine;
-    twin
+    Twin {
+        machine: costing::start(),
+        ..Twin::fresh()
+    }
 }
 
-// Recorded steps, each taken back at once if `back`.
+// Recorded steps, each taken back at once if `back`. A bool and no closure: each closure would have a loop of its own, and with two calls
+// of the step in a program the compiler builds it in at neither.
 fn recorded(mem: &mut Memory, journal: &mut Journal, from: Twin, count: u32, back: bool) -> Twin {
     let mut twin = from;
-    let mut left = count;
-    while left > 0 {
-        let outcome = journal::step(mem, journal, twin, settings());
-        twin = outcome.twin;
+    for _ in 0..count {
+        twin = journal::step(mem, journal, twin, settings()).twin;
         if back {
-            let undone = journal::undo(mem, journal, twin);
-            twin = undone.twin;
+            twin = journal::undo(mem, journal, twin).twin;
         }
-        left -= 1;
     }
     twin
 }
 
-// So many steps; the journal is emptied before each batch of them.
+// So many steps; the journal is emptied before each batch of them. The letter of the input becomes a bool here, its one use.
 fn run(mem: &mut Memory, calls: u8, count: u32, most: u32) -> Twin
     requires { 0 < most }
 {
     let mut journal = [0u8; ROOM];
     let mut twin = start();
     let mut left = count;
+    // No `for`: the last batch takes what is left, and `step_by` would count the steps and then need that number again.
     while left > 0 {
-        let n = if left < most { left } else { most };
+        let n = left.min(most);
         twin.records = 0;
         twin.bytes = 0;
         twin = recorded(mem, &mut journal, twin, n, calls == b'B');
         left -= n;
     }
     twin
-}
-
-fn write(rt: &HostRuntime, out: &[u8; 4]) -> io::Result<()> {
-    rt.write_all(out)
 }
 
 fn main(rt: HostRuntime) -> io::Result<()> {
@@ -75,5 +69,5 @@ fn main(rt: HostRuntime) -> io::Result<()> {
         costing::count_of(head),
         costing::batch_of(head),
     );
-    write(&rt, &costing::report(twin.machine, twin.records))
+    rt.write_all(&costing::report(twin.machine, twin.records))
 }

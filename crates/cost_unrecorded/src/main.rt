@@ -9,17 +9,10 @@ use std::io;
 fn steps(mem: &mut Memory, machine: Machine, count: u32) -> Machine {
     let settings = costing::settings();
     let mut current = machine;
-    let mut left = count;
-    while left > 0 {
-        let report = calls::step(mem, current, settings);
-        current = report.machine;
-        left -= 1;
+    for _ in 0..count {
+        current = calls::step(mem, current, settings).machine;
     }
     current
-}
-
-fn write(rt: &HostRuntime, out: &[u8; 4]) -> io::Result<()> {
-    rt.write_all(out)
 }
 
 fn main(rt: HostRuntime) -> io::Result<()> {
@@ -30,5 +23,5 @@ fn main(rt: HostRuntime) -> io::Result<()> {
     let mut mem = [0u8; costing::BYTES];
     costing::fill(&mut mem, &code);
     let machine = steps(&mut mem, costing::start(), costing::count_of(head));
-    write(&rt, &costing::report(machine, 0))
+    rt.write_all(&costing::report(machine, 0))
 }

@@ -40,43 +40,32 @@ pub fn start() -> Machine {
         dp: 0,
         cc: CCBits::reset(),
     };
-    let mut machine = Machine::fresh();
-    machine.regs = regs;
-    machine
-}
-
-pub fn fill(mem: &mut Memory, code: &Loop) {
-    let mut i: usize = 0;
-    while i < LOOP {
-        mem[START as usize + i] = code[i];
-        i += 1;
+    Machine {
+        regs,
+        ..Machine::fresh()
     }
 }
 
-fn word(high: u8, low: u8) -> u16 {
-    high as u16 * 256 + low as u16
+pub fn fill(mem: &mut Memory, code: &Loop) {
+    mem[START as usize..START as usize + LOOP].copy_from_slice(code);
 }
 
 pub fn count_of(head: Head) -> u32 {
-    let high = word(head[1], head[2]);
-    let low = word(head[3], head[4]);
-    high as u32 * 0x1_0000 + low as u32
+    let [_, b0, b1, b2, b3, ..] = head;
+    u32::from_be_bytes([b0, b1, b2, b3])
 }
 
 // At least one record is held.
 pub fn batch_of(head: Head) -> u32
     ensures { 0 < result }
 {
-    let batch = word(head[5], head[6]);
-    if batch == 0 { 1 } else { batch as u32 }
+    let [.., high, low] = head;
+    (u16::from_be_bytes([high, low]) as u32).max(1)
 }
 
 // The low bytes of cycles and of the count of records.
 pub fn report(machine: Machine, records: usize) -> [u8; 4] {
-    [
-        (machine.cycles / 256 % 256) as u8,
-        (machine.cycles % 256) as u8,
-        (records / 256 % 256) as u8,
-        (records % 256) as u8,
-    ]
+    let [c1, c0] = ((machine.cycles % 0x10000) as u16).to_be_bytes();
+    let [r1, r0] = ((records % 0x10000) as u16).to_be_bytes();
+    [c1, c0, r1, r0]
 }

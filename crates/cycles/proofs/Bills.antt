@@ -1,5 +1,6 @@
 -- What an instruction can cost, by one test over the opcode table, and what each post-byte adds, by one test over all of them.
 -- Assumes nothing.
+use Rattle.std.specs.Prelude.{Err, None, Ok, Option, Result, Some}
 use Prim.Native.Nat.{ℕ, ◌+◌, ◌≤◌, ◌<◌}
 use mathlib.Core.Path.{◌≡◌, refl, subst}
 use mathlib.Core.Bool.{Bool, true, false, cond, ◌&&◌}
@@ -23,8 +24,6 @@ use Rattle.opcodes.specs.declared.Op.{Op}
 use Rattle.opcodes.specs.declared.Op.TheVariants.{Registers, Memory}
 use Rattle.opcodes.specs.declared.Page.{Page}
 use Rattle.opcodes.specs.declared.Page.TheVariants.{Plain, Ten, Eleven}
-use Rattle.opcodes.specs.declared.Place.{Place}
-use Rattle.opcodes.specs.declared.Place.TheVariants.{Instruction as InManual, None}
 use Rattle.opcodes.specs.declared.RegisterOp.{RegisterOp}
 use Rattle.opcodes.specs.declared.RegisterOp.TheVariants.{Alu, OnAcc, TestAcc, TestMemory, Addd, Subd, Load16, Cmp16, Lea, Branch, Jmp, Nop, Daa, Sex, Mul, Abx, Andcc, Orcc, Exg, Tfr}
 use Rattle.opcodes.proofs.Rows.{alike}
@@ -32,12 +31,8 @@ use Rattle.decode.specs.Decode.{decoded_at}
 use Rattle.decode.specs.Operand.{signed_byte, operand_number, operand_at}
 use Rattle.decode.specs.Origin.{OriginOf}
 use Rattle.decode.specs.PostByte.{is_indirect, form_of}
-use Rattle.decode.specs.declared.instruction.Decoded.{Decoded}
-use Rattle.decode.specs.declared.instruction.Decoded.TheVariants.{Instruction as Taken, Refused as NotDecoded}
 use Rattle.decode.specs.declared.instruction.Instruction.{Instruction}
 use Rattle.decode.specs.declared.operand.Operand.TheVariants.{Inherent as Nothing, Immediate as ByValue, Direct as InPage, Indexed as ByIndex, Extended as AtAddress, Relative as ByOffset}
-use Rattle.decode.specs.declared.operand.OperandRead.{OperandRead}
-use Rattle.decode.specs.declared.operand.OperandRead.TheVariants.{Operand as Read, Refused as NotRead}
 use Rattle.decode.specs.declared.postbyte.Form.{Form}
 use Rattle.decode.specs.declared.postbyte.Form.TheVariants.{Offset5, Increment1, Increment2, Decrement1, Decrement2, NoOffset, OffsetB, OffsetA, Offset8, Offset16, OffsetD, Program8, Program16, Address}
 use Rattle.decode.proofs.Origin.{decode-origin}
@@ -45,6 +40,8 @@ use Rattle.operations.specs.Branches.{condition}
 use Rattle.stack.proofs.Laws.{none_dropped}
 use Rattle.cycles.specs.Bills.{Bounded, BoundedAt, InstructionBounded, by_form, post_byte_extra, PostByteExtras}
 use Rattle.cycles.specs.Cycles.{form_extra, operand_extra, is_conditional, branch_extra, registers_extra, operation_extra, cycles_of}
+use Rattle.answers.specs.declared.Refusal.{Refusal}
+use Rattle.decode.specs.declared.operand.Operand.{Operand}
 
 -- ---- the most that an operand and an operation add
 
@@ -79,35 +76,35 @@ most_of Relative8 = 0
 most_of Relative16 = 0
 
 -- an operand read in a mode
-abbrev ReadSo : Mode → OperandRead → Type 0
-ReadSo mode (Read o next) = operand_extra o ≤ most_of mode
-ReadSo mode (NotRead x) = Unit {0}
+abbrev ReadSo : Mode → Result (Operand × ℕ) Refusal → Type 0
+ReadSo mode (Ok (o, next)) = operand_extra o ≤ most_of mode
+ReadSo mode (Err x) = Unit {0}
 
-by_index : (r : OperandRead) → ReadSo Indexed r
+by_index : (r : Result (Operand × ℕ) Refusal) → ReadSo Indexed r
 unfolding most_of
-by_index (Read Nothing next) = lit≤ tt
-by_index (Read (ByValue at) next) = lit≤ tt
-by_index (Read (InPage low) next) = lit≤ tt
-by_index (Read (ByIndex ix) next) = form-most ix.form (is_indirect ix.post)
-by_index (Read (AtAddress at) next) = lit≤ tt
-by_index (Read (ByOffset offset) next) = lit≤ tt
-by_index (NotRead x) = tt
+by_index (Ok (Nothing, next)) = lit≤ tt
+by_index (Ok (ByValue at, next)) = lit≤ tt
+by_index (Ok (InPage low, next)) = lit≤ tt
+by_index (Ok (ByIndex ix, next)) = form-most ix.form (is_indirect ix.post)
+by_index (Ok (AtAddress at, next)) = lit≤ tt
+by_index (Ok (ByOffset offset, next)) = lit≤ tt
+by_index (Err x) = tt
 
 module _ (mem : List ℕ) (at : ℕ) where
-  tested : (mode : Mode) (t : Bool) (r : OperandRead) → ReadSo mode r → ReadSo mode (cond t r (NotRead PastEnd))
+  tested : (mode : Mode) (t : Bool) (r : Result (Operand × ℕ) Refusal) → ReadSo mode r → ReadSo mode (cond t r (Err PastEnd))
   tested mode true r h = h
   tested mode false r h = tt
 
   operand-most : (mode : Mode) → ReadSo mode (operand_at mode mem at)
   unfolding operand_at most_of
   operand-most Inherent = lit≤ tt
-  operand-most Immediate8 = tested Immediate8 (leb (at + 1) 0x10000) (Read (ByValue at) (at + 1)) (lit≤ tt)
-  operand-most Immediate16 = tested Immediate16 (leb (at + 2) 0x10000) (Read (ByValue at) (at + 2)) (lit≤ tt)
-  operand-most Direct = tested Direct (leb (at + 1) 0x10000) (Read (InPage (operand_number 1 mem at)) (at + 1)) (lit≤ tt)
+  operand-most Immediate8 = tested Immediate8 (leb (at + 1) 0x10000) (Ok (ByValue at, at + 1)) (lit≤ tt)
+  operand-most Immediate16 = tested Immediate16 (leb (at + 2) 0x10000) (Ok (ByValue at, at + 2)) (lit≤ tt)
+  operand-most Direct = tested Direct (leb (at + 1) 0x10000) (Ok (InPage (operand_number 1 mem at), at + 1)) (lit≤ tt)
   operand-most Indexed = by_index (operand_at Indexed mem at)
-  operand-most Extended = tested Extended (leb (at + 2) 0x10000) (Read (AtAddress (operand_number 2 mem at)) (at + 2)) (lit≤ tt)
-  operand-most Relative8 = tested Relative8 (leb (at + 1) 0x10000) (Read (ByOffset (signed_byte (operand_number 1 mem at))) (at + 1)) (lit≤ tt)
-  operand-most Relative16 = tested Relative16 (leb (at + 2) 0x10000) (Read (ByOffset (operand_number 2 mem at)) (at + 2)) (lit≤ tt)
+  operand-most Extended = tested Extended (leb (at + 2) 0x10000) (Ok (AtAddress (operand_number 2 mem at), at + 2)) (lit≤ tt)
+  operand-most Relative8 = tested Relative8 (leb (at + 1) 0x10000) (Ok (ByOffset (signed_byte (operand_number 1 mem at)), at + 1)) (lit≤ tt)
+  operand-most Relative16 = tested Relative16 (leb (at + 2) 0x10000) (Ok (ByOffset (operand_number 2 mem at), at + 2)) (lit≤ tt)
 
 most_by : Op → ℕ
 most_by (Registers op) = 1
@@ -179,12 +176,12 @@ pub record Small (e : Entry) : Type 0 where
   extra : most_of e.mode + most_by e.op ≤ 12
   whole : e.cycles + (most_of e.mode + most_by e.op) ≤ 20
 
-abbrev PlaceSmall : Place → Type 0
-PlaceSmall (InManual e) = Small e
+abbrev PlaceSmall : Option Entry → Type 0
+PlaceSmall (Some e) = Small e
 PlaceSmall None = Unit {0}
 
-small : Place → Bool
-small (InManual e) = leb (most_of e.mode + most_by e.op) 12 && leb (e.cycles + (most_of e.mode + most_by e.op)) 20
+small : Option Entry → Bool
+small (Some e) = leb (most_of e.mode + most_by e.op) 12 && leb (e.cycles + (most_of e.mode + most_by e.op)) 20
 small None = true
 
 all_small : (page : Page) → values (λ (code : ℕ). small (entry_of page code)) 0 256 ≡ values (λ (code : ℕ). true) 0 256
@@ -198,9 +195,9 @@ both true true e = (tt, tt)
 both true false e = let z : ◌≡◌ {A = ℕ} 0 1 = cc in absurd (omega arith)
 both false b e = let z : ◌≡◌ {A = ℕ} 0 1 = cc in absurd (omega arith)
 
-so : (p : Place) → small p ≡ true → PlaceSmall p
+so : (p : Option Entry) → small p ≡ true → PlaceSmall p
 unfolding small
-so (InManual e) t =
+so (Some e) t =
     let n = most_of e.mode + most_by e.op in
     let (h, k) = both (leb n 12) (leb (e.cycles + n) 20) t in
     record { extra = leb→le n 12 h; whole = leb→le (e.cycles + n) 20 k }
@@ -217,12 +214,12 @@ bounded mem i s h r ea =
     let k = operation-most i.entry.op i.entry.mode mem r ea in
     record { extra = omega (arith, h, k, s.extra); whole = omega (arith, h, k, s.whole) }
 
-of-decoded : (mem : List ℕ) (d : Decoded) → OriginOf mem d → BoundedAt mem d
-of-decoded mem (Taken i) o =
+of-decoded : (mem : List ℕ) (d : Result Instruction Refusal) → OriginOf mem d → BoundedAt mem d
+of-decoded mem (Ok i) o =
     bounded mem i
     (subst PlaceSmall o.entry (each-small o.page o.code o.byte))
     (subst (ReadSo i.entry.mode) o.operand (operand-most mem o.after i.entry.mode))
-of-decoded mem (NotDecoded x) o = tt
+of-decoded mem (Err x) o = tt
 
 pub instruction-bounded : InstructionBounded
 instruction-bounded mem pc b = of-decoded mem (decoded_at mem pc) (decode-origin mem pc b)

@@ -1,6 +1,6 @@
 -- Laws of the cycles: how much an instruction can cost, and what each post-byte adds.
 -- Assumes nothing.
-use Rattle.std.specs.Prelude.{ℕ, ◌≤◌, ◌<◌, true, false, cond, List, [], ◌∷◌, ◌≡◌, eqb, ltb}
+use Rattle.std.specs.Prelude.{ℕ, ◌≤◌, ◌<◌, true, false, cond, List, [], ◌∷◌, ◌≡◌, eqb, ltb, Err, Ok, Result}
 use Rattle.std.proofs.Math.Option.{Option, some, none}
 use Rattle.std.specs.Int.Bits.{bit_and}
 use Rattle.answers.specs.Counting.{counted}
@@ -8,12 +8,10 @@ use Rattle.memory.specs.Fits.{Bytes}
 use Rattle.registers.specs.declared.Set.{Set}
 use Rattle.decode.specs.Decode.{decoded_at}
 use Rattle.decode.specs.PostByte.{is_indirect, is_refused, form_of}
-use Rattle.decode.specs.declared.instruction.Decoded.{Decoded}
-use Rattle.decode.specs.declared.instruction.Decoded.TheVariants.{Instruction as Taken, Refused as NotDecoded}
 use Rattle.decode.specs.declared.instruction.Instruction.{Instruction}
-use Rattle.decode.specs.declared.postbyte.PostByte.{PostByte}
-use Rattle.decode.specs.declared.postbyte.PostByte.TheVariants.{Form as Formed, Refused as NoForm}
 use Rattle.cycles.specs.Cycles.{form_extra, extra_of, cycles_of}
+use Rattle.answers.specs.declared.Refusal.{Refusal}
+use Rattle.decode.specs.declared.postbyte.Form.{Form}
 
 -- ---- how much
 
@@ -23,9 +21,9 @@ pub record Bounded (mem : List ℕ) (i : Instruction) (r : Set) (ea : ℕ) : Typ
   pub whole : cycles_of i mem r ea ≤ 20
 
 -- an instruction that was decoded, whatever the registers and the effective address
-abbrev pub BoundedAt : List ℕ → Decoded → Type 0
-BoundedAt mem (Taken i) = (r : Set) (ea : ℕ) → Bounded mem i r ea
-BoundedAt mem (NotDecoded x) = Unit {0}
+abbrev pub BoundedAt : List ℕ → Result Instruction Refusal → Type 0
+BoundedAt mem (Ok i) = (r : Set) (ea : ℕ) → Bounded mem i r ea
+BoundedAt mem (Err x) = Unit {0}
 
 abbrev pub InstructionBounded : Type 0
 InstructionBounded = (mem : List ℕ) (pc : ℕ) → Bytes mem → BoundedAt mem (decoded_at mem pc)
@@ -50,9 +48,9 @@ abbrev pub post_byte_extra : ℕ → Option ℕ
 post_byte_extra post = cond (ltb post 0x80) (some 1) (cond (eqb post 0x9F) (some 5) (found_in indexed_table (bit_and post 0x9F)))
 
 -- what a post-byte adds by its form
-abbrev pub by_form : PostByte → ℕ → Option ℕ
-by_form (Formed form) post = some (form_extra form (is_indirect post))
-by_form (NoForm x) post = none
+abbrev pub by_form : Result Form Refusal → ℕ → Option ℕ
+by_form (Ok form) post = some (form_extra form (is_indirect post))
+by_form (Err x) post = none
 
 -- each post-byte that is taken adds what the table says, and the table has nothing for those that are refused; 217 are taken
 pub record PostByteExtras : Type 0 where

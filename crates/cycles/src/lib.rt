@@ -15,16 +15,15 @@ fn form_extra(form: Form, indirect: bool) -> u8
     match form {
         Form::NoOffset => if indirect { 3 } else { 0 },
         Form::Offset5 => 1,
-        Form::Offset8 => if indirect { 4 } else { 1 },
-        Form::Offset16 => if indirect { 7 } else { 4 },
-        Form::OffsetA => if indirect { 4 } else { 1 },
-        Form::OffsetB => if indirect { 4 } else { 1 },
-        Form::OffsetD => if indirect { 7 } else { 4 },
-        Form::Increment1 => 2,
+        Form::Offset8 | Form::OffsetA | Form::OffsetB | Form::Program8 => if indirect {
+            4
+        } else {
+            1
+        },
+        Form::Offset16 | Form::OffsetD => if indirect { 7 } else { 4 },
+        Form::Increment1 | Form::Decrement1 => 2,
         Form::Increment2 => if indirect { 6 } else { 3 },
-        Form::Decrement1 => 2,
         Form::Decrement2 => if indirect { 6 } else { 3 },
-        Form::Program8 => if indirect { 4 } else { 1 },
         Form::Program16 => if indirect { 8 } else { 5 },
         Form::Address => 5,
     }
@@ -34,10 +33,7 @@ pub fn operand_extra(operand: Operand) -> u8
     ensures { result ≡ operand_extra operand }
 {
     match operand {
-        Operand::Indexed(indexed) => {
-            let form = indexed.form;
-            form_extra(form, decode::is_indirect(indexed.post))
-        }
+        Operand::Indexed(indexed) => form_extra(indexed.form, decode::is_indirect(indexed.post)),
         _ => 0,
     }
 }
@@ -46,15 +42,14 @@ pub fn operand_extra(operand: Operand) -> u8
 fn branch_extra(mode: Mode, cond: Cond, cc: CCBits) -> u8
     ensures { result ≡ branch_extra mode cond cc }
 {
-    match mode {
-        Mode::Relative16 => match cond {
-            Cond::Ra => 0,
-            _ => operations::condition(cc, cond) as u8,
-        },
+    match (mode, cond) {
+        (Mode::Relative16, Cond::Ra) => 0,
+        (Mode::Relative16, _) => operations::condition(cc, cond) as u8,
         _ => 0,
     }
 }
 
+// This and `memory_extra` are two: each asks of an enum of its own, and no arm is in both, so that a trait would join nothing.
 pub fn registers_extra(op: RegisterOp, mode: Mode, cc: CCBits) -> u8
     ensures { result ≡ registers_extra op mode cc }
 {

@@ -1,17 +1,17 @@
 -- Offset bytes: none, in the arm that eight forms share, one, and two.
 -- Assumes nothing.
-use Rattle.std.proofs.Common.{◌≡◌, ℕ, ◌+◌, ◌*◌, ◌%◌, cond, leb, List, [], ◌∷◌, get_or, sym, refl, ap, ◌∙◌, subst, ⊎_elim, lit<}
+use Rattle.std.proofs.Common.{◌≡◌, ℕ, ◌+◌, ◌*◌, ◌%◌, cond, leb, List, [], ◌∷◌, get_or, sym, refl, ap, ◌∙◌, subst, ⊎_elim, lit<, Err, Ok, Result}
 use denote.Enum.Declared.{tag_of}
 use types.Run.{OneOf}
 use Rattle.memory.specs.Map.{byte_at}
 use Rattle.answers.specs.declared.Refusal.TheVariants.{PastEnd}
 use Rattle.decode.specs.Operand.{signed_byte, indexed_by, with_form}
-use Rattle.decode.specs.declared.operand.OperandRead.{OperandRead}
-use Rattle.decode.specs.declared.operand.OperandRead.TheVariants.{Operand as Read, Refused}
 use Rattle.decode.specs.declared.postbyte.Form.{Form}
 use Rattle.decode.specs.declared.postbyte.Form.TheVariants.{Offset5, Increment1, Increment2, Decrement1, Decrement2, NoOffset, OffsetB, OffsetA, Offset8, Offset16, OffsetD, Program8, Program16, Address}
 use Rattle.decode.proofs.Reaching.{unwrapped, both-unwrapped}
 use Rattle.decode.specs.contracts.postbyte.Form.{the_type}
+use Rattle.answers.specs.declared.Refusal.{Refusal}
+use Rattle.decode.specs.declared.operand.Operand.{Operand}
 
 -- the forms by their places in the declaration
 abbrev form_at : ℕ → Form
@@ -43,20 +43,20 @@ in-arm P k [] p f e = subst P (ap form_at (sym e) ∙ placed f) p.0
 in-arm P k (j ∷ ks) p f e = ⊎_elim (λ d. subst P (ap form_at (sym d) ∙ placed f) p.0) (λ d. in-arm P j ks p.1 f d) e
 
 module _ (mem : List ℕ) (post at : ℕ) (f : Form) where
-  pub no_byte : OneOf (1 ∷ 2 ∷ 3 ∷ 4 ∷ 5 ∷ 6 ∷ 7 ∷ 10 ∷ []) (tag_of the_type f) → Read (indexed_by f post 0) at ≡ with_form f mem post at
+  pub no_byte : OneOf (1 ∷ 2 ∷ 3 ∷ 4 ∷ 5 ∷ 6 ∷ 7 ∷ 10 ∷ []) (tag_of the_type f) → Ok (indexed_by f post 0, at) ≡ with_form f mem post at
   unfolding with_form
   no_byte =
-      in-arm (λ g. Read (indexed_by g post 0) at ≡ with_form g mem post at) 1 (2 ∷ 3 ∷ 4 ∷ 5 ∷ 6 ∷ 7 ∷ 10 ∷ [])
+      in-arm (λ g. Ok (indexed_by g post 0, at) ≡ with_form g mem post at) 1 (2 ∷ 3 ∷ 4 ∷ 5 ∷ 6 ∷ 7 ∷ 10 ∷ [])
       (refl, (refl, (refl, (refl, (refl, (refl, (refl, (refl, tt)))))))) f
 
-  abbrev one : ℕ → OperandRead
-  one a = cond (leb (at + 1) 0x10000) (Read (indexed_by f post (signed_byte (byte_at mem a))) (at + 1)) (Refused PastEnd)
+  abbrev one : ℕ → Result (Operand × ℕ) Refusal
+  one a = cond (leb (at + 1) 0x10000) (Ok (indexed_by f post (signed_byte (byte_at mem a)), at + 1)) (Err PastEnd)
 
   pub one_byte : one (at % 0x10000) ≡ one at
-  one_byte = unwrapped (λ (a : ℕ). Read (indexed_by f post (signed_byte (byte_at mem a))) (at + 1)) (Refused PastEnd) 1 at (lit< tt)
+  one_byte = unwrapped (λ (a : ℕ). Ok (indexed_by f post (signed_byte (byte_at mem a)), at + 1)) (Err PastEnd) 1 at (lit< tt)
 
-  abbrev two : ℕ → ℕ → OperandRead
-  two a b = cond (leb (at + 2) 0x10000) (Read (indexed_by f post (256 * byte_at mem a + byte_at mem b)) (at + 2)) (Refused PastEnd)
+  abbrev two : ℕ → ℕ → Result (Operand × ℕ) Refusal
+  two a b = cond (leb (at + 2) 0x10000) (Ok (indexed_by f post (256 * byte_at mem a + byte_at mem b), at + 2)) (Err PastEnd)
 
   pub two_bytes : two (at % 0x10000) ((at + 1) % 0x10000) ≡ two at (at + 1)
-  two_bytes = both-unwrapped (λ (a b : ℕ). Read (indexed_by f post (256 * byte_at mem a + byte_at mem b)) (at + 2)) (Refused PastEnd) at
+  two_bytes = both-unwrapped (λ (a b : ℕ). Ok (indexed_by f post (256 * byte_at mem a + byte_at mem b), at + 2)) (Err PastEnd) at

@@ -1,6 +1,6 @@
 -- The laws of decoding: 3, 4, 5 or 24 alone, 3 exactly, and what fits.
 -- Assumes nothing.
-use Rattle.std.proofs.Common.{◌≡◌, ℕ, ◌+◌, ◌<◌, ◌≤◌, Bool, true, false, cond, ◌&&◌, ◌||◌, T, eqb, ltb, leb, ◌⊎◌, ◌↔◌, List, [], ◌∷◌, refl, inl, inr, arith, ltb-true, eqb-true, le-leb, leb-true}
+use Rattle.std.proofs.Common.{◌≡◌, ℕ, ◌+◌, ◌<◌, ◌≤◌, Bool, true, false, cond, ◌&&◌, ◌||◌, T, eqb, ltb, leb, ◌⊎◌, ◌↔◌, List, [], ◌∷◌, refl, inl, inr, arith, ltb-true, eqb-true, le-leb, leb-true, Err, None, Ok, Option, Result, Some}
 use Rattle.answers.specs.Numbers.{number_of}
 use Rattle.answers.specs.declared.Refusal.{Refusal}
 use Rattle.answers.specs.declared.Refusal.TheVariants.{Opcode, PastEnd}
@@ -12,19 +12,13 @@ use Rattle.opcodes.specs.Places.{named, Stands, documented, undocumented}
 use Rattle.opcodes.specs.declared.Entry.{Entry}
 use Rattle.opcodes.specs.declared.Page.{Page}
 use Rattle.opcodes.specs.declared.Page.TheVariants.{Plain, Ten, Eleven}
-use Rattle.opcodes.specs.declared.Place.{Place}
-use Rattle.opcodes.specs.declared.Place.TheVariants.{Instruction as InManual, None}
 use Rattle.opcodes.proofs.Places.{each-place}
 use Rattle.decode.specs.Operand.{operand_bytes, operand_at}
 use Rattle.decode.specs.Decode.{second_byte, located, with_operand, decoded_as, from_located, decoded_at}
 use Rattle.decode.specs.Laws.{OfDecoding, RefusedSo, DecodeRefuses, Unnamed, OpcodeRefused, prefix_bytes, SizedAt, DecodedFits, DecodeFits}
-use Rattle.decode.specs.declared.operand.OperandRead.{OperandRead}
-use Rattle.decode.specs.declared.operand.OperandRead.TheVariants.{Operand as Read, Refused as NotRead}
-use Rattle.decode.specs.declared.instruction.Located.{Located}
-use Rattle.decode.specs.declared.instruction.Located.TheVariants.{At, Refused as NotLocated}
-use Rattle.decode.specs.declared.instruction.Decoded.TheVariants.{Refused}
 use Rattle.decode.proofs.Sizes.{entry-sizes}
 use Rattle.decode.proofs.Sound.{OfOperand, SoundRead, or_right, operand_sound}
+use Rattle.decode.specs.declared.operand.Operand.{Operand}
 
 -- ---- the opcode's bytes
 
@@ -33,15 +27,15 @@ pub record OpcodeSo (mem : List ℕ) (pc : ℕ) (page : Page) (code at : ℕ) : 
   pub after : at ≡ pc + prefix_bytes page + 1
   pub within : pc < 65536 → at ≤ 0x10000
 
-abbrev pub LocatedSo : List ℕ → ℕ → Located → Type 0
-LocatedSo mem pc (At page code at) = OpcodeSo mem pc page code at
-LocatedSo mem pc (NotLocated x) = x ≡ PastEnd
+abbrev pub LocatedSo : List ℕ → ℕ → Result (Page × ℕ × ℕ) Refusal → Type 0
+LocatedSo mem pc (Ok (page, code, at)) = OpcodeSo mem pc page code at
+LocatedSo mem pc (Err x) = x ≡ PastEnd
 
 module _ (mem : List ℕ) (pc : ℕ) where
   second : (page : Page) → prefix_bytes page ≡ 1 → LocatedSo mem pc (second_byte page mem pc)
   second page p = go (ltb pc 0xFFFF) refl
     where
-      go : (t : Bool) → ltb pc 0xFFFF ≡ t → LocatedSo mem pc (cond t (At page (byte_at mem (low_at pc)) (pc + 2)) (NotLocated PastEnd))
+      go : (t : Bool) → ltb pc 0xFFFF ≡ t → LocatedSo mem pc (cond t (Ok (page, byte_at mem (low_at pc), pc + 2)) (Err PastEnd))
       go true e =
           let l = ltb-true pc 0xFFFF e in
           record { byte = λ h. byte_fits mem h (low_at pc); after = omega (arith, p); within = λ k. omega arith }
@@ -51,7 +45,7 @@ module _ (mem : List ℕ) (pc : ℕ) where
   unfolding located
   located-so = go (eqb (byte_at mem pc) 0x10) (eqb (byte_at mem pc) 0x11)
     where
-      go : (t u : Bool) → LocatedSo mem pc (cond t (second_byte Ten mem pc) (cond u (second_byte Eleven mem pc) (At Plain (byte_at mem pc) (pc + 1))))
+      go : (t u : Bool) → LocatedSo mem pc (cond t (second_byte Ten mem pc) (cond u (second_byte Eleven mem pc) (Ok (Plain, byte_at mem pc, pc + 1))))
       go true u = second Ten refl
       go false true = second Eleven refl
       go false false = record { byte = λ h. byte_fits mem h pc; after = omega arith; within = λ k. omega arith }
@@ -78,18 +72,18 @@ decoding-number x k = go (leb 3 (number_of x)) refl (leb (number_of x) 5) refl (
     go false d b e false f k = absurd k
 
 module _ (mem : List ℕ) where
-  operand-so : (e : Entry) (at : ℕ) (r : OperandRead) → SoundRead mem at (operand_bytes e.mode) r → RefusedSo (with_operand e r)
-  operand-so e at (Read o next) s = tt
-  operand-so e at (NotRead x) s = wider x s
+  operand-so : (e : Entry) (at : ℕ) (r : Result (Operand × ℕ) Refusal) → SoundRead mem at (operand_bytes e.mode) r → RefusedSo (with_operand e r)
+  operand-so e at (Ok (o, next)) s = tt
+  operand-so e at (Err x) s = wider x s
 
-  place-so : (p : Place) (at : ℕ) → RefusedSo (decoded_as p mem at)
+  place-so : (p : Option Entry) (at : ℕ) → RefusedSo (decoded_as p mem at)
   unfolding decoded_as
-  place-so (InManual e) at = operand-so e at (operand_at e.mode mem at) (operand_sound mem e.mode at)
+  place-so (Some e) at = operand-so e at (operand_at e.mode mem at) (operand_sound mem e.mode at)
   place-so None at = tt
 
-  opcode-so : (pc : ℕ) (l : Located) → LocatedSo mem pc l → RefusedSo (from_located l mem)
-  opcode-so pc (At page code at) s = place-so (entry_of page code) at
-  opcode-so pc (NotLocated x) s = rw s tt
+  opcode-so : (pc : ℕ) (l : Result (Page × ℕ × ℕ) Refusal) → LocatedSo mem pc l → RefusedSo (from_located l mem)
+  opcode-so pc (Ok (page, code, at)) s = place-so (entry_of page code) at
+  opcode-so pc (Err x) s = rw s tt
 
 pub decode-refuses : DecodeRefuses
 unfolding decoded_at
@@ -97,16 +91,16 @@ decode-refuses mem pc = opcode-so mem pc (located mem pc) (located-so mem pc)
 
 -- ---- 3 exactly
 
-not-opcode : {A : Type 0} (e : Entry) (r : OperandRead) (mem : List ℕ) (at n : ℕ) → SoundRead mem at n r → with_operand e r ≡ Refused Opcode → A
-not-opcode e (Read o next) mem at n s q = let z : ◌≡◌ {A = ℕ} 0 1 = cc in absurd (omega arith)
-not-opcode e (NotRead x) mem at n s q =
+not-opcode : {A : Type 0} (e : Entry) (r : Result (Operand × ℕ) Refusal) (mem : List ℕ) (at n : ℕ) → SoundRead mem at n r → with_operand e r ≡ Err Opcode → A
+not-opcode e (Ok (o, next)) mem at n s q = let z : ◌≡◌ {A = ℕ} 0 1 = cc in absurd (omega arith)
+not-opcode e (Err x) mem at n s q =
     let d : x ≡ Opcode = cc in
     absurd (rw d at s)
 
 named_some : {A : Type 0} {e : Entry} {l : List Entry} → l ≡ e ∷ [] → l ≡ [] → A
 named_some p q = let z : ◌≡◌ {A = ℕ} 0 1 = cc in absurd (omega arith)
 
-exactly : (mem : List ℕ) (page : Page) (code at : ℕ) → Stands page code → (decoded_as (entry_of page code) mem at ≡ Refused Opcode) ↔ (named (prefix page + code) rows ≡ [])
+exactly : (mem : List ℕ) (page : Page) (code at : ℕ) → Stands page code → (decoded_as (entry_of page code) mem at ≡ Err Opcode) ↔ (named (prefix page + code) rows ≡ [])
 unfolding decoded_as
 exactly mem page code at (documented e n f z) =
     rw f (λ q. not-opcode e (operand_at e.mode mem at) mem at (operand_bytes e.mode) (operand_sound mem e.mode at) q, λ q. named_some n q)
@@ -116,26 +110,26 @@ pub opcode-refused : OpcodeRefused
 unfolding decoded_at
 opcode-refused mem pc h = go (located mem pc) (located-so mem pc)
   where
-    go : (l : Located) → LocatedSo mem pc l → (from_located l mem ≡ Refused Opcode) ↔ Unnamed l
-    go (At page code at) s = exactly mem page code at (each-place page code (s.byte h))
-    go (NotLocated x) s = (λ q. let z : ◌≡◌ {A = ℕ} 0 1 = cc in absurd (omega arith), λ q. absurd q)
+    go : (l : Result (Page × ℕ × ℕ) Refusal) → LocatedSo mem pc l → (from_located l mem ≡ Err Opcode) ↔ Unnamed l
+    go (Ok (page, code, at)) s = exactly mem page code at (each-place page code (s.byte h))
+    go (Err x) s = (λ q. let z : ◌≡◌ {A = ℕ} 0 1 = cc in absurd (omega arith), λ q. absurd q)
 
 -- ---- what fits
 
 module _ (mem : List ℕ) (pc : ℕ) (h : Bytes mem) (k : pc < 65536) where
   operand-fits : (page : Page) (e : Entry) (at : ℕ) → at ≡ pc + prefix_bytes page + 1 → at ≤ 0x10000 → e.size ≡ prefix_bytes page + 1 + operand_bytes e.mode
-      → (r : OperandRead) → SoundRead mem at (operand_bytes e.mode) r → DecodedFits pc (with_operand e r)
-  operand-fits page e at a l z (Read o next) s = record { operand = s.fits h (omega arith); next = s.within l; length = omega (arith, s.length) }
-  operand-fits page e at a l z (NotRead x) s = tt
+      → (r : Result (Operand × ℕ) Refusal) → SoundRead mem at (operand_bytes e.mode) r → DecodedFits pc (with_operand e r)
+  operand-fits page e at a l z (Ok (o, next)) s = record { operand = s.fits h (omega arith); next = s.within l; length = omega (arith, s.length) }
+  operand-fits page e at a l z (Err x) s = tt
 
-  place-fits : (page : Page) (p : Place) (at : ℕ) → at ≡ pc + prefix_bytes page + 1 → at ≤ 0x10000 → SizedAt page p → DecodedFits pc (decoded_as p mem at)
+  place-fits : (page : Page) (p : Option Entry) (at : ℕ) → at ≡ pc + prefix_bytes page + 1 → at ≤ 0x10000 → SizedAt page p → DecodedFits pc (decoded_as p mem at)
   unfolding decoded_as
-  place-fits page (InManual e) at a l z = operand-fits page e at a l z (operand_at e.mode mem at) (operand_sound mem e.mode at)
+  place-fits page (Some e) at a l z = operand-fits page e at a l z (operand_at e.mode mem at) (operand_sound mem e.mode at)
   place-fits page None at a l z = tt
 
-  opcode-fits : (l : Located) → LocatedSo mem pc l → DecodedFits pc (from_located l mem)
-  opcode-fits (At page code at) s = place-fits page (entry_of page code) at s.after (s.within k) (entry-sizes page code (s.byte h))
-  opcode-fits (NotLocated x) s = tt
+  opcode-fits : (l : Result (Page × ℕ × ℕ) Refusal) → LocatedSo mem pc l → DecodedFits pc (from_located l mem)
+  opcode-fits (Ok (page, code, at)) s = place-fits page (entry_of page code) at s.after (s.within k) (entry-sizes page code (s.byte h))
+  opcode-fits (Err x) s = tt
 
 pub decode-fits : DecodeFits
 unfolding decoded_at

@@ -1,13 +1,12 @@
 -- The masks of the post-byte: laws over all 256 bytes, each shown by one test that antt computes.
 -- Assumes nothing.
-use Rattle.std.proofs.Common.{◌≡◌, ℕ, ◌/◌, ◌%◌, ◌<◌, ◌≤◌, true, cond, ◌||◌, eqb, leb, [], ◌∷◌, refl, le-ltb, ne_eqb, leb-true}
+use Rattle.std.proofs.Common.{◌≡◌, ℕ, ◌/◌, ◌%◌, ◌<◌, ◌≤◌, true, cond, ◌||◌, eqb, leb, [], ◌∷◌, refl, le-ltb, ne_eqb, leb-true, Err}
 use borrow.Author.Tests.{lt-leb}
 use lib.Bits.{bit_and, bit_or}
 use Rattle.registers.specs.ConditionCodes.{bit_at}
 use Rattle.answers.specs.declared.Refusal.TheVariants.{PostByte as BadPostByte}
 use Rattle.opcodes.proofs.Rows.{alike, NotIn}
 use Rattle.decode.specs.PostByte.{is_indirect, form_of, five_bits}
-use Rattle.decode.specs.declared.postbyte.PostByte.TheVariants.{Refused}
 
 -- bits 7 and 4 by one mask
 pub indirect : (n : ℕ) → n < 256 → eqb (bit_and n 0x90) 0x90 ≡ is_indirect n
@@ -30,7 +29,7 @@ low-form n l h =
     (rw (lt-leb (bit_and n 0x8F) 0x0F h) at (alike (λ (n : ℕ). leb (bit_and n 0x8F) 0x0F || leb 0x80 (bit_and n 0x8F)) (λ (n : ℕ). true) 256 refl n l))
 
 -- a low form that is none of these is refused
-pub no-form : (n : ℕ) → 0x80 ≤ bit_and n 0x8F → NotIn (bit_and n 0x8F) (0x8F ∷ 0x8D ∷ 0x8C ∷ 0x8B ∷ 0x89 ∷ 0x88 ∷ 0x86 ∷ 0x85 ∷ 0x84 ∷ 0x83 ∷ 0x82 ∷ 0x81 ∷ 0x80 ∷ []) → Refused BadPostByte ≡ form_of n
+pub no-form : (n : ℕ) → 0x80 ≤ bit_and n 0x8F → NotIn (bit_and n 0x8F) (0x8F ∷ 0x8D ∷ 0x8C ∷ 0x8B ∷ 0x89 ∷ 0x88 ∷ 0x86 ∷ 0x85 ∷ 0x84 ∷ 0x83 ∷ 0x82 ∷ 0x81 ∷ 0x80 ∷ []) → Err BadPostByte ≡ form_of n
 unfolding form_of
 no-form n l r =
     rw (

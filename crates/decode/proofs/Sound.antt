@@ -1,7 +1,7 @@
 -- What is so of an operand that is read: it fits its width, the next address is as far on as its bytes are many, and it is refused by 4,
 -- 5 or 24 alone.
 -- Assumes nothing.
-use Rattle.std.proofs.Common.{◌≡◌, ℕ, ◌+◌, ◌*◌, ◌%◌, ◌<◌, ◌≤◌, Bool, true, false, cond, ◌&&◌, ◌||◌, T, eqb, ltb, leb, List, [], ◌∷◌, refl, arith, lit<, eqb-true, leb-true}
+use Rattle.std.proofs.Common.{◌≡◌, ℕ, ◌+◌, ◌*◌, ◌%◌, ◌<◌, ◌≤◌, Bool, true, false, cond, ◌&&◌, ◌||◌, T, eqb, ltb, leb, List, [], ◌∷◌, refl, arith, lit<, eqb-true, leb-true, Err, Ok, Result}
 use lib.Bits.{bit_and}
 use Rattle.answers.specs.Numbers.{number_of}
 use Rattle.answers.specs.declared.Refusal.{Refusal}
@@ -16,11 +16,7 @@ use Rattle.decode.specs.Operand.{signed_byte, indexed_by, with_form, after_post_
 use Rattle.decode.specs.Laws.{OfPostByte, offset_bytes_of, OperandFits}
 use Rattle.decode.specs.declared.postbyte.Form.{Form}
 use Rattle.decode.specs.declared.postbyte.Form.TheVariants.{Offset5, Increment1, Increment2, Decrement1, Decrement2, NoOffset, OffsetB, OffsetA, Offset8, Offset16, OffsetD, Program8, Program16, Address}
-use Rattle.decode.specs.declared.postbyte.PostByte.{PostByte}
-use Rattle.decode.specs.declared.postbyte.PostByte.TheVariants.{Form as Taken, Refused as NoForm}
 use Rattle.decode.specs.declared.operand.Operand.{Operand}
-use Rattle.decode.specs.declared.operand.OperandRead.{OperandRead}
-use Rattle.decode.specs.declared.operand.OperandRead.TheVariants.{Operand as Read, Refused}
 
 -- 4, 5 or 24
 abbrev pub OfOperand : Refusal → Type 0
@@ -32,27 +28,27 @@ pub record Sound (mem : List ℕ) (at n : ℕ) (o : Operand) (next : ℕ) : Type
   pub length : next ≡ at + n + offset_bytes_of o
   pub within : at ≤ 0x10000 → next ≤ 0x10000
 
-abbrev pub SoundRead : List ℕ → ℕ → ℕ → OperandRead → Type 0
-SoundRead mem at n (Read o next) = Sound mem at n o next
-SoundRead mem at n (Refused x) = OfOperand x
+abbrev pub SoundRead : List ℕ → ℕ → ℕ → Result (Operand × ℕ) Refusal → Type 0
+SoundRead mem at n (Ok (o, next)) = Sound mem at n o next
+SoundRead mem at n (Err x) = OfOperand x
 
 -- ---- post-bytes
 
 -- a refused one is refused by 5 or 24
-abbrev pub FormSo : PostByte → Type 0
-FormSo (Taken f) = Unit {0}
-FormSo (NoForm x) = OfPostByte x
+abbrev pub FormSo : Result Form Refusal → Type 0
+FormSo (Ok f) = Unit {0}
+FormSo (Err x) = OfPostByte x
 
 -- the first whose test holds
-chosen : List (Bool × PostByte) → PostByte
-chosen [] = NoForm BadPostByte
+chosen : List (Bool × (Result Form Refusal)) → Result Form Refusal
+chosen [] = Err BadPostByte
 chosen (c ∷ l) = cond c.0 c.1 (chosen l)
 
-AllSo : List (Bool × PostByte) → Type 0
+AllSo : List (Bool × (Result Form Refusal)) → Type 0
 AllSo [] = Unit {0}
 AllSo (c ∷ l) = FormSo c.1 × AllSo l
 
-chosen-so : (l : List (Bool × PostByte)) → AllSo l → FormSo (chosen l)
+chosen-so : (l : List (Bool × (Result Form Refusal))) → AllSo l → FormSo (chosen l)
 unfolding chosen AllSo
 chosen-so [] h = tt
 chosen-so ((true, p) ∷ l) h = h.0
@@ -61,14 +57,14 @@ chosen-so ((false, p) ∷ l) h = chosen-so l h.1
 unless-so : (post : ℕ) (f : Form) → FormSo (unless_indirect post f)
 unless-so post f = go (is_indirect post)
   where
-    go : (t : Bool) → FormSo (cond t (NoForm BadPostByte) (Taken f))
+    go : (t : Bool) → FormSo (cond t (Err BadPostByte) (Ok f))
     go true = tt
     go false = tt
 
 only_so : (post : ℕ) → FormSo (only_as_9f post)
 only_so post = go (eqb post 0x9F)
   where
-    go : (t : Bool) → FormSo (cond t (Taken Address) (NoForm PostByte8F))
+    go : (t : Bool) → FormSo (cond t (Ok Address) (Err PostByte8F))
     go true = tt
     go false = tt
 
@@ -77,19 +73,19 @@ unfolding form_of chosen AllSo
 form-so post =
     let is : ℕ → Bool = eqb (bit_and post 0x8F) in
     chosen-so
-    ((ltb (bit_and post 0x8F) 0x80, Taken Offset5)
+    ((ltb (bit_and post 0x8F) 0x80, Ok Offset5)
     ∷ (is 0x80, unless_indirect post Increment1)
-    ∷ (is 0x81, Taken Increment2)
+    ∷ (is 0x81, Ok Increment2)
     ∷ (is 0x82, unless_indirect post Decrement1)
-    ∷ (is 0x83, Taken Decrement2)
-    ∷ (is 0x84, Taken NoOffset)
-    ∷ (is 0x85, Taken OffsetB)
-    ∷ (is 0x86, Taken OffsetA)
-    ∷ (is 0x88, Taken Offset8)
-    ∷ (is 0x89, Taken Offset16)
-    ∷ (is 0x8B, Taken OffsetD)
-    ∷ (is 0x8C, Taken Program8)
-    ∷ (is 0x8D, Taken Program16)
+    ∷ (is 0x83, Ok Decrement2)
+    ∷ (is 0x84, Ok NoOffset)
+    ∷ (is 0x85, Ok OffsetB)
+    ∷ (is 0x86, Ok OffsetA)
+    ∷ (is 0x88, Ok Offset8)
+    ∷ (is 0x89, Ok Offset16)
+    ∷ (is 0x8B, Ok OffsetD)
+    ∷ (is 0x8C, Ok Program8)
+    ∷ (is 0x8D, Ok Program16)
     ∷ (is 0x8F, only_as_9f post)
     ∷ [])
     (tt, (unless-so post Increment1, (tt, (unless-so post Decrement1, (tt, (tt, (tt, (tt, (tt, (tt, (tt, (tt, (tt, (only_so post, tt))))))))))))))
@@ -124,10 +120,10 @@ of-post-byte x s = go (eqb (number_of x) 5) refl s
 
 module _ (mem : List ℕ) where
   -- a test that may refuse by 4
-  tested : (at n k : ℕ) (r : OperandRead) → (at + k ≤ 0x10000 → SoundRead mem at n r) → SoundRead mem at n (cond (leb (at + k) 0x10000) r (Refused PastEnd))
+  tested : (at n k : ℕ) (r : Result (Operand × ℕ) Refusal) → (at + k ≤ 0x10000 → SoundRead mem at n r) → SoundRead mem at n (cond (leb (at + k) 0x10000) r (Err PastEnd))
   tested at n k r h = go (leb (at + k) 0x10000) refl
     where
-      go : (t : Bool) → leb (at + k) 0x10000 ≡ t → SoundRead mem at n (cond t r (Refused PastEnd))
+      go : (t : Bool) → leb (at + k) 0x10000 ≡ t → SoundRead mem at n (cond t r (Err PastEnd))
       go true e = h (leb-true (at + k) 0x10000 e)
       go false e = tt
 
@@ -136,13 +132,13 @@ module _ (mem : List ℕ) where
 
   -- by the number of offset bytes
   module _ (post at : ℕ) (l : Bytes mem → post < 256) (f : Form) where
-    no_bytes : (n : ℕ) → n < 65536 → offset_bytes f ≡ 0 → SoundRead mem at 0 (Read (indexed_by f post n) at)
+    no_bytes : (n : ℕ) → n < 65536 → offset_bytes f ≡ 0 → SoundRead mem at 0 (Ok (indexed_by f post n, at))
     no_bytes n k e = record { fits = λ h a. (k, l h); length = omega (arith, e); within = λ a. a }
 
-    one_byte : offset_bytes f ≡ 1 → SoundRead mem at 0 (cond (leb (at + 1) 0x10000) (Read (indexed_by f post (signed_byte (byte_at mem at))) (at + 1)) (Refused PastEnd))
+    one_byte : offset_bytes f ≡ 1 → SoundRead mem at 0 (cond (leb (at + 1) 0x10000) (Ok (indexed_by f post (signed_byte (byte_at mem at)), at + 1)) (Err PastEnd))
     one_byte e = tested at 0 1 _ (λ k. record { fits = λ h a. (signed-fits (byte_at mem at) (byte_fits mem h at), l h); length = omega (arith, e); within = λ a. k })
 
-    two_bytes : offset_bytes f ≡ 2 → SoundRead mem at 0 (cond (leb (at + 2) 0x10000) (Read (indexed_by f post (256 * byte_at mem at + byte_at mem (at + 1))) (at + 2)) (Refused PastEnd))
+    two_bytes : offset_bytes f ≡ 2 → SoundRead mem at 0 (cond (leb (at + 2) 0x10000) (Ok (indexed_by f post (256 * byte_at mem at + byte_at mem (at + 1)), at + 2)) (Err PastEnd))
     two_bytes e = tested at 0 2 _ (λ k. record { fits = λ h a. (word at h, l h); length = omega (arith, e); within = λ a. k })
 
   module _ (post at : ℕ) (l : Bytes mem → post < 256) where
@@ -163,14 +159,14 @@ module _ (mem : List ℕ) where
     formed Program16 = two_bytes post at l Program16 refl
     formed Address = two_bytes post at l Address refl
 
-    after-post : (p : PostByte) → FormSo p → SoundRead mem at 0 (after_post_byte p mem post at)
-    after-post (Taken f) s = formed f
-    after-post (NoForm x) s = of-post-byte x s
+    after-post : (p : Result Form Refusal) → FormSo p → SoundRead mem at 0 (after_post_byte p mem post at)
+    after-post (Ok f) s = formed f
+    after-post (Err x) s = of-post-byte x s
 
   -- a read after one byte is one from that byte on
-  from : (at : ℕ) (r : OperandRead) → at + 1 ≤ 0x10000 → SoundRead mem (at + 1) 0 r → SoundRead mem at 1 r
-  from at (Read o next) k s = record { fits = λ h a. s.fits h (omega arith); length = omega (arith, s.length); within = λ a. s.within k }
-  from at (Refused x) k s = s
+  from : (at : ℕ) (r : Result (Operand × ℕ) Refusal) → at + 1 ≤ 0x10000 → SoundRead mem (at + 1) 0 r → SoundRead mem at 1 r
+  from at (Ok (o, next)) k s = record { fits = λ h a. s.fits h (omega arith); length = omega (arith, s.length); within = λ a. s.within k }
+  from at (Err x) k s = s
 
   pub operand_sound : (mode : Mode) (at : ℕ) → SoundRead mem at (operand_bytes mode) (operand_at mode mem at)
   unfolding operand_at

@@ -1,28 +1,25 @@
 -- Where an instruction comes from: its entry stands in the opcode map, and its operand is read in the entry's mode.
 -- Assumes nothing.
-use Rattle.std.specs.Prelude.{◌≡◌, ℕ, ◌<◌, List}
+use Rattle.std.specs.Prelude.{◌≡◌, ℕ, ◌<◌, List, Err, Ok, Result, Some}
 use Rattle.memory.specs.Fits.{Bytes}
 use Rattle.opcodes.specs.Manual.{entry_of}
 use Rattle.opcodes.specs.declared.Page.{Page}
-use Rattle.opcodes.specs.declared.Place.TheVariants.{Instruction as InManual}
 use Rattle.decode.specs.Decode.{decoded_at}
 use Rattle.decode.specs.Operand.{operand_at}
-use Rattle.decode.specs.declared.instruction.Decoded.{Decoded}
-use Rattle.decode.specs.declared.instruction.Decoded.TheVariants.{Instruction as Taken, Refused}
 use Rattle.decode.specs.declared.instruction.Instruction.{Instruction}
-use Rattle.decode.specs.declared.operand.OperandRead.TheVariants.{Operand as Read}
+use Rattle.answers.specs.declared.Refusal.{Refusal}
 
 pub record Origin (mem : List ℕ) (i : Instruction) : Type 0 where
   pub page : Page
   pub code : ℕ
   pub after : ℕ
   pub byte : code < 256
-  pub entry : entry_of page code ≡ InManual i.entry
-  pub operand : operand_at i.entry.mode mem after ≡ Read i.operand i.next
+  pub entry : entry_of page code ≡ Some i.entry
+  pub operand : operand_at i.entry.mode mem after ≡ Ok (i.operand, i.next)
 
-abbrev pub OriginOf : List ℕ → Decoded → Type 0
-OriginOf mem (Taken i) = Origin mem i
-OriginOf mem (Refused x) = Unit {0}
+abbrev pub OriginOf : List ℕ → Result Instruction Refusal → Type 0
+OriginOf mem (Ok i) = Origin mem i
+OriginOf mem (Err x) = Unit {0}
 
 abbrev pub DecodeOrigin : Type 0
 DecodeOrigin = (mem : List ℕ) (pc : ℕ) → Bytes mem → OriginOf mem (decoded_at mem pc)

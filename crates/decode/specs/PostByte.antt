@@ -1,6 +1,6 @@
 -- The post-byte of indexed addressing (manual, table "Indexed Addressing Mode"; document 01, section Addressing).
 -- Assumes nothing.
-use Rattle.std.specs.Prelude.{◌≡◌, ℕ, ◌+◌, ◌/◌, ◌%◌, ◌<◌, Bool, true, false, cond, not, ◌&&◌, ◌==◌, bit_and, nat_lt}
+use Rattle.std.specs.Prelude.{◌≡◌, ℕ, ◌+◌, ◌/◌, ◌%◌, ◌<◌, Bool, true, false, cond, not, ◌&&◌, ◌==◌, bit_and, nat_lt, Err, Ok, Result}
 use Rattle.registers.specs.ConditionCodes.{bit_at}
 use Rattle.registers.specs.declared.Index.{Index}
 use Rattle.registers.specs.declared.Index.TheVariants.{X, Y, U, S}
@@ -9,41 +9,40 @@ use Rattle.answers.specs.Numbers.{number_of}
 use Rattle.answers.specs.declared.Refusal.TheVariants.{PostByte as BadPostByte, PostByte8F}
 use Rattle.decode.specs.declared.postbyte.Form.{Form}
 use Rattle.decode.specs.declared.postbyte.Form.TheVariants.{Offset5, Increment1, Increment2, Decrement1, Decrement2, NoOffset, OffsetB, OffsetA, Offset8, Offset16, OffsetD, Program8, Program16, Address}
-use Rattle.decode.specs.declared.postbyte.PostByte.{PostByte}
-use Rattle.decode.specs.declared.postbyte.PostByte.TheVariants.{Form as Taken, Refused}
+use Rattle.answers.specs.declared.Refusal.{Refusal}
 
 -- bits 7 and 4 both set
 unfoldable pub is_indirect : ℕ → Bool
 is_indirect post = bit_at 7 post && bit_at 4 post
 
-abbrev pub unless_indirect : ℕ → Form → PostByte
-unless_indirect post form = cond (is_indirect post) (Refused BadPostByte) (Taken form)
+abbrev pub unless_indirect : ℕ → Form → Result Form Refusal
+unless_indirect post form = cond (is_indirect post) (Err BadPostByte) (Ok form)
 
 -- an address: the manual has it with indirection and register bits 00 alone, 9F (document 02, request [2])
-abbrev pub only_as_9f : ℕ → PostByte
-only_as_9f post = cond (post == 0x9F) (Taken Address) (Refused PostByte8F)
+abbrev pub only_as_9f : ℕ → Result Form Refusal
+only_as_9f post = cond (post == 0x9F) (Ok Address) (Err PostByte8F)
 
 -- bit 7 clear: a five-bit offset. Otherwise the low form, the post-byte masked with 8F, decides; 87, 8A, 8E and
 -- indirect ,R+ and ,-R are refused by 5, 8F but for 9F by 24
-abbrev form_of_low : ℕ → ℕ → PostByte
+abbrev form_of_low : ℕ → ℕ → Result Form Refusal
 form_of_low post low =
-    cond (nat_lt low 0x80) (Taken Offset5)
+    cond (nat_lt low 0x80) (Ok Offset5)
     (cond (low == 0x80) (unless_indirect post Increment1)
-    (cond (low == 0x81) (Taken Increment2)
+    (cond (low == 0x81) (Ok Increment2)
     (cond (low == 0x82) (unless_indirect post Decrement1)
-    (cond (low == 0x83) (Taken Decrement2)
-    (cond (low == 0x84) (Taken NoOffset)
-    (cond (low == 0x85) (Taken OffsetB)
-    (cond (low == 0x86) (Taken OffsetA)
-    (cond (low == 0x88) (Taken Offset8)
-    (cond (low == 0x89) (Taken Offset16)
-    (cond (low == 0x8B) (Taken OffsetD)
-    (cond (low == 0x8C) (Taken Program8)
-    (cond (low == 0x8D) (Taken Program16)
+    (cond (low == 0x83) (Ok Decrement2)
+    (cond (low == 0x84) (Ok NoOffset)
+    (cond (low == 0x85) (Ok OffsetB)
+    (cond (low == 0x86) (Ok OffsetA)
+    (cond (low == 0x88) (Ok Offset8)
+    (cond (low == 0x89) (Ok Offset16)
+    (cond (low == 0x8B) (Ok OffsetD)
+    (cond (low == 0x8C) (Ok Program8)
+    (cond (low == 0x8D) (Ok Program16)
     (cond (low == 0x8F) (only_as_9f post)
-    (Refused BadPostByte))))))))))))))
+    (Err BadPostByte))))))))))))))
 
-unfoldable pub form_of : ℕ → PostByte
+unfoldable pub form_of : ℕ → Result Form Refusal
 form_of post = form_of_low post (bit_and post 0x8F)
 
 -- bits 5 and 6 name X, Y, U, S
@@ -74,13 +73,13 @@ offset_bytes Program8 = 1
 offset_bytes Program16 = 2
 offset_bytes Address = 2
 
-abbrev pub is_refused : PostByte → Bool
-is_refused (Taken form) = false
-is_refused (Refused x) = true
+abbrev pub is_refused : Result Form Refusal → Bool
+is_refused (Ok form) = false
+is_refused (Err x) = true
 
-abbrev pub is_refused_by : ℕ → PostByte → Bool
-is_refused_by n (Taken form) = false
-is_refused_by n (Refused x) = number_of x == n
+abbrev pub is_refused_by : ℕ → Result Form Refusal → Bool
+is_refused_by n (Ok form) = false
+is_refused_by n (Err x) = number_of x == n
 
 -- the laws: exactly 39 of the 256 post-bytes are refused, 32 of them by 5 and 7 by 24
 pub record RefusedPostBytes : Type 0 where

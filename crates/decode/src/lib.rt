@@ -5,6 +5,6 @@ mod instruction;
 mod operand;
 mod postbyte;
 
-pub use instruction::{Decoded, Instruction, decode, with_operand};
-pub use operand::{Indexed, Operand, OperandRead, operand_at, signed_byte};
-pub use postbyte::{Form, PostByte, five_bits, form_of, index_of, is_indirect};
+pub use instruction::{Instruction, decode, with_operand};
+pub use operand::{Indexed, Operand, operand_at, signed_byte};
+pub use postbyte::{Form, five_bits, form_of, index_of, is_indirect};

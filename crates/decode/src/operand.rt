@@ -1,12 +1,12 @@
 // An instruction's operand bytes: what they say, or a refusal.
-ghost use Rattle.std.specs.Prelude.{◌≡◌, ◌+◌, ◌*◌, ◌%◌, ◌≤◌, if◌then◌else◌, nat_le};
+ghost use Rattle.std.specs.Prelude.{◌≡◌, ◌+◌, ◌*◌, ◌%◌, ◌≤◌, if◌then◌else◌, nat_le, Err, Ok};
 ghost use Rattle.memory.specs.Map.{byte_at};
 ghost use Rattle.answers.specs.declared.Refusal.TheVariants.{PastEnd};
 ghost use Rattle.opcodes.specs.declared.Mode.TheVariants.{Indexed as ByPostByte};
 ghost use Rattle.decode.specs.Operand.{signed_byte, indexed_by, with_form, operand_at};
 
 use super::postbyte;
-use super::postbyte::{Form, PostByte};
+use super::postbyte::Form;
 use answers::Refusal;
 use opcodes::Mode;
 use u8oru16::u8u16;
@@ -29,13 +29,6 @@ pub enum Operand {
     Relative(u16),
 }
 
-// The operand and the address after it, which may be 10000.
-#[derive(Clone, Copy)]
-pub enum OperandRead {
-    Operand(Operand, u32),
-    Refused(Refusal),
-}
-
 // A byte with its sign, as a word.
 pub fn signed_byte(byte: u8) -> u16
     ensures { result ≡ signed_byte byte }
@@ -49,22 +42,22 @@ fn byte_at(mem: &[u8], at: u32) -> u8
     memory::read_u8(mem, (at % 0x10000) as u16)
 }
 
+// Made of `byte_at`: the two bytes of a word may lie apart.
 fn word_at(mem: &[u8], at: u32) -> u16
     ensures { result ≡ 256 * byte_at mem.now (at % 0x10000) + byte_at mem.now ((at + 1) % 0x10000) }
 {
-    let next = std::num::wrapping_add_u32(at, 1);
-    256 * byte_at(mem, at) as u16 + byte_at(mem, next) as u16
+    u16::from_be_bytes([byte_at(mem, at), byte_at(mem, at.wrapping_add(1))])
 }
 
 // The operand, unless one of its n bytes lies past FFFF. They are read before this test: a read at any address has an answer.
-fn reaching(at: u32, n: u32, operand: Operand) -> OperandRead
+fn reaching(at: u32, n: u32, operand: Operand) -> Result<(Operand, u32), Refusal>
     requires { n ≤ 2 }
-    ensures { result ≡ (if nat_le (at + n) 0x10000 then OperandRead.Operand operand (at + n) else OperandRead.Refused PastEnd) }
+    ensures { result ≡ (if nat_le (at + n) 0x10000 then Ok (operand, at + n) else Err PastEnd) }
 {
     if at <= 0x10000 - n {
-        OperandRead::Operand(operand, at + n)
+        Ok((operand, at + n))
     } else {
-        OperandRead::Refused(Refusal::PastEnd)
+        Err(Refusal::PastEnd)
     }
 }
 
@@ -76,14 +69,11 @@ fn indexed_by(form: Form, post: u8, offset: u16) -> Operand
 
 // The offset bytes of a form, from `at` on. Each form that has some has an arm of its own: the compiler then still knows the form where
 // its address is found.
-fn with_form(mem: &[u8], form: Form, post: u8, at: u32) -> OperandRead
+fn with_form(mem: &[u8], form: Form, post: u8, at: u32) -> Result<(Operand, u32), Refusal>
     ensures { result ≡ with_form form mem.now post at }
 {
     match form {
-        Form::Offset5 => OperandRead::Operand(
-            indexed_by(form, post, postbyte::five_bits(post)),
-            at,
-        ),
+        Form::Offset5 => Ok((indexed_by(form, post, postbyte::five_bits(post)), at)),
         Form::Offset8 => reaching(at, 1, indexed_by(form, post, signed_byte(byte_at(mem, at)))),
         Form::Program8 => reaching(at, 1, indexed_by(form, post, signed_byte(byte_at(mem, at)))),
         Form::Offset16 => reaching(at, 2, indexed_by(form, post, word_at(mem, at))),
@@ -96,30 +86,27 @@ fn with_form(mem: &[u8], form: Form, post: u8, at: u32) -> OperandRead
         | Form::NoOffset
         | Form::OffsetB
         | Form::OffsetA
-        | Form::OffsetD => OperandRead::Operand(indexed_by(form, post, 0), at),
+        | Form::OffsetD => Ok((indexed_by(form, post, 0), at)),
     }
 }
 
 // The post-byte, and what follows it.
-fn indexed_at(mem: &[u8], at: u32) -> OperandRead
+fn indexed_at(mem: &[u8], at: u32) -> Result<(Operand, u32), Refusal>
     ensures { result ≡ operand_at ByPostByte mem.now at }
 {
     if at > 0xFFFF {
-        return OperandRead::Refused(Refusal::PastEnd);
+        return Err(Refusal::PastEnd);
     }
     let post = byte_at(mem, at);
-    match postbyte::form_of(post) {
-        PostByte::Form(form) => with_form(mem, form, post, at + 1),
-        PostByte::Refused(refusal) => OperandRead::Refused(refusal),
-    }
+    with_form(mem, postbyte::form_of(post)?, post, at + 1)
 }
 
 // The operand of a mode, from `at` on, the address after the opcode.
-pub fn operand_at(mem: &[u8], mode: Mode, at: u32) -> OperandRead
+pub fn operand_at(mem: &[u8], mode: Mode, at: u32) -> Result<(Operand, u32), Refusal>
     ensures { result ≡ operand_at mode mem.now at }
 {
     match mode {
-        Mode::Inherent => OperandRead::Operand(Operand::Inherent, at),
+        Mode::Inherent => Ok((Operand::Inherent, at)),
         Mode::Immediate8 => reaching(at, 1, Operand::Immediate((at % 0x10000) as u16)),
         Mode::Immediate16 => reaching(at, 2, Operand::Immediate((at % 0x10000) as u16)),
         Mode::Direct => reaching(at, 1, Operand::Direct(byte_at(mem, at))),

@@ -24,13 +24,6 @@ pub enum Form {
     Address,
 }
 
-// A post-byte is a form or a refusal.
-#[derive(Clone, Copy)]
-pub enum PostByte {
-    Form(Form),
-    Refused(Refusal),
-}
-
 // Bits 7 and 4 are both set.
 pub fn is_indirect(post: u8) -> bool
     ensures { result ≡ is_indirect post }
@@ -39,48 +32,47 @@ pub fn is_indirect(post: u8) -> bool
 }
 
 // Indirect ,R+ and ,-R are refused.
-fn unless_indirect(post: u8, form: Form) -> PostByte
+fn unless_indirect(post: u8, form: Form) -> Result<Form, Refusal>
     ensures { result ≡ unless_indirect post form }
 {
     if is_indirect(post) {
-        PostByte::Refused(Refusal::PostByte)
+        Err(Refusal::PostByte)
     } else {
-        PostByte::Form(form)
+        Ok(form)
     }
 }
 
 // Of low form 8F the manual has 9F alone.
-fn only_as_9f(post: u8) -> PostByte
+fn only_as_9f(post: u8) -> Result<Form, Refusal>
     ensures { result ≡ only_as_9f post }
 {
     if post == 0x9F {
-        PostByte::Form(Form::Address)
+        Ok(Form::Address)
     } else {
-        PostByte::Refused(Refusal::PostByte8F)
+        Err(Refusal::PostByte8F)
     }
 }
 
 // The low form decides: the post-byte masked with 8F.
-pub fn form_of(post: u8) -> PostByte
+pub fn form_of(post: u8) -> Result<Form, Refusal>
     ensures { result ≡ form_of post }
 {
-    let low = post & 0x8F;
-    match low {
-        0x00..=0x0F => PostByte::Form(Form::Offset5),
+    match post & 0x8F {
+        0x00..=0x0F => Ok(Form::Offset5),
         0x80 => unless_indirect(post, Form::Increment1),
-        0x81 => PostByte::Form(Form::Increment2),
+        0x81 => Ok(Form::Increment2),
         0x82 => unless_indirect(post, Form::Decrement1),
-        0x83 => PostByte::Form(Form::Decrement2),
-        0x84 => PostByte::Form(Form::NoOffset),
-        0x85 => PostByte::Form(Form::OffsetB),
-        0x86 => PostByte::Form(Form::OffsetA),
-        0x88 => PostByte::Form(Form::Offset8),
-        0x89 => PostByte::Form(Form::Offset16),
-        0x8B => PostByte::Form(Form::OffsetD),
-        0x8C => PostByte::Form(Form::Program8),
-        0x8D => PostByte::Form(Form::Program16),
+        0x83 => Ok(Form::Decrement2),
+        0x84 => Ok(Form::NoOffset),
+        0x85 => Ok(Form::OffsetB),
+        0x86 => Ok(Form::OffsetA),
+        0x88 => Ok(Form::Offset8),
+        0x89 => Ok(Form::Offset16),
+        0x8B => Ok(Form::OffsetD),
+        0x8C => Ok(Form::Program8),
+        0x8D => Ok(Form::Program16),
         0x8F => only_as_9f(post),
-        _ => PostByte::Refused(Refusal::PostByte),
+        _ => Err(Refusal::PostByte),
     }
 }
 
@@ -88,8 +80,7 @@ pub fn form_of(post: u8) -> PostByte
 pub fn index_of(post: u8) -> Index
     ensures { result ≡ index_of post }
 {
-    let field = (post & 0x60) >> 5;
-    match field {
+    match (post & 0x60) >> 5 {
         0 => Index::X,
         1 => Index::Y,
         2 => Index::U,

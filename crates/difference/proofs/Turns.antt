@@ -3,13 +3,14 @@
 use Prim.Native.Nat.{ℕ, zero, suc, ◌+◌, ◌-◌, ◌*◌, ◌≤◌, ◌<◌}
 use mathlib.Core.Bool.{Bool, true, false, cond, not}
 use mathlib.Core.List.{List, [], ◌∷◌, ◌++◌, map}
-use mathlib.Core.Path.{◌≡◌, refl, sym, ◌∙◌}
+use mathlib.Core.Path.{◌≡◌, refl, sym, ap, ◌∙◌}
 use native.Mathlib.Numerals.{add-one}
 use native.Mathlib.Omega.{arith}
 use lib.Dec.{eqb, ltb}
 use lib.ListN.{length, get_or, drop, length-append}
 use lib.Seq.{sets, length-sets, drop-cons}
 use mir.Val.{bool_byte}
+use Rattle.std.specs.List.{filter, zip}
 use Rattle.text.proofs.Stores.{sets-append}
 use Rattle.machine.specs.Record.{Field, A, fields, rank, field_of}
 use Rattle.machine.specs.declared.Machine.{Machine}
@@ -51,6 +52,18 @@ module _ (x y : Machine) (k : ℕ) (h : k < length fields) where
   one_more : fields_apart (drop k fields) x y ≡ field_apart (get_or fields k A) x y ++ fields_apart (drop (k + 1) fields) x y
   unfolding fields_apart
   one_more = rw (add-one k, drop-cons fields k A h)
+
+kept : (t : Bool) (d : Difference) (p : ℕ × ℕ) (ps : List (ℕ × ℕ)) (ds : List Difference) → length ps ≡ length ds → length (cond (not t) (p ∷ ps) ps) ≡ length (cond t [] (d ∷ []) ++ ds)
+kept true d p ps ds e = e
+kept false d p ps ds e = ap suc e
+
+-- pairs of values that are not equal, and fields that differ, are equally many
+pub apart-counted : (fs : List Field) (x y : Machine)
+    → length (filter (λ (p : ℕ × ℕ). not (eqb p.0 p.1)) (zip (map (λ (f : Field). field_of f x) fs) (map (λ (f : Field). field_of f y) fs))) ≡ length (fields_apart fs x y)
+unfolding fields_apart field_apart
+apart-counted [] x y = refl
+apart-counted (f ∷ fs) x y =
+    kept (eqb (field_of f x) (field_of f y)) (of_field f (field_of f x) (field_of f y)) (field_of f x, field_of f y) _ (fields_apart fs x y) (apart-counted fs x y)
 
 put-either : (t : Bool) (f : Field) (k v w at : ℕ) (more : List Difference) (list : List ℕ) → rank f ≡ k
     → sets (cond t list (sets list at (entry_bytes (record { what = k; left = v; right = w })))) (at + cond t 0 entry_size) (laid_out more)

@@ -1,14 +1,12 @@
 -- The differences as a list of entries in bytes, and the call that writes it (docs/COMPARE.md).
 -- Assumes nothing.
-use Rattle.std.specs.Prelude.{ℕ, ◌+◌, ◌*◌, ◌/◌, Bool, cond, ◌&&◌, List, [], ◌∷◌, ◌++◌, eqb, ltb, length, get_or}
+use Rattle.std.specs.Prelude.{ℕ, ◌+◌, ◌*◌, ◌/◌, Bool, cond, ◌&&◌, List, [], ◌∷◌, ◌++◌, Result, Err, Ok, eqb, ltb, length, get_or}
 use Rattle.std.proofs.lemmas.List.Edits.{sets}
-use Rattle.answers.specs.declared.Answer.TheVariants.{Done, Refused}
 use Rattle.answers.specs.declared.Refusal.{Refusal}
 use Rattle.answers.specs.declared.Refusal.TheVariants.{MemoryLength, ListShort}
 use Rattle.machine.specs.Record.{fields, rank, bytes, number_at}
 use Rattle.machine.specs.declared.Machine.{Machine}
 use Rattle.difference.specs.Differences.{Difference, of_field, of_run, differences}
-use Rattle.difference.specs.declared.Compared.{Compared}
 use Rattle.difference.specs.declared.entries.Entry.{Entry}
 
 -- ---- an entry
@@ -42,9 +40,6 @@ entry_at l k =
 
 -- ---- the call
 
-abbrev pub not_compared : Refusal → Compared
-not_compared x = record { count = 0; answer = Refused x }
-
 abbrev pub are_whole : List ℕ → List ℕ → Bool
 are_whole a b = eqb (length a) 65536 && eqb (length b) 65536
 
@@ -52,12 +47,12 @@ are_whole a b = eqb (length a) 65536 && eqb (length b) 65536
 abbrev pub is_list_short : List ℕ → List Difference → Bool
 is_list_short list ds = ltb (length list) (entry_size * length ds)
 
--- the answer, and the list afterwards: the entries at its front and the rest as it was; if refused, all as it was
-unfoldable pub compared : Machine → List ℕ → Machine → List ℕ → List ℕ → Compared
+-- the answer, which is the number of entries, and the list afterwards: the entries at its front and the rest as it was; if refused, all as it was
+unfoldable pub compared : Machine → List ℕ → Machine → List ℕ → List ℕ → Result ℕ Refusal
 compared l a r b list =
     cond (are_whole a b)
-    (cond (is_list_short list (differences l a r b)) (not_compared ListShort) (record { count = length (differences l a r b); answer = Done }))
-    (not_compared MemoryLength)
+    (cond (is_list_short list (differences l a r b)) (Err ListShort) (Ok (length (differences l a r b))))
+    (Err MemoryLength)
 
 unfoldable pub list_after : Machine → List ℕ → Machine → List ℕ → List ℕ → List ℕ
 list_after l a r b list =

@@ -5,20 +5,15 @@ ghost use Rattle.machine.specs.Record.{Field, fields, field_of};
 ghost use Rattle.difference.specs.Differences.{fields_apart};
 ghost use Rattle.difference.specs.Compare.{entry_bytes, entry_size, laid_out};
 
-use super::entries;
 use super::entries::{ENTRY, Entry, RUN};
 use machine::Machine;
 
-const FIELDS: usize = 13;
+const FIELDS: usize = RUN as usize;
 
 fn values_of(machine: Machine) -> [u64; FIELDS]
     ensures { result ≡ map (λ (f : Field). field_of f machine) fields }
 {
     let regs = machine.regs;
-    let cc = regs.cc;
-    let wait = machine.wait;
-    let waiting = machine::wait_byte(wait) as u64;
-    let mark = machine::mark_byte(machine.armed) as u64;
     [
         regs.a as u64,
         regs.b as u64,
@@ -28,26 +23,21 @@ fn values_of(machine: Machine) -> [u64; FIELDS]
         regs.s as u64,
         regs.pc as u64,
         regs.dp as u64,
-        cc.reg as u64,
-        waiting,
-        mark,
+        regs.cc.reg as u64,
+        machine::wait_byte(machine.wait) as u64,
+        machine::mark_byte(machine.armed) as u64,
         machine.cycles,
         machine.instructions,
     ]
 }
 
+// Counted apart from `put`, as the runs are: a list that is too short has to stay unchanged.
 pub(super) fn count(left: Machine, right: Machine) -> usize
     ensures { result ≡ length (fields_apart fields left right) }
 {
-    let l = values_of(left);
-    let r = values_of(right);
-    let mut n = 0;
-    let mut k = 0;
-    while k < FIELDS {
-        n += (l[k] != r[k]) as usize;
-        k += 1;
-    }
-    n
+    let left = values_of(left);
+    let right = values_of(right);
+    left.iter().zip(&right).filter(|(l, r)| l != r).count()
 }
 
 // An entry where the two values differ, and the place after it.
@@ -58,7 +48,7 @@ fn put_one(list: &mut [u8], at: usize, entry: Entry) -> usize
     if entry.left == entry.right {
         return at;
     }
-    entries::put(list, at, entry);
+    entry.put(list, at);
     at + ENTRY
 }
 
@@ -69,16 +59,11 @@ pub(super) fn put(list: &mut [u8], left: Machine, right: Machine) -> usize
     let l = values_of(left);
     let r = values_of(right);
     let mut at = 0;
-    let mut k = 0;
-    while k < RUN {
-        let i = k as usize;
-        let entry = Entry {
-            left: l[i],
-            right: r[i],
-            what: k,
-        };
-        at = put_one(list, at, entry);
-        k += 1;
+    // The number is told too, so that a zip of both would have to count it besides.
+    for what in 0..RUN {
+        let left = l[what as usize];
+        let right = r[what as usize];
+        at = put_one(list, at, Entry { left, right, what });
     }
     at
 }

@@ -21,31 +21,21 @@ type Short = [u8; 65535];
 
 type Long = [u8; 65537];
 
-fn write(rt: &HostRuntime, bytes: &[u8]) -> io::Result<()> {
-    rt.write_all(bytes)
-}
-
-// Sixteen digits.
-fn number(rt: &HostRuntime, n: u64) -> io::Result<()> {
-    write(rt, &text::hex4((n / 0x1_0000_0000_0000 % 65536) as u16))?;
-    write(rt, &text::hex4((n / 0x1_0000_0000 % 65536) as u16))?;
-    write(rt, &text::hex4((n / 0x1_0000 % 65536) as u16))?;
-    write(rt, &text::hex4((n % 65536) as u16))
-}
-
 fn entry(rt: &HostRuntime, list: &[u8], k: usize) -> io::Result<()> {
     let e = difference::entry_at(list, k);
-    write(rt, &text::hex2(e.what))?;
-    write(rt, b" ")?;
-    number(rt, e.left)?;
-    write(rt, b" ")?;
-    number(rt, e.right)?;
-    write(rt, b"\n")
+    println!(rt; "{:02X} {:016X} {:016X}", e.what, e.left, e.right)
+}
+
+fn entries(rt: &HostRuntime, list: &[u8], count: usize) -> io::Result<()> {
+    for k in 0..count {
+        entry(rt, list, k)?;
+    }
+    Ok(())
 }
 
 fn scene(
     rt: &HostRuntime,
-    letter: u8,
+    letter: char,
     left: Machine,
     a: &[u8],
     right: Machine,
@@ -53,11 +43,8 @@ fn scene(
     list: &mut [u8],
 ) -> io::Result<()> {
     let compared = difference::compare(left, a, right, b, list);
-    let answer = compared.answer;
-    let n = answer.number();
-    write(rt, &[letter, b' ', b'0' + n / 10 % 10, b'0' + n % 10, b' '])?;
-    write(rt, &text::hex4((compared.count % 65536) as u16))?;
-    write(rt, b"\n")
+    let n = answers::number(&compared);
+    println!(rt; "{letter} {n:02} {:04X}", compared.unwrap_or(0))
 }
 
 // Every field differs from the fresh machine's.
@@ -88,99 +75,84 @@ fn with(regs: Set) -> Machine {
 
 // Equal machines; all fields, from both sides; a list of exactly the right length, and one that is a byte short and stays; none.
 fn all(rt: &HostRuntime, mem: &Memory, list: &mut List) -> io::Result<()> {
-    scene(rt, b'A', Machine::fresh(), mem, Machine::fresh(), mem, list)?;
-    scene(rt, b'B', full(), mem, full(), mem, list)?;
-    scene(rt, b'C', full(), mem, Machine::fresh(), mem, list)?;
-    entry(rt, list, 0)?;
-    entry(rt, list, 1)?;
-    entry(rt, list, 2)?;
-    entry(rt, list, 3)?;
-    entry(rt, list, 4)?;
-    entry(rt, list, 5)?;
-    entry(rt, list, 6)?;
-    entry(rt, list, 7)?;
-    entry(rt, list, 8)?;
-    entry(rt, list, 9)?;
-    entry(rt, list, 10)?;
-    entry(rt, list, 11)?;
-    entry(rt, list, 12)?;
-    scene(rt, b'D', Machine::fresh(), mem, full(), mem, list)?;
+    scene(rt, 'A', Machine::fresh(), mem, Machine::fresh(), mem, list)?;
+    scene(rt, 'B', full(), mem, full(), mem, list)?;
+    scene(rt, 'C', full(), mem, Machine::fresh(), mem, list)?;
+    entries(rt, list, 13)?;
+    scene(rt, 'D', Machine::fresh(), mem, full(), mem, list)?;
     entry(rt, list, 0)?;
     entry(rt, list, 12)
 }
 
 fn room(rt: &HostRuntime, mem: &Memory) -> io::Result<()> {
     let mut exact = [0xEEu8; 221];
-    scene(rt, b'E', full(), mem, Machine::fresh(), mem, &mut exact)?;
+    scene(rt, 'E', full(), mem, Machine::fresh(), mem, &mut exact)?;
     entry(rt, &exact, 12)?;
     let mut short = [0xEEu8; 220];
-    scene(rt, b'F', full(), mem, Machine::fresh(), mem, &mut short)?;
+    scene(rt, 'F', full(), mem, Machine::fresh(), mem, &mut short)?;
     entry(rt, &short, 0)?;
     entry(rt, &short, 11)?;
     let mut none = [0u8; 0];
-    scene(rt, b'G', full(), mem, full(), mem, &mut none)?;
-    scene(rt, b'H', full(), mem, Machine::fresh(), mem, &mut none)
+    scene(rt, 'G', full(), mem, full(), mem, &mut none)?;
+    scene(rt, 'H', full(), mem, Machine::fresh(), mem, &mut none)
+}
+
+// A fresh machine beside another, and the entry of what differs.
+fn beside_fresh(
+    rt: &HostRuntime,
+    mem: &Memory,
+    list: &mut List,
+    letter: char,
+    other: Machine,
+) -> io::Result<()> {
+    scene(rt, letter, Machine::fresh(), mem, other, mem, list)?;
+    entry(rt, list, 0)
 }
 
 // Each register alone, then the wait state, the mark and each counter.
 fn alone(rt: &HostRuntime, mem: &Memory, list: &mut List) -> io::Result<()> {
-    let fresh = Machine::fresh();
-    let mut a = Set::reset();
-    a.a = 1;
-    scene(rt, b'a', fresh, mem, with(a), mem, list)?;
-    entry(rt, list, 0)?;
-    let mut b = Set::reset();
-    b.b = 1;
-    scene(rt, b'b', fresh, mem, with(b), mem, list)?;
-    entry(rt, list, 0)?;
-    let mut x = Set::reset();
-    x.x = 0x100;
-    scene(rt, b'x', fresh, mem, with(x), mem, list)?;
-    entry(rt, list, 0)?;
-    let mut y = Set::reset();
-    y.y = 0x100;
-    scene(rt, b'y', fresh, mem, with(y), mem, list)?;
-    entry(rt, list, 0)?;
-    let mut u = Set::reset();
-    u.u = 0x100;
-    scene(rt, b'u', fresh, mem, with(u), mem, list)?;
-    entry(rt, list, 0)?;
-    let mut s = Set::reset();
-    s.s = 0x100;
-    scene(rt, b's', fresh, mem, with(s), mem, list)?;
-    entry(rt, list, 0)
+    let reset = Set::reset();
+    beside_fresh(rt, mem, list, 'a', with(Set { a: 1, ..reset }))?;
+    beside_fresh(rt, mem, list, 'b', with(Set { b: 1, ..reset }))?;
+    beside_fresh(rt, mem, list, 'x', with(Set { x: 0x100, ..reset }))?;
+    beside_fresh(rt, mem, list, 'y', with(Set { y: 0x100, ..reset }))?;
+    beside_fresh(rt, mem, list, 'u', with(Set { u: 0x100, ..reset }))?;
+    beside_fresh(rt, mem, list, 's', with(Set { s: 0x100, ..reset }))
 }
 
 fn alone_too(rt: &HostRuntime, mem: &Memory, list: &mut List) -> io::Result<()> {
+    let reset = Set::reset();
     let fresh = Machine::fresh();
-    let mut pc = Set::reset();
-    pc.pc = 0xFFFF;
-    scene(rt, b'p', fresh, mem, with(pc), mem, list)?;
-    entry(rt, list, 0)?;
-    let mut dp = Set::reset();
-    dp.dp = 0xFF;
-    scene(rt, b'd', fresh, mem, with(dp), mem, list)?;
-    entry(rt, list, 0)?;
     let codes = CCBits { reg: 0x51 };
-    let mut cc = Set::reset();
-    cc.cc = codes;
-    scene(rt, b'c', fresh, mem, with(cc), mem, list)?;
-    entry(rt, list, 0)?;
-    let waits = fresh.with_registers(Set::reset(), Wait::Cwai);
-    scene(rt, b'w', fresh, mem, waits, mem, list)?;
-    entry(rt, list, 0)?;
-    let mut armed = fresh;
-    armed.armed = true;
-    scene(rt, b'm', fresh, mem, armed, mem, list)?;
-    entry(rt, list, 0)?;
-    let mut cycles = fresh;
-    cycles.cycles = 0x8000_0000_0000_0000;
-    scene(rt, b'k', fresh, mem, cycles, mem, list)?;
-    entry(rt, list, 0)?;
-    let mut instructions = fresh;
-    instructions.instructions = 1;
-    scene(rt, b'i', fresh, mem, instructions, mem, list)?;
-    entry(rt, list, 0)
+    let waits = fresh.with_registers(reset, Wait::Cwai);
+    let armed = Machine {
+        armed: true,
+        ..fresh
+    };
+    let cycles = Machine {
+        cycles: 0x8000_0000_0000_0000,
+        ..fresh
+    };
+    let instructions = Machine {
+        instructions: 1,
+        ..fresh
+    };
+    beside_fresh(
+        rt,
+        mem,
+        list,
+        'p',
+        with(Set {
+            pc: 0xFFFF,
+            ..reset
+        }),
+    )?;
+    beside_fresh(rt, mem, list, 'd', with(Set { dp: 0xFF, ..reset }))?;
+    beside_fresh(rt, mem, list, 'c', with(Set { cc: codes, ..reset }))?;
+    beside_fresh(rt, mem, list, 'w', waits)?;
+    beside_fresh(rt, mem, list, 'm', armed)?;
+    beside_fresh(rt, mem, list, 'k', cycles)?;
+    beside_fresh(rt, mem, list, 'i', instructions)
 }
 
 // One byte at 0000 and one at FFFF.
@@ -203,43 +175,37 @@ fn in_runs(mem: &mut Memory) {
 fn ends(rt: &HostRuntime, mem: &Memory, other: &Memory, list: &mut List) -> io::Result<()> {
     scene(
         rt,
-        b'1',
+        '1',
         Machine::fresh(),
         mem,
         Machine::fresh(),
         other,
         list,
     )?;
-    entry(rt, list, 0)?;
-    entry(rt, list, 1)
+    entries(rt, list, 2)
 }
 
 // With every field before them, and alone.
 fn runs(rt: &HostRuntime, mem: &Memory, other: &Memory, list: &mut List) -> io::Result<()> {
-    scene(rt, b'2', full(), other, Machine::fresh(), mem, list)?;
+    scene(rt, '2', full(), other, Machine::fresh(), mem, list)?;
     entry(rt, list, 12)?;
     entry(rt, list, 13)?;
     entry(rt, list, 16)?;
     scene(
         rt,
-        b'3',
+        '3',
         Machine::fresh(),
         other,
         Machine::fresh(),
         mem,
         list,
     )?;
-    entry(rt, list, 0)?;
-    entry(rt, list, 1)?;
-    entry(rt, list, 2)?;
-    entry(rt, list, 3)
+    entries(rt, list, 4)
 }
 
 fn alternate(mem: &mut Memory) {
-    let mut i = 0;
-    while i < 0x8000 {
-        mem[2 * i] = 1;
-        i += 1;
+    for pair in mem.chunks_exact_mut(2) {
+        pair[0] = 1;
     }
 }
 
@@ -247,15 +213,14 @@ fn alternate(mem: &mut Memory) {
 fn seconds(rt: &HostRuntime, mem: &Memory, other: &Memory, list: &mut Most) -> io::Result<()> {
     scene(
         rt,
-        b'4',
+        '4',
         Machine::fresh(),
         mem,
         Machine::fresh(),
         other,
         list,
     )?;
-    entry(rt, list, 0)?;
-    entry(rt, list, 1)?;
+    entries(rt, list, 2)?;
     entry(rt, list, 32767)
 }
 
@@ -263,7 +228,7 @@ fn seconds(rt: &HostRuntime, mem: &Memory, other: &Memory, list: &mut Most) -> i
 fn everywhere(rt: &HostRuntime, mem: &Memory, other: &Memory, list: &mut Most) -> io::Result<()> {
     scene(
         rt,
-        b'5',
+        '5',
         Machine::fresh(),
         mem,
         Machine::fresh(),
@@ -276,7 +241,7 @@ fn everywhere(rt: &HostRuntime, mem: &Memory, other: &Memory, list: &mut Most) -
 fn less_room(rt: &HostRuntime, mem: &Memory, other: &Memory, list: &mut Less) -> io::Result<()> {
     scene(
         rt,
-        b'6',
+        '6',
         Machine::fresh(),
         mem,
         Machine::fresh(),
@@ -294,9 +259,9 @@ fn lengths(
     long: &Long,
     list: &mut List,
 ) -> io::Result<()> {
-    scene(rt, b'7', full(), short, Machine::fresh(), mem, list)?;
-    scene(rt, b'8', full(), mem, Machine::fresh(), long, list)?;
-    scene(rt, b'9', full(), long, Machine::fresh(), short, list)?;
+    scene(rt, '7', full(), short, Machine::fresh(), mem, list)?;
+    scene(rt, '8', full(), mem, Machine::fresh(), long, list)?;
+    scene(rt, '9', full(), long, Machine::fresh(), short, list)?;
     entry(rt, list, 0)
 }
 

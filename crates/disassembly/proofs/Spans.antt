@@ -1,6 +1,6 @@
 -- An instruction has 1 to 5 bytes: a prefix, the opcode, and up to three bytes after it.
 -- Assumes nothing.
-use Rattle.std.proofs.Common.{◌≡◌, ℕ, ◌+◌, ◌≤◌, Bool, true, false, cond, leb, List, subst, arith, lit≤}
+use Rattle.std.proofs.Common.{◌≡◌, ℕ, ◌+◌, ◌≤◌, Bool, true, false, cond, leb, List, subst, arith, lit≤, Err, Ok, Result}
 use Rattle.answers.specs.declared.Refusal.TheVariants.{PastEnd}
 use Rattle.opcodes.specs.declared.Mode.{Mode}
 use Rattle.opcodes.specs.declared.Mode.TheVariants.{Inherent, Immediate8, Immediate16, Direct, Indexed, Extended, Relative8, Relative16}
@@ -11,14 +11,14 @@ use Rattle.decode.specs.Operand.{signed_byte, operand_number, operand_bytes, ope
 use Rattle.decode.specs.Origin.{Origin, OriginOf}
 use Rattle.decode.specs.PostByte.{offset_bytes}
 use Rattle.decode.specs.declared.operand.Operand.TheVariants.{Inherent as Nothing, Immediate as ByValue, Direct as InPage, Indexed as ByIndex, Extended as AtAddress, Relative as Branched}
-use Rattle.decode.specs.declared.operand.OperandRead.{OperandRead}
-use Rattle.decode.specs.declared.operand.OperandRead.TheVariants.{Operand as Read, Refused as NotRead}
 use Rattle.decode.specs.declared.postbyte.Form.{Form}
 use Rattle.decode.specs.declared.postbyte.Form.TheVariants.{Offset5, Increment1, Increment2, Decrement1, Decrement2, NoOffset, OffsetB, OffsetA, Offset8, Offset16, OffsetD, Program8, Program16, Address}
 use Rattle.decode.proofs.Laws.{decode-fits}
 use Rattle.decode.proofs.Origin.{decode-origin}
 use Rattle.decode.proofs.Sizes.{entry-sizes}
 use Rattle.disassembly.specs.Laws.{OneToFive}
+use Rattle.answers.specs.declared.Refusal.{Refusal}
+use Rattle.decode.specs.declared.operand.Operand.{Operand}
 
 form-bytes : (f : Form) → offset_bytes f ≤ 2
 form-bytes Offset5 = lit≤ tt
@@ -37,34 +37,34 @@ form-bytes Program16 = lit≤ tt
 form-bytes Address = lit≤ tt
 
 -- an operand's bytes, with the offset bytes of an indexed one, are at most three
-abbrev Three : ℕ → OperandRead → Type 0
-Three n (Read o next) = n + offset_bytes_of o ≤ 3
-Three n (NotRead x) = Unit {0}
+abbrev Three : ℕ → Result (Operand × ℕ) Refusal → Type 0
+Three n (Ok (o, next)) = n + offset_bytes_of o ≤ 3
+Three n (Err x) = Unit {0}
 
-by_index : (r : OperandRead) → Three 1 r
-by_index (Read Nothing next) = lit≤ tt
-by_index (Read (ByValue at) next) = lit≤ tt
-by_index (Read (InPage low) next) = lit≤ tt
-by_index (Read (ByIndex ix) next) = omega (arith, form-bytes ix.form)
-by_index (Read (AtAddress at) next) = lit≤ tt
-by_index (Read (Branched offset) next) = lit≤ tt
-by_index (NotRead x) = tt
+by_index : (r : Result (Operand × ℕ) Refusal) → Three 1 r
+by_index (Ok (Nothing, next)) = lit≤ tt
+by_index (Ok (ByValue at, next)) = lit≤ tt
+by_index (Ok (InPage low, next)) = lit≤ tt
+by_index (Ok (ByIndex ix, next)) = omega (arith, form-bytes ix.form)
+by_index (Ok (AtAddress at, next)) = lit≤ tt
+by_index (Ok (Branched offset, next)) = lit≤ tt
+by_index (Err x) = tt
 
 module _ (mem : List ℕ) (at : ℕ) where
-  tested : (n : ℕ) (t : Bool) (r : OperandRead) → Three n r → Three n (cond t r (NotRead PastEnd))
+  tested : (n : ℕ) (t : Bool) (r : Result (Operand × ℕ) Refusal) → Three n r → Three n (cond t r (Err PastEnd))
   tested n true r h = h
   tested n false r h = tt
 
   three : (mode : Mode) → Three (operand_bytes mode) (operand_at mode mem at)
   unfolding operand_at
   three Inherent = lit≤ tt
-  three Immediate8 = tested 1 (leb (at + 1) 0x10000) (Read (ByValue at) (at + 1)) (lit≤ tt)
-  three Immediate16 = tested 2 (leb (at + 2) 0x10000) (Read (ByValue at) (at + 2)) (lit≤ tt)
-  three Direct = tested 1 (leb (at + 1) 0x10000) (Read (InPage (operand_number 1 mem at)) (at + 1)) (lit≤ tt)
+  three Immediate8 = tested 1 (leb (at + 1) 0x10000) (Ok (ByValue at, at + 1)) (lit≤ tt)
+  three Immediate16 = tested 2 (leb (at + 2) 0x10000) (Ok (ByValue at, at + 2)) (lit≤ tt)
+  three Direct = tested 1 (leb (at + 1) 0x10000) (Ok (InPage (operand_number 1 mem at), at + 1)) (lit≤ tt)
   three Indexed = by_index (operand_at Indexed mem at)
-  three Extended = tested 2 (leb (at + 2) 0x10000) (Read (AtAddress (operand_number 2 mem at)) (at + 2)) (lit≤ tt)
-  three Relative8 = tested 1 (leb (at + 1) 0x10000) (Read (Branched (signed_byte (operand_number 1 mem at))) (at + 1)) (lit≤ tt)
-  three Relative16 = tested 2 (leb (at + 2) 0x10000) (Read (Branched (operand_number 2 mem at)) (at + 2)) (lit≤ tt)
+  three Extended = tested 2 (leb (at + 2) 0x10000) (Ok (AtAddress (operand_number 2 mem at), at + 2)) (lit≤ tt)
+  three Relative8 = tested 1 (leb (at + 1) 0x10000) (Ok (Branched (signed_byte (operand_number 1 mem at)), at + 1)) (lit≤ tt)
+  three Relative16 = tested 2 (leb (at + 2) 0x10000) (Ok (Branched (operand_number 2 mem at), at + 2)) (lit≤ tt)
 
 page-bytes : (page : Page) → prefix_bytes page ≤ 1
 page-bytes Plain = lit≤ tt

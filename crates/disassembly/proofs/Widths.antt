@@ -1,8 +1,7 @@
 -- How long a mnemonic and an operand can be.
 -- Assumes nothing.
-use Rattle.std.proofs.Common.{◌≡◌, ℕ, ◌+◌, ◌-◌, ◌/◌, ◌%◌, ◌≤◌, Bool, true, false, cond, eqb, ltb, List, [], ◌∷◌, ◌++◌, length, replicate, ap, ◌∙◌, arith, lit≤, length-append, length-take}
+use Rattle.std.proofs.Common.{ℕ, ◌+◌, ◌-◌, ◌/◌, ◌%◌, ◌≤◌, Bool, true, false, cond, eqb, ltb, List, [], ◌∷◌, ◌++◌, length, arith, lit≤, length-append}
 use Prim.Native.Char.{code}
-use lib.ListN.{length-replicate}
 use Rattle.memory.specs.Map.{byte_at}
 use Rattle.registers.specs.ConditionCodes.{ascii}
 use Rattle.registers.specs.Names.{word_name, index_word, stack_word, other_stack}
@@ -13,6 +12,7 @@ use Rattle.registers.specs.declared.Stack.TheVariants.{S as stack_s, U as stack_
 use Rattle.opcodes.specs.declared.Alu.{Alu as Binary}
 use Rattle.opcodes.specs.declared.Alu.TheVariants.{Add, Adc, Sub, Sbc, Cmp, And, Bit, Or, Eor, Ld}
 use Rattle.opcodes.specs.declared.Cond.{Cond}
+use Rattle.opcodes.specs.declared.Cond.TheVariants.{Ra, Rn, Hi, Ls, Cc, Cs, Ne, Eq, Vc, Vs, Pl, Mi, Ge, Lt, Gt, Le}
 use Rattle.opcodes.specs.declared.Entry.{Entry}
 use Rattle.opcodes.specs.declared.MemoryOp.{MemoryOp}
 use Rattle.opcodes.specs.declared.MemoryOp.TheVariants.{OnMemory, Store8, Store16, Bsr, Jsr, Rts, Rti, Swi as Interrupt, Cwai, Sync, Push, Pull}
@@ -25,9 +25,8 @@ use Rattle.opcodes.specs.declared.RegisterOp.TheVariants.{Alu, OnAcc, TestAcc, T
 use Rattle.opcodes.specs.declared.Software.{Software}
 use Rattle.opcodes.specs.declared.Software.TheVariants.{Swi, Swi2, Swi3}
 use Rattle.opcodes.specs.declared.Unary.{Unary}
-use Rattle.mnemonics.specs.Mnemonics.{lettered, alu_text, unary_text, cond_text, software_text, branching, register_mnemonic, memory_mnemonic, mnemonic_of}
-use Rattle.mnemonics.specs.declared.letters.Mnemonic.{Mnemonic}
-use Rattle.mnemonics.proofs.Stems.{three-letters, two-letters}
+use Rattle.opcodes.specs.declared.Unary.TheVariants.{Neg, Com, Lsr, Ror, Asr, Asl, Rol, Dec, Inc, Clr}
+use Rattle.mnemonics.specs.Mnemonics.{acc_letter, word_letter, alu_text, unary_text, cond_text, software_text, branching, register_mnemonic, memory_mnemonic, mnemonic_of}
 use Rattle.decode.specs.PostByte.{is_indirect, index_of}
 use Rattle.decode.specs.declared.operand.Indexed.{Indexed as PostByteAndOffset}
 use Rattle.decode.specs.declared.operand.Operand.{Operand}
@@ -44,17 +43,13 @@ use Rattle.disassembly.specs.Laws.{OperandShort, MnemonicShort}
 
 -- ---- mnemonics
 
--- five bytes, of which at most five count
-pub record Five (m : Mnemonic) : Type 0 where
-  pub few : m.len ≤ 5
-  pub all : length m.bytes ≡ 5
-
-of-letters : (l : List ℕ) → length l ≤ 5 → Five (lettered l)
-of-letters l h = record { few = h; all = length-append l (replicate (5 - length l) 0) ∙ (rw (length-replicate {A = ℕ} (5 - length l) 0) (omega arith)) }
+-- at most five letters
+abbrev pub Five : List ℕ → Type 0
+Five l = length l ≤ 5
 
 -- a stem of two or three letters, and one letter more
-stem : (l : List ℕ) (x : ℕ) → length l ≤ 3 → Five (lettered (l ++ (x ∷ [])))
-stem l x h = of-letters (l ++ (x ∷ [])) (rw (length-append l (x ∷ [])) (omega arith))
+stem : (l : List ℕ) (x : ℕ) → length l ≤ 3 → Five (l ++ (x ∷ []))
+stem l x h = rw (length-append l (x ∷ [])) (omega arith)
 
 alu-stem : (o : Binary) → length (ascii (alu_text o)) ≤ 3
 alu-stem Add = lit≤ tt
@@ -69,55 +64,79 @@ alu-stem Eor = lit≤ tt
 alu-stem Ld = lit≤ tt
 
 unary-stem : (o : Unary) → length (ascii (unary_text o)) ≤ 3
-unary-stem o = omega (arith, ap length (three-letters o))
+unary-stem Neg = lit≤ tt
+unary-stem Com = lit≤ tt
+unary-stem Lsr = lit≤ tt
+unary-stem Ror = lit≤ tt
+unary-stem Asr = lit≤ tt
+unary-stem Asl = lit≤ tt
+unary-stem Rol = lit≤ tt
+unary-stem Dec = lit≤ tt
+unary-stem Inc = lit≤ tt
+unary-stem Clr = lit≤ tt
 
 cond-letters : (c : Cond) → length (ascii (cond_text c)) ≤ 2
-cond-letters c = omega (arith, ap length (two-letters c))
+cond-letters Ra = lit≤ tt
+cond-letters Rn = lit≤ tt
+cond-letters Hi = lit≤ tt
+cond-letters Ls = lit≤ tt
+cond-letters Cc = lit≤ tt
+cond-letters Cs = lit≤ tt
+cond-letters Ne = lit≤ tt
+cond-letters Eq = lit≤ tt
+cond-letters Vc = lit≤ tt
+cond-letters Vs = lit≤ tt
+cond-letters Pl = lit≤ tt
+cond-letters Mi = lit≤ tt
+cond-letters Ge = lit≤ tt
+cond-letters Lt = lit≤ tt
+cond-letters Gt = lit≤ tt
+cond-letters Le = lit≤ tt
 
 branch-five : (long : Bool) (l : List ℕ) → length l ≤ 2 → Five (branching long l)
-branch-five true l h = of-letters (ascii "LB" ++ l) (omega arith)
-branch-five false l h = of-letters (ascii "B" ++ l) (omega arith)
+branch-five true l h = omega arith
+branch-five false l h = omega arith
 
-software-five : (s : Software) → Five (lettered (ascii (software_text s)))
-software-five Swi = of-letters (ascii "SWI") (lit≤ tt)
-software-five Swi2 = of-letters (ascii "SWI2") (lit≤ tt)
-software-five Swi3 = of-letters (ascii "SWI3") (lit≤ tt)
+software-five : (s : Software) → Five (ascii (software_text s))
+software-five Swi = lit≤ tt
+software-five Swi2 = lit≤ tt
+software-five Swi3 = lit≤ tt
 
 registers-five : (op : RegisterOp) (long : Bool) → Five (register_mnemonic op long)
-registers-five (Alu o a) long = stem (ascii (alu_text o)) _ (alu-stem o)
-registers-five (OnAcc o a) long = stem (ascii (unary_text o)) _ (unary-stem o)
-registers-five (TestAcc a) long = stem (ascii "TST") _ (lit≤ tt)
-registers-five (Load16 w) long = stem (ascii "LD") _ (lit≤ tt)
-registers-five (Cmp16 w) long = stem (ascii "CMP") _ (lit≤ tt)
-registers-five (Lea i) long = stem (ascii "LEA") _ (lit≤ tt)
+registers-five (Alu o a) long = stem (ascii (alu_text o)) (acc_letter a) (alu-stem o)
+registers-five (OnAcc o a) long = stem (ascii (unary_text o)) (acc_letter a) (unary-stem o)
+registers-five (TestAcc a) long = stem (ascii "TST") (acc_letter a) (lit≤ tt)
+registers-five (Load16 w) long = stem (ascii "LD") (word_letter w) (lit≤ tt)
+registers-five (Cmp16 w) long = stem (ascii "CMP") (word_letter w) (lit≤ tt)
+registers-five (Lea i) long = stem (ascii "LEA") (word_letter (index_word i)) (lit≤ tt)
 registers-five (Branch c) long = branch-five long (ascii (cond_text c)) (cond-letters c)
-registers-five TestMemory long = of-letters (ascii "TST") (lit≤ tt)
-registers-five Addd long = of-letters (ascii "ADDD") (lit≤ tt)
-registers-five Subd long = of-letters (ascii "SUBD") (lit≤ tt)
-registers-five Jmp long = of-letters (ascii "JMP") (lit≤ tt)
-registers-five Nop long = of-letters (ascii "NOP") (lit≤ tt)
-registers-five Daa long = of-letters (ascii "DAA") (lit≤ tt)
-registers-five Sex long = of-letters (ascii "SEX") (lit≤ tt)
-registers-five Mul long = of-letters (ascii "MUL") (lit≤ tt)
-registers-five Abx long = of-letters (ascii "ABX") (lit≤ tt)
-registers-five Andcc long = of-letters (ascii "ANDCC") (lit≤ tt)
-registers-five Orcc long = of-letters (ascii "ORCC") (lit≤ tt)
-registers-five Exg long = of-letters (ascii "EXG") (lit≤ tt)
-registers-five Tfr long = of-letters (ascii "TFR") (lit≤ tt)
+registers-five TestMemory long = lit≤ tt
+registers-five Addd long = lit≤ tt
+registers-five Subd long = lit≤ tt
+registers-five Jmp long = lit≤ tt
+registers-five Nop long = lit≤ tt
+registers-five Daa long = lit≤ tt
+registers-five Sex long = lit≤ tt
+registers-five Mul long = lit≤ tt
+registers-five Abx long = lit≤ tt
+registers-five Andcc long = lit≤ tt
+registers-five Orcc long = lit≤ tt
+registers-five Exg long = lit≤ tt
+registers-five Tfr long = lit≤ tt
 
 memory-five : (op : MemoryOp) (long : Bool) → Five (memory_mnemonic op long)
-memory-five (OnMemory o) long = of-letters (ascii (unary_text o)) (omega (arith, unary-stem o))
-memory-five (Store8 a) long = stem (ascii "ST") _ (lit≤ tt)
-memory-five (Store16 w) long = stem (ascii "ST") _ (lit≤ tt)
+memory-five (OnMemory o) long = omega (arith, unary-stem o)
+memory-five (Store8 a) long = stem (ascii "ST") (acc_letter a) (lit≤ tt)
+memory-five (Store16 w) long = stem (ascii "ST") (word_letter w) (lit≤ tt)
 memory-five Bsr long = branch-five long (ascii "SR") (lit≤ tt)
 memory-five (Interrupt s) long = software-five s
-memory-five (Push s) long = stem (ascii "PSH") _ (lit≤ tt)
-memory-five (Pull s) long = stem (ascii "PUL") _ (lit≤ tt)
-memory-five Jsr long = of-letters (ascii "JSR") (lit≤ tt)
-memory-five Rts long = of-letters (ascii "RTS") (lit≤ tt)
-memory-five Rti long = of-letters (ascii "RTI") (lit≤ tt)
-memory-five Cwai long = of-letters (ascii "CWAI") (lit≤ tt)
-memory-five Sync long = of-letters (ascii "SYNC") (lit≤ tt)
+memory-five (Push s) long = stem (ascii "PSH") (word_letter (stack_word s)) (lit≤ tt)
+memory-five (Pull s) long = stem (ascii "PUL") (word_letter (stack_word s)) (lit≤ tt)
+memory-five Jsr long = lit≤ tt
+memory-five Rts long = lit≤ tt
+memory-five Rti long = lit≤ tt
+memory-five Cwai long = lit≤ tt
+memory-five Sync long = lit≤ tt
 
 pub five : (op : Op) (long : Bool) → Five (mnemonic_of op long)
 five (Registers o) long = registers-five o long
@@ -126,9 +145,7 @@ five (Memory o) long = memory-five o long
 pub mnemonic-short : MnemonicShort
 unfolding mnemonic_text
 mnemonic-short e =
-    let m = mnemonic_of e.op (ltb 2 e.size) in
-    let f = five e.op (ltb 2 e.size) in
-    rw (length-take m.len m.bytes) (omega (arith, f.few))
+    five e.op (ltb 2 e.size)
 
 -- ---- operands
 

@@ -1,12 +1,11 @@
 -- One line of 48 columns (docs/DISASSEMBLY.md): address, bytes, mnemonic, operand, each in its columns, spaces after it.
 -- Assumes nothing.
-use Rattle.std.specs.Prelude.{ℕ, zero, suc, ◌+◌, ◌-◌, ◌%◌, List, [], ◌∷◌, ◌++◌, length, take, replicate, nat_lt}
+use Rattle.std.specs.Prelude.{ℕ, zero, suc, ◌+◌, ◌-◌, ◌%◌, List, [], ◌∷◌, ◌++◌, length, replicate, nat_lt}
 use Prim.Native.Char.{code}
 use Rattle.text.specs.Hex.{hex2, hex4}
 use Rattle.memory.specs.Map.{byte_at}
 use Rattle.opcodes.specs.declared.Entry.{Entry}
 use Rattle.mnemonics.specs.Mnemonics.{mnemonic_of}
-use Rattle.mnemonics.specs.declared.letters.Mnemonic.{Mnemonic}
 use Rattle.decode.specs.declared.instruction.Instruction.{Instruction}
 use Rattle.disassembly.specs.Operands.{operand_text}
 
@@ -26,11 +25,8 @@ byte_pairs zero mem at = []
 byte_pairs (suc n) mem at = byte_pairs n mem at ++ (hex2 (byte_at mem ((at + n) % 65536)) ++ (space ∷ []))
 
 -- the letters of a mnemonic; of the branches those of more than two bytes are long
-abbrev pub letters_of : Mnemonic → List ℕ
-letters_of m = take m.len m.bytes
-
 unfoldable pub mnemonic_text : Entry → List ℕ
-mnemonic_text e = letters_of (mnemonic_of e.op (nat_lt 2 e.size))
+mnemonic_text e = mnemonic_of e.op (nat_lt 2 e.size)
 
 -- four texts in their columns: from 0, 6, 22 and 28 on
 unfoldable pub line_with : List ℕ → List ℕ → List ℕ → List ℕ → List ℕ

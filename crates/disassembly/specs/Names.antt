@@ -1,6 +1,6 @@
 -- Registers in an operand: one, the two of TFR and EXG, and the list of PSH and PUL (manual, appendix A).
 -- Assumes nothing.
-use Rattle.std.specs.Prelude.{ℕ, ◌/◌, ◌%◌, cond, List, [], ◌∷◌, ◌++◌, take, ◌==◌}
+use Rattle.std.specs.Prelude.{ℕ, ◌/◌, ◌%◌, cond, List, [], ◌∷◌, ◌++◌, ◌==◌}
 use Prim.Native.Char.{code}
 use Rattle.registers.specs.Names.{register_text, word_name, stack_word, other_stack}
 use Rattle.registers.specs.declared.Name.{Name}
@@ -10,7 +10,7 @@ use Rattle.operations.specs.Transfers.{transfer_name}
 
 -- the letters of a register's name
 unfoldable pub name_text : Name → List ℕ
-name_text name = take (register_text name).len (register_text name).bytes
+name_text name = register_text name
 
 abbrev pub comma : ℕ
 comma = code ","

@@ -6,23 +6,20 @@ ghost use Rattle.disassembly.specs.Names.{name_text, comma, transfer_text, slot_
 use registers::{Name, Stack};
 use text::Text;
 
-pub fn with_name(text: Text, name: Name) -> Text
+pub fn with_name(mut text: Text, name: Name) -> Text
     ensures { result ≡ grown text (name_text name) }
 {
-    let letters = name.to_str();
-    let bytes = letters.bytes;
-    let first = text::with_byte(text, bytes[0]);
-    if letters.len == 1 {
-        return first;
+    for letter in name.to_str().as_bytes() {
+        text = text.with_byte(*letter);
     }
-    text::with_byte(first, bytes[1])
+    text
 }
 
 // ,R
 pub fn with_index(text: Text, index: Name) -> Text
     ensures { result ≡ grown text (comma ∷ name_text index) }
 {
-    with_name(text::with_byte(text, b','), index)
+    with_name(text.with_byte(b','), index)
 }
 
 // Source and destination of TFR and EXG.
@@ -39,12 +36,12 @@ fn with_slot(text: Text, post: u8, weight: u8, name: Name) -> Text
     ensures { result ≡ grown text (slot_text post weight name) }
 {
     if post / weight % 2 == 0 {
-        return text;
+        text
+    } else if post % weight == 0 {
+        with_name(text, name)
+    } else {
+        with_index(text, name)
     }
-    if post % weight == 0 {
-        return with_name(text, name);
-    }
-    with_index(text, name)
 }
 
 // The registers that a post-byte of PSH or PUL names, from the lowest bit on.
@@ -52,12 +49,12 @@ pub fn with_list(text: Text, stack: Stack, post: u8) -> Text
     ensures { result ≡ grown text (list_text stack post) }
 {
     let other = stack.other().word().name();
-    let codes = with_slot(text, post, 0x01, Name::CC);
-    let a = with_slot(codes, post, 0x02, Name::A);
-    let b = with_slot(a, post, 0x04, Name::B);
-    let page = with_slot(b, post, 0x08, Name::DP);
-    let x = with_slot(page, post, 0x10, Name::X);
-    let y = with_slot(x, post, 0x20, Name::Y);
-    let pointer = with_slot(y, post, 0x40, other);
-    with_slot(pointer, post, 0x80, Name::PC)
+    let text = with_slot(text, post, 0x01, Name::CC);
+    let text = with_slot(text, post, 0x02, Name::A);
+    let text = with_slot(text, post, 0x04, Name::B);
+    let text = with_slot(text, post, 0x08, Name::DP);
+    let text = with_slot(text, post, 0x10, Name::X);
+    let text = with_slot(text, post, 0x20, Name::Y);
+    let text = with_slot(text, post, 0x40, other);
+    with_slot(text, post, 0x80, Name::PC)
 }

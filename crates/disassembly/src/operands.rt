@@ -8,7 +8,7 @@ ghost use Rattle.disassembly.specs.Operands.{immediate_byte, memory_byte_text, b
 use super::figures::{with_long_offset, with_number, with_short_offset, with_target, with_word};
 use super::names::{with_index, with_list, with_name, with_transfer};
 use decode::{Form, Indexed, Instruction, Operand};
-use opcodes::{Entry, MemoryOp, Mode, Op, RegisterOp};
+use opcodes::{MemoryOp, Mode, Op, RegisterOp};
 use registers::Name;
 use text::Text;
 
@@ -16,25 +16,21 @@ use text::Text;
 pub fn names_two(op: RegisterOp) -> bool
     ensures { result ≡ names_two op }
 {
-    match op {
-        RegisterOp::Exg | RegisterOp::Tfr => true,
-        _ => false,
-    }
+    matches!(op, RegisterOp::Exg | RegisterOp::Tfr)
 }
 
 // #$12
 fn immediate_byte(b: u8) -> Text
     ensures { result ≡ text_of (immediate_byte b) }
 {
-    with_number(text::with_byte(text::empty(), b'#'), b)
+    with_number(Text::empty().with_byte(b'#'), b)
 }
 
 fn memory_byte(op: MemoryOp, b: u8) -> Text
     ensures { result ≡ text_of (memory_byte_text op b) }
 {
     match op {
-        MemoryOp::Push(stack) => with_list(text::empty(), stack, b),
-        MemoryOp::Pull(stack) => with_list(text::empty(), stack, b),
+        MemoryOp::Push(stack) | MemoryOp::Pull(stack) => with_list(Text::empty(), stack, b),
         _ => immediate_byte(b),
     }
 }
@@ -45,7 +41,7 @@ fn byte_operand(op: Op, b: u8) -> Text
     match op {
         Op::Registers(on) => {
             if names_two(on) {
-                with_transfer(text::empty(), b)
+                with_transfer(Text::empty(), b)
             } else {
                 immediate_byte(b)
             }
@@ -59,11 +55,8 @@ fn immediate(mem: &[u8], mode: Mode, op: Op, at: u16) -> Text
 {
     match mode {
         Mode::Immediate8 => byte_operand(op, memory::read_u8(mem, at)),
-        Mode::Immediate16 => with_word(
-            text::with_byte(text::empty(), b'#'),
-            memory::read_u16(mem, at),
-        ),
-        _ => text::empty(),
+        Mode::Immediate16 => with_word(Text::empty().with_byte(b'#'), memory::read_u16(mem, at)),
+        _ => Text::empty(),
     }
 }
 
@@ -71,8 +64,8 @@ fn immediate(mem: &[u8], mode: Mode, op: Op, at: u16) -> Text
 fn with_program(text: Text, next: u32, n: u16) -> Text
     ensures { result ≡ grown text (program_text next n) }
 {
-    let target = text::with_byte(with_target(text, next, n), b',');
-    text::with_byte(text::with_byte(text::with_byte(target, b'P'), b'C'), b'R')
+    let target = with_target(text, next, n).with_byte(b',');
+    target.with_byte(b'P').with_byte(b'C').with_byte(b'R')
 }
 
 // A form, before indirection: the offset n, the index register, the next instruction's address.
@@ -80,24 +73,19 @@ fn with_form(text: Text, form: Form, n: u16, index: Name, next: u32) -> Text
     ensures { result ≡ grown text (form_text form n index next) }
 {
     match form {
-        Form::Offset5 => with_index(with_short_offset(text, n), index),
-        Form::Increment1 => text::with_byte(with_index(text, index), b'+'),
-        Form::Increment2 => {
-            text::with_byte(text::with_byte(with_index(text, index), b'+'), b'+')
-        }
-        Form::Decrement1 => with_name(text::with_byte(text::with_byte(text, b','), b'-'), index),
+        Form::Offset5 | Form::Offset8 => with_index(with_short_offset(text, n), index),
+        Form::Increment1 => with_index(text, index).with_byte(b'+'),
+        Form::Increment2 => { with_index(text, index).with_byte(b'+').with_byte(b'+') }
+        Form::Decrement1 => with_name(text.with_byte(b',').with_byte(b'-'), index),
         Form::Decrement2 => {
-            let once = text::with_byte(text::with_byte(text, b','), b'-');
-            with_name(text::with_byte(once, b'-'), index)
+            with_name(text.with_byte(b',').with_byte(b'-').with_byte(b'-'), index)
         }
         Form::NoOffset => with_index(text, index),
-        Form::OffsetB => with_index(text::with_byte(text, b'B'), index),
-        Form::OffsetA => with_index(text::with_byte(text, b'A'), index),
-        Form::Offset8 => with_index(with_short_offset(text, n), index),
+        Form::OffsetB => with_index(text.with_byte(b'B'), index),
+        Form::OffsetA => with_index(text.with_byte(b'A'), index),
         Form::Offset16 => with_index(with_long_offset(text, n), index),
-        Form::OffsetD => with_index(text::with_byte(text, b'D'), index),
-        Form::Program8 => with_program(text, next, n),
-        Form::Program16 => with_program(text, next, n),
+        Form::OffsetD => with_index(text.with_byte(b'D'), index),
+        Form::Program8 | Form::Program16 => with_program(text, next, n),
         Form::Address => with_word(text, n),
     }
 }
@@ -106,30 +94,25 @@ fn with_form(text: Text, form: Form, n: u16, index: Name, next: u32) -> Text
 fn indexed(ix: Indexed, next: u32) -> Text
     ensures { result ≡ text_of (indexed_text ix next) }
 {
-    let form = ix.form;
-    let offset = ix.offset;
     let index = decode::index_of(ix.post).word().name();
     if decode::is_indirect(ix.post) {
-        let open = text::with_byte(text::empty(), b'[');
-        return text::with_byte(with_form(open, form, offset, index, next), b']');
+        let open = Text::empty().with_byte(b'[');
+        with_form(open, ix.form, ix.offset, index, next).with_byte(b']')
+    } else {
+        with_form(Text::empty(), ix.form, ix.offset, index, next)
     }
-    with_form(text::empty(), form, offset, index, next)
 }
 
 fn operand_text(mem: &[u8], i: Instruction) -> Text
     ensures { result ≡ text_of (operand_text i mem.now) }
 {
-    let entry = i.entry;
-    let operand = i.operand;
-    let mode = entry.mode;
-    let op = entry.op;
-    match operand {
-        Operand::Inherent => text::empty(),
-        Operand::Immediate(at) => immediate(mem, mode, op, at),
-        Operand::Direct(low) => with_number(text::with_byte(text::empty(), b'<'), low),
+    match i.operand {
+        Operand::Inherent => Text::empty(),
+        Operand::Immediate(at) => immediate(mem, i.entry.mode, i.entry.op, at),
+        Operand::Direct(low) => with_number(Text::empty().with_byte(b'<'), low),
         Operand::Indexed(ix) => indexed(ix, i.next),
-        Operand::Extended(at) => with_word(text::empty(), at),
-        Operand::Relative(offset) => with_target(text::empty(), i.next, offset),
+        Operand::Extended(at) => with_word(Text::empty(), at),
+        Operand::Relative(offset) => with_target(Text::empty(), i.next, offset),
     }
 }
 

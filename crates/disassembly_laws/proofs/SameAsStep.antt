@@ -1,5 +1,6 @@
 -- From the laws of a step's refusals and of decoding, by the cases of what was decoded.
 -- Assumes nothing.
+use Rattle.std.specs.Prelude.{Err, None, Ok, Option, Result, Some}
 use Prim.Native.Nat.{ℕ, ◌+◌, ◌-◌, ◌<◌}
 use mathlib.Core.Path.{◌≡◌, refl, sym, ap, subst, ◌∙◌}
 use mathlib.Core.Bool.{Bool, true, false, cond, not, ◌&&◌, ◌||◌}
@@ -33,27 +34,20 @@ use Rattle.opcodes.specs.declared.Op.{Op}
 use Rattle.opcodes.specs.declared.Op.TheVariants.{Registers, Memory}
 use Rattle.opcodes.specs.declared.Page.{Page}
 use Rattle.opcodes.specs.declared.Page.TheVariants.{Plain, Ten, Eleven}
-use Rattle.opcodes.specs.declared.Place.{Place}
-use Rattle.opcodes.specs.declared.Place.TheVariants.{Instruction as InManual, None}
 use Rattle.opcodes.specs.declared.RegisterOp.{RegisterOp}
 use Rattle.opcodes.proofs.Rows.{alike}
 use Rattle.decode.specs.Decode.{decoded_at}
 use Rattle.decode.specs.Laws.{RefusedSo}
 use Rattle.decode.specs.Operand.{operand_at}
 use Rattle.decode.specs.Origin.{Origin, OriginOf}
-use Rattle.decode.specs.declared.instruction.Decoded.{Decoded}
-use Rattle.decode.specs.declared.instruction.Decoded.TheVariants.{Instruction as Taken, Refused as NotDecoded}
 use Rattle.decode.specs.declared.instruction.Instruction.{Instruction}
 use Rattle.decode.specs.declared.operand.Operand.TheVariants.{Immediate as ByValue}
-use Rattle.decode.specs.declared.operand.OperandRead.{OperandRead}
-use Rattle.decode.specs.declared.operand.OperandRead.TheVariants.{Operand as Read, Refused as NotRead}
 use Rattle.decode.proofs.CutShort.{bytes-refused}
 use Rattle.decode.proofs.Formless.{post-byte-refused}
 use Rattle.decode.proofs.Laws.{decoding-number, decode-refuses, opcode-refused}
 use Rattle.decode.proofs.Origin.{decode-origin}
 use Rattle.addressing.specs.Address.{effective_of, resolved_of}
 use Rattle.addressing.specs.declared.Addressed.{Addressed}
-use Rattle.addressing.specs.declared.Resolved.TheVariants.{At as Resolves, Refused as NoAddress}
 use Rattle.operations.specs.Refusals.{names_two, code_refused}
 use Rattle.operations.specs.Transfers.{transferable}
 use Rattle.stack.specs.Pushing.{order, chosen}
@@ -62,9 +56,9 @@ use Rattle.refusals.specs.Steps.{Runs, NextPast, Met, StepRefused, Answers}
 use Rattle.refusals.proofs.Steps.{steps-refused}
 use Rattle.disassembly.specs.Names.{name_text, slot_text, list_text}
 use Rattle.disassembly.specs.Disassembly.{immediate_at, taken_as_step, judged_from, legible, answered, disassembled_of}
-use Rattle.disassembly.specs.declared.Disassembled.TheVariants.{Line, Refused}
 use Rattle.disassembly.proofs.Spans.{one-to-five}
 use Rattle.disassembly_laws.specs.SameAsStep.{number_of_line, OfInstruction, SameAsStep, DisassemblesAsStep, TargetOfStep, comma_between, ListsWhatIsPulled}
+use Rattle.decode.specs.declared.operand.Operand.{Operand}
 
 pub target-of-step : TargetOfStep
 target-of-step r next n = mod-add-mod next 65536 n
@@ -98,8 +92,8 @@ fit : Op → Mode → Bool
 fit (Registers op) mode = not (names_two op) || is_immediate mode
 fit (Memory op) mode = true
 
-place_fit : Place → Bool
-place_fit (InManual e) = fit e.op e.mode
+place_fit : Option Entry → Bool
+place_fit (Some e) = fit e.op e.mode
 place_fit None = true
 
 all_fit : (page : Page) → values (λ (code : ℕ). place_fit (entry_of page code)) 0 256 ≡ values (λ (code : ℕ). true) 0 256
@@ -108,17 +102,17 @@ all_fit Plain = refl
 all_fit Ten = refl
 all_fit Eleven = refl
 
-entry-fits : (page : Page) (code : ℕ) (e : Entry) → code < 256 → entry_of page code ≡ InManual e → fit e.op e.mode ≡ true
+entry-fits : (page : Page) (code : ℕ) (e : Entry) → code < 256 → entry_of page code ≡ Some e → fit e.op e.mode ≡ true
 unfolding place_fit
 entry-fits page code e l p =
-    subst (λ (q : Place). place_fit q ≡ true) p (alike (λ (code : ℕ). place_fit (entry_of page code)) (λ (code : ℕ). true) 256 (all_fit page) code l)
+    subst (λ (q : Option Entry). place_fit q ≡ true) p (alike (λ (code : ℕ). place_fit (entry_of page code)) (λ (code : ℕ). true) 256 (all_fit page) code l)
 
 -- an immediate operand is its own address
-abbrev ByAddress : OperandRead → Type 0
-ByAddress (Read o next) = (mem : List ℕ) (r : Set) (n : ℕ) → (effective_of o mem r n).ea ≡ immediate_at o
-ByAddress (NotRead x) = Unit {0}
+abbrev ByAddress : Result (Operand × ℕ) Refusal → Type 0
+ByAddress (Ok (o, next)) = (mem : List ℕ) (r : Set) (n : ℕ) → (effective_of o mem r n).ea ≡ immediate_at o
+ByAddress (Err x) = Unit {0}
 
-tested : (t : Bool) (at next : ℕ) → ByAddress (cond t (Read (ByValue at) next) (NotRead PastEnd))
+tested : (t : Bool) (at next : ℕ) → ByAddress (cond t (Ok (ByValue at, next)) (Err PastEnd))
 tested true at next = λ mem r n. refl
 tested false at next = tt
 
@@ -156,11 +150,11 @@ module _ (mem : List ℕ) (r : Set) (i : Instruction) (o : Origin mem i) where
 -- ---- the number of a disassembly, by what was decoded
 
 module _ (mem : List ℕ) (at room : ℕ) where
-  abbrev our : Decoded → ℕ
+  abbrev our : Result Instruction Refusal → ℕ
   our d = number_of_line (answered at room (judged_from mem d))
 
   abbrev last : ℕ → Bool → ℕ
-  last n t = number_of_line (cond t (Refused LineShort) (Line n))
+  last n t = number_of_line (cond t (Err LineShort) (Ok n))
 
   short : (n : ℕ) (t : Bool) → (last n t ≡ number_of LineShort) ⊎ (last n t ≡ 0)
   short n true = inl refl
@@ -168,9 +162,9 @@ module _ (mem : List ℕ) (at room : ℕ) where
 
   -- an instruction: 4 by its next address, then 7, then 25 or 0
   abbrev rest : Instruction → Bool → Bool → ℕ
-  rest i s t = number_of_line (answered at room (cond s (cond t (NotDecoded TransferCode) (Taken i)) (NotDecoded PastEnd)))
+  rest i s t = number_of_line (answered at room (cond s (cond t (Err TransferCode) (Ok i)) (Err PastEnd)))
 
-  of-taken : (i : Instruction) → our (Taken i) ≡ rest i (leb i.next 0xFFFF) (code_refused i.entry.op mem (immediate_at i.operand))
+  of-taken : (i : Instruction) → our (Ok i) ≡ rest i (leb i.next 0xFFFF) (code_refused i.entry.op mem (immediate_at i.operand))
   unfolding taken_as_step
   of-taken i = refl
 
@@ -180,9 +174,9 @@ module _ (mem : List ℕ) (at room : ℕ) where
   among i false t = inl refl
 
   -- 3, 5 and 24
-  by-decoding : (x : Refusal) → (number_of x ≡ 4 → ⊥) → (number_of x ≡ 7 → ⊥) → (number_of x ≡ number_of LineShort → ⊥) → (number_of x ≡ 0 → ⊥) → (d : Decoded) → (our d ≡ number_of x) ↔ (d ≡ NotDecoded x)
-  by-decoding x a b c e (NotDecoded y) = (λ q. ap NotDecoded (numbers_apart y x q), λ q. let z : y ≡ x = cc in ap number_of z)
-  by-decoding x a b c e (Taken i) = (
+  by-decoding : (x : Refusal) → (number_of x ≡ 4 → ⊥) → (number_of x ≡ 7 → ⊥) → (number_of x ≡ number_of LineShort → ⊥) → (number_of x ≡ 0 → ⊥) → (d : Result Instruction Refusal) → (our d ≡ number_of x) ↔ (d ≡ Err x)
+  by-decoding x a b c e (Err y) = (λ q. ap Err (numbers_apart y x q), λ q. let z : y ≡ x = cc in ap number_of z)
+  by-decoding x a b c e (Ok i) = (
     λ q.
         let n = sym (of-taken i) ∙ q in
         absurd (⊎_elim (λ p. a (sym n ∙ p)) (λ p. ⊎_elim (λ u. b (sym n ∙ u)) (λ u. ⊎_elim (λ v. c (sym n ∙ v)) (λ v. e (sym n ∙ v)) u) p) (among i (leb i.next 0xFFFF) (code_refused i.entry.op mem (immediate_at i.operand)))),
@@ -197,9 +191,9 @@ module _ (mem : List ℕ) (at room : ℕ) where
       (λ q. absurd (⊎_elim (λ p. omega arith) (λ p. omega arith) (short (i.next - at) (ltb room 48))), λ h. absurd (omega arith))
   by_next i false e t = let l = leb-false i.next 0xFFFF e in (λ q. omega arith, λ h. refl)
 
-  by-four : (d : Decoded) → (our d ≡ 4) ↔ ((d ≡ NotDecoded PastEnd) ⊎ NextPast d)
-  by-four (NotDecoded y) = (λ q. inl (ap NotDecoded (numbers_apart y PastEnd q)), λ q. ⊎_elim (λ p. let z : y ≡ PastEnd = cc in ap number_of z) (λ p. absurd p) q)
-  by-four (Taken i) =
+  by-four : (d : Result Instruction Refusal) → (our d ≡ 4) ↔ ((d ≡ Err PastEnd) ⊎ NextPast d)
+  by-four (Err y) = (λ q. inl (ap Err (numbers_apart y PastEnd q)), λ q. ⊎_elim (λ p. let z : y ≡ PastEnd = cc in ap number_of z) (λ p. absurd p) q)
+  by-four (Ok i) =
       let t = code_refused i.entry.op mem (immediate_at i.operand) in
       let f = by_next i (leb i.next 0xFFFF) refl t in
       (λ q. inr (f.0 (sym (of-taken i) ∙ q)), λ q. ⊎_elim (λ p. no cc) (λ p. of-taken i ∙ f.1 p) q)
@@ -214,14 +208,14 @@ module _ (mem : List ℕ) (r : Set) (room : ℕ) where
   abbrev test : Op → Set → ℕ → Bool
   test op q ea = code_refused op mem ea
 
-  met : (i : Instruction) → Origin mem i → (s : Bool) → leb i.next 0xFFFF ≡ s → Met (of_decoded mem r (Taken i)) test ↔ ((s ≡ true) × (code_refused i.entry.op mem (immediate_at i.operand) ≡ true))
+  met : (i : Instruction) → Origin mem i → (s : Bool) → leb i.next 0xFFFF ≡ s → Met (of_decoded mem r (Ok i)) test ↔ ((s ≡ true) × (code_refused i.entry.op mem (immediate_at i.operand) ≡ true))
   unfolding resolved_of
   met i o true e = rw e (λ q. (refl, sym (same_code mem r i o) ∙ q), λ q. same_code mem r i o ∙ q.1)
   met i o false e = rw e (λ q. absurd q, λ q. no (let z = q.0 in cc))
 
-  by-seven : (at : ℕ) (d : Decoded) → RefusedSo d → OriginOf mem d → (our mem at room d ≡ 7) ↔ Met (of_decoded mem r d) test
-  by-seven at (NotDecoded y) f o = (λ q. absurd (⊎_elim (λ p. omega arith) (λ p. omega arith) (decoding-number y f)), λ q. absurd q)
-  by-seven at (Taken i) f o =
+  by-seven : (at : ℕ) (d : Result Instruction Refusal) → RefusedSo d → OriginOf mem d → (our mem at room d ≡ 7) ↔ Met (of_decoded mem r d) test
+  by-seven at (Err y) f o = (λ q. absurd (⊎_elim (λ p. omega arith) (λ p. omega arith) (decoding-number y f)), λ q. absurd q)
+  by-seven at (Ok i) f o =
       let g = by_code mem at room i (leb i.next 0xFFFF) (code_refused i.entry.op mem (immediate_at i.operand)) in
       let h = met i o (leb i.next 0xFFFF) refl in
       (λ q. h.1 (g.0 (sym (of-taken mem at room i) ∙ q)), λ q. of-taken mem at room i ∙ g.1 (h.0 q))
@@ -260,7 +254,7 @@ module _ (mem : List ℕ) (m : Machine) (s : Settings) (room : ℕ) (b : Bytes m
   pc : ℕ
   pc = m.regs.pc
 
-  d : Decoded
+  d : Result Instruction Refusal
   d = decoded_at mem pc
 
   number : ℕ
@@ -280,7 +274,7 @@ module _ (mem : List ℕ) (m : Machine) (s : Settings) (room : ℕ) (b : Bytes m
   unfolding reached decoded_to d pc
   as-reached = rw (eq-eqb (length mem) 65536 runs.sized) (ap (λ (w : Wait). unless_waiting w mem m.regs) runs.running)
 
-  by-post-byte : (x : Refusal) → (number_of x ≡ 4 → ⊥) → (number_of x ≡ 7 → ⊥) → (number_of x ≡ number_of LineShort → ⊥) → (number_of x ≡ 0 → ⊥) → {A : Type 0} → (d ≡ NotDecoded x) ↔ A → (number ≡ number_of x) ↔ A
+  by-post-byte : (x : Refusal) → (number_of x ≡ 4 → ⊥) → (number_of x ≡ 7 → ⊥) → (number_of x ≡ number_of LineShort → ⊥) → (number_of x ≡ 0 → ⊥) → {A : Type 0} → (d ≡ Err x) ↔ A → (number ≡ number_of x) ↔ A
   by-post-byte x e f g h q = both (through (by-decoding mem pc room x e f g h d)) q
 
   three : Answers mem m s 3 ↔ (number ≡ 3)
@@ -304,30 +298,30 @@ module _ (mem : List ℕ) (m : Machine) (s : Settings) (room : ℕ) (b : Bytes m
   seven = joined (rw as-reached at step.seven) (through (by-seven mem m.regs room pc d (decode-refuses mem m.regs.pc) (decode-origin mem m.regs.pc b)))
 
   -- the next address
-  pc-after : (j i : Instruction) (r : Set) (ea : ℕ) → of_decoded mem m.regs (Taken j) ≡ At i r ea → r.pc ≡ j.next
+  pc-after : (j i : Instruction) (r : Set) (ea : ℕ) → of_decoded mem m.regs (Ok j) ≡ At i r ea → r.pc ≡ j.next
   unfolding resolved_of
   pc-after j i r ea = go (leb j.next 0xFFFF)
     where
       found : Addressed
       found = effective_of j.operand mem m.regs j.next
 
-      go : (t : Bool) → addressed j (cond t (Resolves (record { regs = with_pc found.regs j.next; ea = found.ea })) (NoAddress PastEnd)) ≡ At i r ea → r.pc ≡ j.next
+      go : (t : Bool) → addressed j (cond t (Ok (record { regs = with_pc found.regs j.next; ea = found.ea })) (Err PastEnd)) ≡ At i r ea → r.pc ≡ j.next
       go true q = let z : with_pc found.regs j.next ≡ r = cc in sym (ap (λ (x : Set). x.pc) z)
       go false q = no cc
 
-  length-of : (j : Instruction) (n : ℕ) (s t : Bool) → answered m.regs.pc room (cond s (cond t (NotDecoded TransferCode) (Taken j)) (NotDecoded PastEnd)) ≡ Line n → n ≡ j.next - m.regs.pc
+  length-of : (j : Instruction) (n : ℕ) (s t : Bool) → answered m.regs.pc room (cond s (cond t (Err TransferCode) (Ok j)) (Err PastEnd)) ≡ Ok n → n ≡ j.next - m.regs.pc
   length-of j n true false = inner (ltb room 48)
     where
-      inner : (u : Bool) → cond u (Refused LineShort) (Line (j.next - m.regs.pc)) ≡ Line n → n ≡ j.next - m.regs.pc
+      inner : (u : Bool) → cond u (Err LineShort) (Ok (j.next - m.regs.pc)) ≡ Ok n → n ≡ j.next - m.regs.pc
       inner true q = no cc
       inner false q = cc
   length-of j n true true = λ q. no cc
   length-of j n false t = λ q. no cc
 
-  next_of : (e : Decoded) → decoded_at mem m.regs.pc ≡ e → (i : Instruction) (r : Set) (ea n : ℕ) → of_decoded mem m.regs e ≡ At i r ea → answered m.regs.pc room (judged_from mem e) ≡ Line n → r.pc ≡ m.regs.pc + n
+  next_of : (e : Result Instruction Refusal) → decoded_at mem m.regs.pc ≡ e → (i : Instruction) (r : Set) (ea n : ℕ) → of_decoded mem m.regs e ≡ At i r ea → answered m.regs.pc room (judged_from mem e) ≡ Ok n → r.pc ≡ m.regs.pc + n
   unfolding taken_as_step
-  next_of (NotDecoded x) e i r ea n p q = no cc
-  next_of (Taken j) e i r ea n p q =
+  next_of (Err x) e i r ea n p q = no cc
+  next_of (Ok j) e i r ea n p q =
       let k = length-of j n (leb j.next 0xFFFF) (code_refused j.entry.op mem (immediate_at j.operand)) q in
       omega (arith, pc-after j i r ea p, k, (one-to-five mem m.regs.pc j b l e).0)
 

@@ -1,7 +1,7 @@
 -- A disassembly reads the instruction as a step does (document 02, request [7]): the same refusals, length, targets and registers. All over
 -- the definitions of both, so that what changes in decoding changes in both.
 -- Assumes nothing.
-use Rattle.std.specs.Prelude.{ℕ, ◌+◌, ◌<◌, ◌||◌, List, [], ◌∷◌, ◌++◌, reverse, ◌↔◌, ◌≡◌, T, eqb}
+use Rattle.std.specs.Prelude.{ℕ, ◌+◌, ◌<◌, ◌||◌, List, [], ◌∷◌, ◌++◌, reverse, ◌↔◌, ◌≡◌, T, eqb, Err, Ok, Result}
 use Rattle.answers.specs.Numbers.{number_of}
 use Rattle.registers.specs.declared.Name.{Name}
 use Rattle.registers.specs.declared.Set.{Set}
@@ -17,13 +17,12 @@ use Rattle.refusals.specs.Steps.{Runs, Answers}
 use Rattle.disassembly.specs.Figures.{target}
 use Rattle.disassembly.specs.Names.{name_text, comma, list_text}
 use Rattle.disassembly.specs.Disassembly.{disassembled_of}
-use Rattle.disassembly.specs.declared.Disassembled.{Disassembled}
-use Rattle.disassembly.specs.declared.Disassembled.TheVariants.{Line, Refused}
+use Rattle.answers.specs.declared.Refusal.{Refusal}
 
 -- the number that a disassembly is answered by
-abbrev pub number_of_line : Disassembled → ℕ
-number_of_line (Line n) = 0
-number_of_line (Refused x) = number_of x
+abbrev pub number_of_line : Result ℕ Refusal → ℕ
+number_of_line (Ok n) = 0
+number_of_line (Err x) = number_of x
 
 -- 3, 4, 5, 24 and 7, which decoding, the next address and the transfer codes give
 abbrev pub OfInstruction : ℕ → Type 0
@@ -34,7 +33,7 @@ pub record SameAsStep (mem : List ℕ) (m : Machine) (s : Settings) (room : ℕ)
   -- each of these refuses the disassembly exactly where it refuses the step
   pub refused : (k : ℕ) → OfInstruction k → Answers mem m s k ↔ (number_of_line (disassembled_of mem m.regs.pc room) ≡ k)
   -- where the step goes on to its operation, PC before it is the address and the length
-  pub next : (i : Instruction) (r : Set) (ea n : ℕ) → reached mem m ≡ At i r ea → disassembled_of mem m.regs.pc room ≡ Line n → r.pc ≡ m.regs.pc + n
+  pub next : (i : Instruction) (r : Set) (ea n : ℕ) → reached mem m ≡ At i r ea → disassembled_of mem m.regs.pc room ≡ Ok n → r.pc ≡ m.regs.pc + n
 
 abbrev pub DisassemblesAsStep : Type 0
 DisassemblesAsStep = (mem : List ℕ) (m : Machine) (s : Settings) (room : ℕ) → Bytes mem → m.regs.pc < 65536 → Runs mem m → SameAsStep mem m s room

@@ -2,61 +2,35 @@
 -- Assumes nothing.
 use Prim.Native.Nat.{ℕ, zero, suc, ◌+◌, ◌-◌, ◌*◌, ◌≤◌, ◌<◌}
 use mathlib.Core.Bool.{Bool, true, false, cond}
-use mathlib.Core.List.{List, [], ◌∷◌, ◌++◌, map}
-use mathlib.Core.Path.{◌≡◌, refl, sym, ap, ◌∙◌}
-use native.Mathlib.Numerals.{add-one}
+use mathlib.Core.List.{List, [], ◌∷◌, ◌++◌, append_assoc, append-nil}
+use mathlib.Core.Path.{◌≡◌, refl, sym, ap, subst, ◌∙◌}
 use native.Mathlib.Omega.{arith}
-use lib.Dec.{eqb, ltb}
-use lib.ListN.{length, get_or, drop, length-append}
-use lib.Seq.{sets, drop-cons}
-use borrow.Author.Tests.{eq-eqb, ne_eqb, lt-ltb, le-ltb}
+use lib.Dec.{ltb}
+use lib.ListN.{length, get_or, take, drop, length-append, length-drop}
+use lib.Seq.{take_all}
+use Rattle.std.proofs.lemmas.List.{take_more}
 use Rattle.text.specs.Hex.{hex2}
 use Rattle.text.specs.Lines.{line_feed}
 use Rattle.text.proofs.Stores.{sets-append}
-use Rattle.machine.specs.Record.{Field, A, B, X, Y, U, S, PC, DP, CC, Waiting, Armed, Cycles, Instructions, fields, rank, width, bytes, counter}
-use Rattle.difference.proofs.Turns.{rank-at}
+use Rattle.machine.specs.Record.{Field, A, B, X, Y, U, S, PC, DP, CC, Waiting, Armed, Cycles, Instructions, bytes, counter}
+use Rattle.machine.proofs.Header.{length-counter}
 use Rattle.difference.specs.declared.entries.Entry.{Entry}
 use Rattle.registers.specs.ConditionCodes.{ascii}
-use Rattle.dump.specs.Told.{field_text, wait_text, mark_text, hex_bytes, hex_of, value_text, spaced_line, field_at, entry_line}
+use Rattle.dump.specs.declared.lines.Shown.{Shown}
+use Rattle.dump.specs.declared.lines.Shown.TheVariants.{Byte, Word, Counter, WaitState, Mark}
+use Rattle.dump.specs.Told.{field_text, wait_text, mark_text, hex_bytes, hex_of, value_text, spaced_line, field_at, entry_line, Wrote, name_text, shown_as, shown_at, shown_text}
 
--- ---- six parts are a line
+-- ---- one after the other
 
-module _ (name left right o₀ o₁ o₂ o₃ o₄ o₅ o₆ : List ℕ) (at n₁ n₂ n₃ n₄ n₅ n₆ : ℕ) where
-  -- each part at the place after the one before, and its length
-  pub record Six : Type 0 where
-    pub p₁ : o₁ ≡ sets o₀ at name
-    pub l₁ : n₁ ≡ length name
-    pub p₂ : o₂ ≡ sets o₁ (at + n₁) (32 ∷ [])
-    pub l₂ : n₂ ≡ 1
-    pub p₃ : o₃ ≡ sets o₂ (at + n₁ + n₂) left
-    pub l₃ : n₃ ≡ length left
-    pub p₄ : o₄ ≡ sets o₃ (at + n₁ + n₂ + n₃) (32 ∷ [])
-    pub l₄ : n₄ ≡ 1
-    pub p₅ : o₅ ≡ sets o₄ (at + n₁ + n₂ + n₃ + n₄) right
-    pub l₅ : n₅ ≡ length right
-    pub p₆ : o₆ ≡ sets o₅ (at + n₁ + n₂ + n₃ + n₄ + n₅) (line_feed ∷ [])
-    pub l₆ : n₆ ≡ 1
+pub put-then : {out one two xs ys : List ℕ} {at middle end : ℕ} → Wrote out at xs middle one → Wrote one middle ys end two → Wrote out at (xs ++ ys) end two
+put-then {out} {one} {two} {xs} {ys} {at} {middle} {end} p q =
+    record {
+      ends = q.ends ∙ rw (p.ends, length-append xs ys) (omega arith);
+      laid = q.laid ∙ rw (p.ends, p.laid) (sym (sets-append out xs ys at));
+    }
 
-  parts : sets o₀ at (spaced_line name left right)
-      ≡ sets (sets (sets (sets (sets (sets o₀ at name) (at + length name) (32 ∷ [])) (at + length name + 1) left) (at + length name + 1 + length left) (32 ∷ [])) (at + length name + 1 + length left + 1) right) (at + length name + 1 + length left + 1 + length right) (line_feed ∷ [])
-  unfolding spaced_line
-  parts =
-      let q₁ = sets o₀ at name in
-      let q₂ = sets q₁ (at + length name) (32 ∷ []) in
-      let q₃ = sets q₂ (at + length name + 1) left in
-      let q₄ = sets q₃ (at + length name + 1 + length left) (32 ∷ []) in
-      sets-append o₀ name (32 ∷ left ++ (32 ∷ right ++ (line_feed ∷ []))) at
-      ∙ sets-append q₁ (32 ∷ []) (left ++ (32 ∷ right ++ (line_feed ∷ []))) (at + length name)
-      ∙ sets-append q₂ left (32 ∷ right ++ (line_feed ∷ [])) (at + length name + 1)
-      ∙ sets-append q₃ (32 ∷ []) (right ++ (line_feed ∷ [])) (at + length name + 1 + length left)
-      ∙ sets-append q₄ right (line_feed ∷ []) (at + length name + 1 + length left + 1)
-
-  pub line-put : Six → o₆ ≡ sets o₀ at (spaced_line name left right)
-  line-put s = s.p₆ ∙ rw (s.p₅, s.p₄, s.p₃, s.p₂, s.p₁, s.l₁, s.l₂, s.l₃, s.l₄, s.l₅) (sym parts)
-
-  pub line-long : Six → at + n₁ + n₂ + n₃ + n₄ + n₅ + n₆ - at ≡ length (spaced_line name left right)
-  unfolding spaced_line
-  line-long s = rw (length-append name (32 ∷ left ++ (32 ∷ right ++ (line_feed ∷ []))), length-append left (32 ∷ right ++ (line_feed ∷ [])), length-append right (line_feed ∷ [])) (omega (arith, s.l₁, s.l₂, s.l₃, s.l₄, s.l₅, s.l₆))
+pub part-is : {out new xs ys : List ℕ} {at end : ℕ} → xs ≡ ys → Wrote out at xs end new → Wrote out at ys end new
+part-is {out} {new} {xs} {ys} {at} {end} e p = subst (λ (l : List ℕ). Wrote out at l end new) e p
 
 -- ---- hexadecimal
 
@@ -84,10 +58,21 @@ pub low-bytes : (n x : ℕ) → n ≤ 8 → hex_bytes (drop (8 - n) (counter x))
 unfolding counter hex_of
 low-bytes n x h = let e : 8 ≡ 8 - n + n = omega arith in ap hex_bytes (ap (λ (m : ℕ). drop (8 - n) (bytes m x)) e ∙ last-bytes (8 - n) n x)
 
--- a byte more
-pub hex-more : (l out : List ℕ) (k at : ℕ) → k < length l → sets (sets out at (hex2 (get_or l k 0))) (at + 2) (hex_bytes (drop (k + 1) l)) ≡ sets out at (hex_bytes (drop k l))
+-- the last bytes of a counter
+pub low-part : (n x : ℕ) (b : List ℕ) → b ≡ counter x → n ≤ 8 → hex_bytes (take n (drop (8 - n) b)) ≡ hex_of n x
+low-part n x b e h =
+    let z : length b ≡ 8 = ap length e ∙ length-counter x in
+    rw (take_all n (drop (8 - n) b) (rw length-drop (omega arith)), e) (low-bytes n x h)
+
+hex-append : (xs ys : List ℕ) → hex_bytes (xs ++ ys) ≡ hex_bytes xs ++ hex_bytes ys
 unfolding hex_bytes
-hex-more l out k at h = sym (rw (drop-cons l k 0 h, add-one k) (sets-append out (hex2 (get_or l k 0)) (hex_bytes (drop (suc k) l)) at))
+hex-append [] ys = refl
+hex-append (x ∷ xs) ys = rw (hex-append xs ys) (sym (append_assoc (hex2 x) (hex_bytes xs) (hex_bytes ys)))
+
+-- a byte more
+pub hex-more : (l : List ℕ) (k : ℕ) → k < length l → hex_bytes (take k l) ++ hex2 (get_or l k 0) ≡ hex_bytes (take (k + 1) l)
+unfolding hex_bytes
+hex-more l k h = rw (take_more l k 0 h, hex-append (take k l) (get_or l k 0 ∷ []), append-nil)
 
 -- ---- fields
 
@@ -102,60 +87,24 @@ sync-is zero h g = absurd (h refl)
 sync-is (suc zero) h g = absurd (g refl)
 sync-is (suc (suc n)) h g = refl
 
--- the last name, where no other is
-pub last-field : (n : ℕ) → n < 13 → (n ≡ 0 → ⊥) → (n ≡ 1 → ⊥) → (n ≡ 2 → ⊥) → (n ≡ 3 → ⊥) → (n ≡ 4 → ⊥) → (n ≡ 5 → ⊥) → (n ≡ 6 → ⊥) → (n ≡ 7 → ⊥) → (n ≡ 8 → ⊥) → (n ≡ 9 → ⊥) → (n ≡ 10 → ⊥) → (n ≡ 11 → ⊥) → n ≡ 12
-last-field zero h h0 h1 h2 h3 h4 h5 h6 h7 h8 h9 h10 h11 = absurd (h0 refl)
-last-field (suc zero) h h0 h1 h2 h3 h4 h5 h6 h7 h8 h9 h10 h11 = absurd (h1 refl)
-last-field (suc (suc zero)) h h0 h1 h2 h3 h4 h5 h6 h7 h8 h9 h10 h11 = absurd (h2 refl)
-last-field (suc (suc (suc zero))) h h0 h1 h2 h3 h4 h5 h6 h7 h8 h9 h10 h11 = absurd (h3 refl)
-last-field (suc (suc (suc (suc zero)))) h h0 h1 h2 h3 h4 h5 h6 h7 h8 h9 h10 h11 = absurd (h4 refl)
-last-field (suc (suc (suc (suc (suc zero))))) h h0 h1 h2 h3 h4 h5 h6 h7 h8 h9 h10 h11 = absurd (h5 refl)
-last-field (suc (suc (suc (suc (suc (suc zero)))))) h h0 h1 h2 h3 h4 h5 h6 h7 h8 h9 h10 h11 = absurd (h6 refl)
-last-field (suc (suc (suc (suc (suc (suc (suc zero))))))) h h0 h1 h2 h3 h4 h5 h6 h7 h8 h9 h10 h11 = absurd (h7 refl)
-last-field (suc (suc (suc (suc (suc (suc (suc (suc zero)))))))) h h0 h1 h2 h3 h4 h5 h6 h7 h8 h9 h10 h11 = absurd (h8 refl)
-last-field (suc (suc (suc (suc (suc (suc (suc (suc (suc zero))))))))) h h0 h1 h2 h3 h4 h5 h6 h7 h8 h9 h10 h11 = absurd (h9 refl)
-last-field (suc (suc (suc (suc (suc (suc (suc (suc (suc (suc zero)))))))))) h h0 h1 h2 h3 h4 h5 h6 h7 h8 h9 h10 h11 = absurd (h10 refl)
-last-field (suc (suc (suc (suc (suc (suc (suc (suc (suc (suc (suc zero))))))))))) h h0 h1 h2 h3 h4 h5 h6 h7 h8 h9 h10 h11 = absurd (h11 refl)
-last-field (suc (suc (suc (suc (suc (suc (suc (suc (suc (suc (suc (suc zero)))))))))))) h h0 h1 h2 h3 h4 h5 h6 h7 h8 h9 h10 h11 = refl
-last-field (suc (suc (suc (suc (suc (suc (suc (suc (suc (suc (suc (suc (suc n))))))))))))) h h0 h1 h2 h3 h4 h5 h6 h7 h8 h9 h10 h11 = absurd (omega arith)
+-- a value is shown by its field
+shown-is : (f : Field) (n : ℕ) → shown_text (shown_as f) n ≡ value_text f n
+unfolding shown_text value_text
+shown-is A n = refl
+shown-is B n = refl
+shown-is X n = refl
+shown-is Y n = refl
+shown-is U n = refl
+shown-is S n = refl
+shown-is PC n = refl
+shown-is DP n = refl
+shown-is CC n = refl
+shown-is Waiting n = refl
+shown-is Armed n = refl
+shown-is Cycles n = refl
+shown-is Instructions n = refl
 
--- widths by place
-width-in : (fs : List Field) (k : ℕ) → k < length fs → get_or (map width fs) k 0 ≡ width (get_or fs k A)
-width-in [] k h = absurd (omega arith)
-width-in (f ∷ fs) zero h = refl
-width-in (f ∷ fs) (suc k) h = width-in fs k (omega arith)
-
-pub width-at : (k : ℕ) → k < 13 → get_or (1 ∷ 1 ∷ 2 ∷ 2 ∷ 2 ∷ 2 ∷ 2 ∷ 1 ∷ 1 ∷ 1 ∷ 1 ∷ 8 ∷ 8 ∷ []) k 0 ≡ width (field_at k)
-width-at k h = width-in fields k h
-
-pub width_small : (f : Field) → width f ≤ 8
-width_small A = omega arith
-width_small B = omega arith
-width_small X = omega arith
-width_small Y = omega arith
-width_small U = omega arith
-width_small S = omega arith
-width_small PC = omega arith
-width_small DP = omega arith
-width_small CC = omega arith
-width_small Waiting = omega arith
-width_small Armed = omega arith
-width_small Cycles = omega arith
-width_small Instructions = omega arith
-
-pub value-wait : (k n : ℕ) → k < 13 → k ≡ 9 → wait_text n ≡ value_text (field_at k) n
-unfolding value_text
-value-wait k n h e = rw (rank-at k h, eq-eqb k 9 e)
-
-pub value-mark : (k n : ℕ) → k < 13 → (k ≡ 9 → ⊥) → k ≡ 10 → mark_text n ≡ value_text (field_at k) n
-unfolding value_text
-value-mark k n h d e = rw (rank-at k h, ne_eqb k 9 d, eq-eqb k 10 e)
-
-pub value-hex : (k n : ℕ) → k < 13 → (k ≡ 9 → ⊥) → (k ≡ 10 → ⊥) → hex_of (width (field_at k)) n ≡ value_text (field_at k) n
-unfolding value_text
-value-hex k n h d e = rw (rank-at k h, ne_eqb k 9 d, ne_eqb k 10 e)
-
-pub name-short : (f : Field) → length (field_text f) ≤ 12
+name-short : (f : Field) → length (field_text f) ≤ 12
 name-short A = omega arith
 name-short B = omega arith
 name-short X = omega arith
@@ -181,41 +130,39 @@ unfolding mark_text
 mark-short zero = omega arith
 mark-short (suc n) = omega arith
 
-either-short : (s t : Bool) (a b c : List ℕ) → length a ≤ 16 → length b ≤ 16 → length c ≤ 16 → length (cond s a (cond t b c)) ≤ 16
-either-short true t a b c p q r = p
-either-short false true a b c p q r = q
-either-short false false a b c p q r = r
+pub shown-short : (s : Shown) (n : ℕ) → length (shown_text s n) ≤ 16
+unfolding shown_text
+shown-short Byte n = omega (arith, hex-of-length 1 n)
+shown-short Word n = omega (arith, hex-of-length 2 n)
+shown-short Counter n = omega (arith, hex-of-length 8 n)
+shown-short WaitState n = omega (arith, wait-short n)
+shown-short Mark n = omega (arith, mark-short n)
 
-pub value-short : (f : Field) (n : ℕ) → length (value_text f n) ≤ 16
-unfolding value_text
-value-short f n =
-    either-short (eqb (rank f) (rank Waiting)) (eqb (rank f) (rank Armed)) (wait_text n) (mark_text n) (hex_of (width f) n)
-    (omega (arith, wait-short n))
-    (omega (arith, mark-short n))
-    (omega (arith, hex-of-length (width f) n, width_small f))
+either-short : (t : Bool) (a b : List ℕ) → length a ≤ 12 → length b ≤ 12 → length (cond t a b) ≤ 12
+either-short true a b p q = p
+either-short false a b p q = q
+
+pub named-short : (what : ℕ) → length (name_text what) ≤ 12
+named-short what = either-short (ltb what 13) (field_text (field_at what)) (ascii "memory") (name-short (field_at what)) (omega arith)
 
 -- ---- an entry's line
 
-pub field-line : (e : Entry) → e.what < 13 → spaced_line (field_text (field_at e.what)) (value_text (field_at e.what) e.left) (value_text (field_at e.what) e.right) ≡ entry_line e
-unfolding entry_line
-field-line e h = rw (lt-ltb e.what 13 h)
+by-kind : (t : Bool) (f : Field) (x y : ℕ)
+    → spaced_line (cond t (field_text f) (ascii "memory")) (shown_text (cond t (shown_as f) Word) x) (shown_text (cond t (shown_as f) Word) y)
+    ≡ cond t (spaced_line (field_text f) (value_text f x) (value_text f y)) (spaced_line (ascii "memory") (hex_of 2 x) (hex_of 2 y))
+unfolding shown_text
+by-kind true f x y = ap (λ (l : List ℕ). spaced_line (field_text f) l (shown_text (shown_as f) y)) (shown-is f x) ∙ ap (λ (l : List ℕ). spaced_line (field_text f) (value_text f x) l) (shown-is f y)
+by-kind false f x y = refl
 
-pub run-line : (e : Entry) → 13 ≤ e.what → spaced_line (ascii "memory") (hex_of 2 e.left) (hex_of 2 e.right) ≡ entry_line e
+pub line-is : (e : Entry) → spaced_line (name_text e.what) (shown_text (shown_at e.what) e.left) (shown_text (shown_at e.what) e.right) ≡ entry_line e
 unfolding entry_line
-run-line e h = rw (le-ltb e.what 13 h)
-
-either-line : (t : Bool) (a b : List ℕ) → length a ≤ 48 → length b ≤ 48 → length (cond t a b) ≤ 48
-either-line true a b p q = p
-either-line false a b p q = q
+line-is e = by-kind (ltb e.what 13) (field_at e.what) e.left e.right
 
 with-short : (name left right : List ℕ) → length name ≤ 12 → length left ≤ 16 → length right ≤ 16 → length (spaced_line name left right) ≤ 48
 unfolding spaced_line
 with-short name left right p q r = rw (length-append name (32 ∷ left ++ (32 ∷ right ++ (line_feed ∷ []))), length-append left (32 ∷ right ++ (line_feed ∷ [])), length-append right (line_feed ∷ [])) (omega arith)
 
 pub line-short : (e : Entry) → length (entry_line e) ≤ 48
-unfolding entry_line
 line-short e =
-    let f = field_at e.what in
-    either-line (ltb e.what 13) (spaced_line (field_text f) (value_text f e.left) (value_text f e.right)) (spaced_line (ascii "memory") (hex_of 2 e.left) (hex_of 2 e.right))
-    (with-short (field_text f) (value_text f e.left) (value_text f e.right) (name-short f) (value-short f e.left) (value-short f e.right))
-    (with-short (ascii "memory") (hex_of 2 e.left) (hex_of 2 e.right) (omega arith) (omega (arith, hex-of-length 2 e.left)) (omega (arith, hex-of-length 2 e.right)))
+    let s = shown_at e.what in
+    rw (← line-is e) (with-short (name_text e.what) (shown_text s e.left) (shown_text s e.right) (named-short e.what) (shown-short s e.left) (shown-short s e.right))

@@ -1,15 +1,16 @@
 -- A dump is written in four parts, judged by its length, wait state and mark, and reads back.
 -- Assumes nothing.
+use Rattle.std.specs.Prelude.{Result, Err, Ok}
 use Prim.Native.Nat.{ℕ, suc, ◌+◌, ◌-◌, ◌*◌, ◌/◌, ◌%◌, ◌^◌, ◌≤◌, ◌<◌}
 use mathlib.Core.Bool.{Bool, true, false, ◌&&◌}
-use mathlib.Core.List.{List, ◌++◌, append-nil}
+use mathlib.Core.List.{List, ◌++◌}
 use mathlib.Core.Path.{◌≡◌, refl, sym, ◌∙◌}
 use native.Mathlib.Omega.{arith}
 use lib.Dec.{ltb}
-use lib.ListN.{length, get_or, take, drop, length-append, length-drop, drop_of_length-le}
-use lib.Seq.{sets, sets-eq, take_all, drop_at}
+use lib.ListN.{length, get_or, take, drop, length-append, length-drop}
+use lib.Seq.{sets, take_all, drop_at}
 use borrow.Author.Tests.{eq-eqb, ne_eqb, lt-ltb, le-ltb, eqb-true}
-use Rattle.answers.specs.declared.Answer.TheVariants.{Done}
+use Rattle.answers.specs.declared.Refusal.{Refusal}
 use Rattle.answers.specs.declared.Refusal.TheVariants.{MemoryLength, Malformed, OutputShort}
 use Rattle.text.proofs.Stores.{sets-append}
 use Rattle.memory.specs.Fits.{Bytes}
@@ -19,9 +20,7 @@ use Rattle.machine.specs.declared.Machine.{Machine}
 use Rattle.machine.specs.declared.Wait.{Wait}
 use Rattle.machine.specs.declared.Wait.TheVariants.{Running, Cwai, Sync}
 use Rattle.machine.proofs.Header.{single, header-in-parts, length_front, length-counter, length-header, header-back}
-use Rattle.dump.specs.Dumps.{dump_of, dump_length, is_dump, memory_in, not_dumped, dumped, output_dumped, not_undumped, undumped, memory_undumped, DumpBack}
-use Rattle.dump.specs.declared.Dumped.{Dumped}
-use Rattle.dump.specs.declared.Undumped.{Undumped}
+use Rattle.dump.specs.Dumps.{dump_of, dump_length, is_dump, memory_in, dumped, output_dumped, undumped, memory_undumped, DumpBack}
 
 -- ---- written
 
@@ -39,18 +38,18 @@ module _ (m : Machine) (mem out : List ℕ) where
       → d ≡ sets out 0 (dump_of m mem)
   dump-parts a b c d p q r s = s ∙ rw (r, q, p) (sym in_four)
 
-  abbrev Wrote : Dumped → List ℕ → Type 0
-  Wrote r new = (r ≡ dumped mem out) × (new ≡ output_dumped m mem out)
+  abbrev Ended : Result ℕ Refusal → List ℕ → Type 0
+  Ended r new = (r ≡ dumped mem out) × (new ≡ output_dumped m mem out)
 
-  pub write-length : (length mem ≡ 65536 → ⊥) → Wrote (not_dumped MemoryLength) out
+  pub write-length : (length mem ≡ 65536 → ⊥) → Ended (Err MemoryLength) out
   unfolding dumped output_dumped
   write-length h = rw (ne_eqb (length mem) 65536 h) (refl, refl)
 
-  pub write-short : length mem ≡ 65536 → length out < dump_length → Wrote (not_dumped OutputShort) out
+  pub write-short : length mem ≡ 65536 → length out < dump_length → Ended (Err OutputShort) out
   unfolding dumped output_dumped
   write-short h g = rw (eq-eqb (length mem) 65536 h, lt-ltb (length out) dump_length g) (refl, refl)
 
-  pub write_done : length mem ≡ 65536 → dump_length ≤ length out → (new : List ℕ) → new ≡ sets out 0 (dump_of m mem) → Wrote (record { count = dump_length; answer = Done }) new
+  pub write_done : length mem ≡ 65536 → dump_length ≤ length out → (new : List ℕ) → new ≡ sets out 0 (dump_of m mem) → Ended (Ok dump_length) new
   unfolding dumped output_dumped
   write_done h g new e = rw (eq-eqb (length mem) 65536 h, le-ltb (length out) dump_length g) (refl, e)
 
@@ -75,28 +74,25 @@ dump-length d h = eqb-true (length d) dump_length (and_left _ _ h)
 -- ---- read
 
 module _ (d mem : List ℕ) where
-  abbrev Read : Undumped → List ℕ → Type 0
+  abbrev Read : Result Machine Refusal → List ℕ → Type 0
   Read r new = (r ≡ undumped d mem) × (new ≡ memory_undumped d mem)
 
-  pub read_length : (length mem ≡ 65536 → ⊥) → Read (not_undumped MemoryLength) mem
+  pub read_length : (length mem ≡ 65536 → ⊥) → Read (Err MemoryLength) mem
   unfolding undumped memory_undumped
   read_length h = rw (ne_eqb (length mem) 65536 h) (refl, refl)
 
-  pub read-malformed : length mem ≡ 65536 → is_dump d ≡ false → Read (not_undumped Malformed) mem
+  pub read-malformed : length mem ≡ 65536 → is_dump d ≡ false → Read (Err Malformed) mem
   unfolding undumped memory_undumped
   read-malformed h g = rw (eq-eqb (length mem) 65536 h, g) (refl, refl)
 
-  -- the part of a dump from its memory on, which takes the place of all bytes
-  over : length d ≡ dump_length → length mem ≡ 65536 → sets mem 0 (take (length d - 32) (drop 32 d)) ≡ memory_in d
-  over h g =
-      let w : take (length d - 32) (drop 32 d) ≡ drop 32 d = take_all (length d - 32) (drop 32 d) (rw length-drop (omega arith)) in
-      let n : length (drop 32 d) ≡ 65536 = length-drop 32 d ∙ omega arith in
-      rw (w, sets-eq (drop 32 d) mem 0 (omega arith), drop_of_length-le mem {i = 0 + length (drop 32 d)} (omega arith), append-nil)
+  -- the part of a dump from its memory on
+  pub part-is : length d ≡ dump_length → take (length d - 32) (drop 32 d) ≡ memory_in d
+  part-is h = take_all (length d - 32) (drop 32 d) (rw length-drop (omega arith))
 
-  pub read_done : length mem ≡ 65536 → is_dump d ≡ true → (m : Machine) (new : List ℕ) → m ≡ machine_of d → new ≡ sets mem 0 (take (length d - 32) (drop 32 d))
-      → Read (record { machine = m; answer = Done }) new
+  pub read_done : length mem ≡ 65536 → is_dump d ≡ true → (m : Machine) (new : List ℕ) → m ≡ machine_of d → new ≡ take (length d - 32) (drop 32 d)
+      → Read (Ok m) new
   unfolding undumped memory_undumped
-  read_done h g m new p q = rw (eq-eqb (length mem) 65536 h, g, p) (refl, q ∙ over (dump-length d g) h)
+  read_done h g m new p q = rw (eq-eqb (length mem) 65536 h, g, p) (refl, q ∙ part-is (dump-length d g))
 
 -- ---- what is written reads back
 

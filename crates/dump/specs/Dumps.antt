@@ -1,15 +1,12 @@
 -- A dump: the machine's fields in the record's order, numbers high byte first, and then the 65,536 bytes of memory (docs/COMPARE.md).
 -- Assumes nothing.
-use Rattle.std.specs.Prelude.{ℕ, ◌+◌, Bool, true, cond, ◌&&◌, List, ◌++◌, ◌≡◌, eqb, ltb, length, drop}
+use Rattle.std.specs.Prelude.{ℕ, ◌+◌, Bool, true, cond, ◌&&◌, List, ◌++◌, ◌≡◌, Result, Err, Ok, eqb, ltb, length, drop}
 use Rattle.std.proofs.lemmas.List.Edits.{sets}
-use Rattle.answers.specs.declared.Answer.TheVariants.{Done, Refused}
 use Rattle.answers.specs.declared.Refusal.{Refusal}
 use Rattle.answers.specs.declared.Refusal.TheVariants.{MemoryLength, Malformed, OutputShort}
-use Rattle.machine.specs.Machine.{MachineFits, fresh}
+use Rattle.machine.specs.Machine.{MachineFits}
 use Rattle.machine.specs.Record.{Waiting, Armed, header, header_length, held, machine_of}
 use Rattle.machine.specs.declared.Machine.{Machine}
-use Rattle.dump.specs.declared.Dumped.{Dumped}
-use Rattle.dump.specs.declared.Undumped.{Undumped}
 
 unfoldable pub dump_of : Machine → List ℕ → List ℕ
 dump_of m mem = header m ++ mem
@@ -25,31 +22,25 @@ is_dump d = eqb (length d) dump_length && (ltb (held Waiting d) 3 && ltb (held A
 abbrev pub memory_in : List ℕ → List ℕ
 memory_in d = drop header_length d
 
--- ---- written: the answer, and the output afterwards
+-- ---- written: the answer, which is how many bytes are written, and the output afterwards
 
-abbrev pub not_dumped : Refusal → Dumped
-not_dumped x = record { count = 0; answer = Refused x }
-
-unfoldable pub dumped : List ℕ → List ℕ → Dumped
+unfoldable pub dumped : List ℕ → List ℕ → Result ℕ Refusal
 dumped mem out =
     cond (eqb (length mem) 65536)
-    (cond (ltb (length out) dump_length) (not_dumped OutputShort) (record { count = dump_length; answer = Done }))
-    (not_dumped MemoryLength)
+    (cond (ltb (length out) dump_length) (Err OutputShort) (Ok dump_length))
+    (Err MemoryLength)
 
 unfoldable pub output_dumped : Machine → List ℕ → List ℕ → List ℕ
 output_dumped m mem out =
     cond (eqb (length mem) 65536) (cond (ltb (length out) dump_length) out (sets out 0 (dump_of m mem))) out
 
--- ---- read: the machine, which is a fresh one where it is refused, and memory afterwards
+-- ---- read: the answer, which is the machine, and memory afterwards
 
-abbrev pub not_undumped : Refusal → Undumped
-not_undumped x = record { machine = fresh; answer = Refused x }
-
-unfoldable pub undumped : List ℕ → List ℕ → Undumped
+unfoldable pub undumped : List ℕ → List ℕ → Result Machine Refusal
 undumped d mem =
     cond (eqb (length mem) 65536)
-    (cond (is_dump d) (record { machine = machine_of d; answer = Done }) (not_undumped Malformed))
-    (not_undumped MemoryLength)
+    (cond (is_dump d) (Ok (machine_of d)) (Err Malformed))
+    (Err MemoryLength)
 
 unfoldable pub memory_undumped : List ℕ → List ℕ → List ℕ
 memory_undumped d mem = cond (eqb (length mem) 65536) (cond (is_dump d) (memory_in d) mem) mem

@@ -1,7 +1,8 @@
 -- What is printed of two dumps: a line for each entry of their differences. A field has its name and both values, a run its first and its last
 -- address. The wait state and the mark are words, every other number is hexadecimal, two digits for each byte that the record has for it.
 -- Assumes nothing.
-use Rattle.std.specs.Prelude.{ℕ, zero, suc, ◌*◌, ◌≤◌, cond, ◌&&◌, List, [], ◌∷◌, ◌++◌, eqb, ltb, length, get_or, take, drop}
+use Rattle.std.specs.Prelude.{ℕ, zero, suc, ◌+◌, ◌*◌, ◌≤◌, ◌≡◌, cond, ◌&&◌, List, [], ◌∷◌, ◌++◌, eqb, ltb, length, get_or, take, drop}
+use Rattle.std.proofs.lemmas.List.Edits.{sets}
 use Rattle.answers.specs.Numbers.{number_of}
 use Rattle.answers.specs.declared.Refusal.TheVariants.{Malformed}
 use Rattle.text.specs.Hex.{hex2}
@@ -11,6 +12,8 @@ use Rattle.machine.specs.Record.{Field, A, B, X, Y, U, S, PC, DP, CC, Waiting, A
 use Rattle.difference.specs.Differences.{Difference, differences}
 use Rattle.difference.specs.Compare.{run_number, as_entry, entry_at}
 use Rattle.difference.specs.declared.entries.Entry.{Entry}
+use Rattle.dump.specs.declared.lines.Shown.{Shown}
+use Rattle.dump.specs.declared.lines.Shown.TheVariants.{Byte, Word, Counter, WaitState, Mark}
 use Rattle.dump.specs.Dumps.{dump_length, is_dump, memory_in}
 
 -- ---- words
@@ -76,6 +79,43 @@ told_lines (d ∷ ds) = entry_line (as_entry d) ++ told_lines ds
 unfoldable pub list_lines : List ℕ → ℕ → ℕ → List ℕ
 list_lines list zero k = []
 list_lines list (suc n) k = entry_line (entry_at list k) ++ list_lines list n (suc k)
+
+-- ---- as it is written
+
+-- a part at a place: where it ends, and the output afterwards
+pub record Wrote (out : List ℕ) (at : ℕ) (part : List ℕ) (end : ℕ) (after : List ℕ) : Type 0 where
+  pub ends : end ≡ at + length part
+  pub laid : after ≡ sets out at part
+
+-- an entry's name, and how its two numbers are shown
+
+abbrev pub name_text : ℕ → List ℕ
+name_text what = cond (ltb what run_number) (field_text (field_at what)) (ascii "memory")
+
+abbrev pub shown_as : Field → Shown
+shown_as A = Byte
+shown_as B = Byte
+shown_as X = Word
+shown_as Y = Word
+shown_as U = Word
+shown_as S = Word
+shown_as PC = Word
+shown_as DP = Byte
+shown_as CC = Byte
+shown_as Waiting = WaitState
+shown_as Armed = Mark
+shown_as Cycles = Counter
+shown_as Instructions = Counter
+
+abbrev pub shown_at : ℕ → Shown
+shown_at what = cond (ltb what run_number) (shown_as (field_at what)) Word
+
+unfoldable pub shown_text : Shown → ℕ → List ℕ
+shown_text Byte n = hex_of 1 n
+shown_text Word n = hex_of 2 n
+shown_text Counter n = hex_of 8 n
+shown_text WaitState n = wait_text n
+shown_text Mark n = mark_text n
 
 -- ---- two dumps, one after the other; where one is none, the number 16
 

@@ -27,10 +27,8 @@ fn put_lines(list: &[u8], count: usize, out: &mut [u8]) -> usize
     ensures { (result ≡ length (list_lines list.now count 0)) × (out.new ≡ sets out.old 0 (list_lines list.now count 0)) }
 {
     let mut at = 0;
-    let mut k = 0;
-    while k < count {
-        at += put_line(out, at, difference::entry_at(list, k));
-        k += 1;
+    for k in 0..count {
+        at = put_line(out, at, difference::entry_at(list, k));
     }
     at
 }
@@ -47,9 +45,11 @@ fn put_differences(left: &[u8], right: &[u8], out: &mut [u8]) -> usize
         &right[HEADER..],
         &mut list,
     );
-    put_lines(&list, compared.count, out)
+    let Ok(count) = compared else { unreachable!() };
+    put_lines(&list, count, out)
 }
 
+// Each crate that prints has this line for itself: `text` knows no refusals.
 fn put_refusal(out: &mut [u8]) -> usize
     ensures { (result ≡ length (alone (number_of Malformed))) × (out.new ≡ sets out.old 0 (alone (number_of Malformed))) }
 {
@@ -60,16 +60,8 @@ fn put_refusal(out: &mut [u8]) -> usize
 pub fn tell(input: &[u8], out: &mut [u8]) -> usize
     ensures { (result ≡ length (differences_told input.now)) × (out.new ≡ sets out.old 0 (differences_told input.now)) }
 {
-    if input.len() < DUMP {
-        return put_refusal(out);
+    match input.split_at_checked(DUMP) {
+        Some((left, right)) if is_dump(left) && is_dump(right) => put_differences(left, right, out),
+        _ => put_refusal(out),
     }
-    let left = &input[..DUMP];
-    let right = &input[DUMP..];
-    if !is_dump(left) {
-        return put_refusal(out);
-    }
-    if !is_dump(right) {
-        return put_refusal(out);
-    }
-    put_differences(left, right, out)
 }

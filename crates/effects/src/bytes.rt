@@ -5,10 +5,10 @@ ghost use Rattle.operations.specs.EightBit.{alu_of, unary_of, on_operand, on_acc
 use machine::Effect;
 use opcodes::{Acc, Alu, Unary};
 use operations::{accumulator, one_write, with_accumulator, with_codes};
-use registers::{CCBits, Flags, Out8, Set};
+use registers::{CCBits, Flags, Out, Set};
 
 // CMP and BIT are SUB and AND whose result is not kept.
-fn operate(flags: Flags, op: Alu, cc: CCBits, a: u8, m: u8) -> Out8
+fn operate(flags: Flags, op: Alu, cc: CCBits, a: u8, m: u8) -> Out<u8>
     ensures { result ≡ alu_of op flags cc a m }
 {
     match op {
@@ -16,12 +16,12 @@ fn operate(flags: Flags, op: Alu, cc: CCBits, a: u8, m: u8) -> Out8
         Alu::Adc => whole::add(cc, a, m, true, flags),
         Alu::Sub => whole::subtract(cc, a, m, false, flags),
         Alu::Sbc => whole::subtract(cc, a, m, true, flags),
-        Alu::Cmp => Out8 {
+        Alu::Cmp => Out {
             cc: whole::compare(cc, a, m),
             value: a,
         },
         Alu::And => whole::and(cc, a, m),
-        Alu::Bit => Out8 {
+        Alu::Bit => Out {
             cc: whole::test(cc, a & m),
             value: a,
         },
@@ -31,7 +31,7 @@ fn operate(flags: Flags, op: Alu, cc: CCBits, a: u8, m: u8) -> Out8
     }
 }
 
-pub fn changed(flags: Flags, op: Unary, cc: CCBits, m: u8) -> Out8
+pub fn changed(flags: Flags, op: Unary, cc: CCBits, m: u8) -> Out<u8>
     ensures { result ≡ unary_of op flags cc m }
 {
     match op {
@@ -51,15 +51,15 @@ pub fn changed(flags: Flags, op: Unary, cc: CCBits, m: u8) -> Out8
 pub fn with_operand(flags: Flags, op: Alu, acc: Acc, regs: Set, m: u8) -> Set
     ensures { result ≡ on_operand op acc flags regs m }
 {
-    let cc = regs.cc;
-    with_accumulator(regs, acc, operate(flags, op, cc, accumulator(regs, acc), m))
+    let a = accumulator(regs, acc);
+    with_accumulator(regs, acc, operate(flags, op, regs.cc, a, m))
 }
 
 pub fn on_accumulator(flags: Flags, op: Unary, acc: Acc, regs: Set) -> Set
     ensures { result ≡ on_accumulator op acc flags regs }
 {
-    let cc = regs.cc;
-    with_accumulator(regs, acc, changed(flags, op, cc, accumulator(regs, acc)))
+    let a = accumulator(regs, acc);
+    with_accumulator(regs, acc, changed(flags, op, regs.cc, a))
 }
 
 pub fn test(regs: Set, m: u8) -> Set
@@ -72,8 +72,7 @@ pub fn on_memory(flags: Flags, op: Unary, mem: &[u8], regs: Set, ea: u16) -> Eff
     ensures { result ≡ on_memory op flags mem.now regs ea }
 {
     let out = changed(flags, op, regs.cc, memory::read_u8(mem, ea));
-    let after = with_codes(regs, out.cc);
-    Effect::stores(after, one_write(ea, out.value))
+    Effect::stores(with_codes(regs, out.cc), one_write(ea, out.value))
 }
 
 pub fn store(regs: Set, acc: Acc, ea: u16) -> Effect

@@ -19,6 +19,7 @@ pub fn sign_extend(regs: Set) -> Set
     with_codes(regs, out.cc).with_word(Word::D, out.value)
 }
 
+// Beside `sign_extend`: the two part in one call, and a closure for it would be as long.
 pub fn multiply(regs: Set) -> Set
     ensures { result ≡ mul_of regs }
 {

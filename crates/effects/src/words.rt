@@ -1,4 +1,5 @@
 // Operations on words: LD, ST, CMP, ADDD, SUBD, LEA.
+// `test` and `store` stand beside those of bytes: each line of them calls what has its size, so that one for both would be no shorter.
 ghost use Rattle.std.specs.Prelude.{◌≡◌};
 ghost use Rattle.operations.specs.Words.{tested16, with_zero, load16, store16, compare16, add_d, subtract_d, load_address};
 
@@ -42,6 +43,7 @@ pub fn add_to_d(mem: &[u8], regs: Set, ea: u16) -> Set
     with_codes(regs, out.cc).with_word(Word::D, out.value)
 }
 
+// Beside `add_to_d`: the two part in one call, and a closure for it would be as long.
 pub fn subtract_from_d(mem: &[u8], regs: Set, ea: u16) -> Set
     ensures { result ≡ subtract_d mem.now regs ea }
 {
@@ -60,10 +62,9 @@ fn with_zero(regs: Set, ea: u16) -> Set
 pub fn load_address(regs: Set, index: Index, ea: u16) -> Set
     ensures { result ≡ load_address index regs ea }
 {
-    match index {
-        Index::X => with_zero(regs, ea).with_word(Word::X, ea),
-        Index::Y => with_zero(regs, ea).with_word(Word::Y, ea),
-        Index::U => regs.with_word(Word::U, ea),
-        Index::S => regs.with_word(Word::S, ea),
-    }
+    let tested = match index {
+        Index::X | Index::Y => with_zero(regs, ea),
+        Index::U | Index::S => regs,
+    };
+    tested.with_word(index.word(), ea)
 }

@@ -1,5 +1,6 @@
 -- H stays but for ADD, ADC and the operations that write CC.
 -- Assumes nothing.
+use Rattle.std.specs.Prelude.{Err, Ok, Result, ⊤}
 use Prim.Native.Nat.{ℕ, ◌/◌, ◌%◌, ◌^◌}
 use mathlib.Core.Bool.{Bool, true, false, cond, ◌||◌, true≢false}
 use mathlib.Core.List.{List, [], ◌∷◌}
@@ -7,8 +8,6 @@ use mathlib.Core.Path.{◌≡◌, refl, ap, ◌∙◌}
 use native.Mathlib.Omega.{arith}
 use lib.Bits.{bit_or, or_shr, or_mod, or_zero_r}
 use lib.Dec.{eqb, ltb}
-use Rattle.answers.specs.declared.Answer.{Answer}
-use Rattle.answers.specs.declared.Answer.TheVariants.{Done, Refused as NotDone}
 use Rattle.answers.specs.declared.Refusal.TheVariants.{TransferCode, StackTooSmall, Fenced, ZeroAtVector}
 use Rattle.u8oru16.specs.Negated.{sign_extended}
 use Rattle.u8oru16.specs.Value.{value_of}
@@ -25,7 +24,6 @@ use Rattle.registers.specs.declared.Index.{Index}
 use Rattle.registers.specs.declared.Index.TheVariants.{X as LEAX, Y as LEAY, U as LEAU, S as LEAS}
 use Rattle.registers.specs.declared.Name.{Name}
 use Rattle.registers.specs.declared.Name.TheVariants.{A, B, D, X, Y, U, S as SP, PC, DP}
-use Rattle.registers.specs.declared.Out8.{Out8}
 use Rattle.registers.specs.declared.Set.{Set}
 use Rattle.registers.specs.declared.Stack.{Stack}
 use Rattle.registers.specs.declared.Stack.TheVariants.{S}
@@ -58,8 +56,6 @@ use Rattle.operations.specs.EightBit.{accumulator, with_accumulator, alu_of, una
 use Rattle.operations.specs.Inherent.{daa_flags, sex_flags}
 use Rattle.operations.specs.Transfers.{transferable, transfer_name, transfer, exchange}
 use Rattle.operations.specs.Words.{tested16, load16, store16, compare16, add_d, subtract_d, load_address}
-use Rattle.operations.specs.declared.Changed.{Changed}
-use Rattle.operations.specs.declared.Changed.TheVariants.{After, Refused}
 use Rattle.stack.specs.Frames.{stacked_by, framed}
 use Rattle.stack.specs.Pushing.{bytes_pushed, pushed, once_pushed, jumped_to_subroutine}
 use Rattle.stack.proofs.Kept.{is_other, other-written, pull-keeps-codes}
@@ -68,6 +64,8 @@ use Rattle.vectors.specs.Table.{address_of, masks_of, is_entire, software_vector
 use Rattle.vectors.specs.declared.table.Vector.{Vector}
 use Rattle.evaluate.specs.Evaluate.{effect_of}
 use Rattle.evaluate.specs.HalfCarry.{half_carries, registers_change_h, HalfCarryAlone}
+use Rattle.answers.specs.declared.Refusal.{Refusal}
+use Rattle.registers.specs.declared.Out.{Out}
 
 -- H in r is as in the codes cc
 abbrev Same : CCBits → CCBits → Type 0
@@ -100,7 +98,7 @@ module _ (s : Flags) (cc : CCBits) where
   unary-same Inc m = kept s INC cc m 0 H refl
   unary-same Clr m = stays H cc ((N := false) ∷ (Z := true) ∷ («V» := false) ∷ (C := false) ∷ []) refl
 
-in-accumulator : (acc : Acc) (out : Out8) (r : Set) → Same out.cc r.cc → Same (with_accumulator acc out r).cc r.cc
+in-accumulator : (acc : Acc) (out : Out ℕ) (r : Set) → Same out.cc r.cc → Same (with_accumulator acc out r).cc r.cc
 in-accumulator AccA out r h = h
 in-accumulator AccB out r h = h
 
@@ -114,9 +112,9 @@ with-word r word_u n = refl
 with-word r word_s n = refl
 
 -- a change of registers
-abbrev Leaves : Set → Changed → Type 0
-Leaves r (After q) = Same q.cc r.cc
-Leaves r (Refused x) = Unit {0}
+abbrev Leaves : Set → Result Set Refusal → Type 0
+Leaves r (Ok q) = Same q.cc r.cc
+Leaves r (Err x) = Unit {0}
 
 -- ---- TFR and EXG
 
@@ -144,7 +142,7 @@ module _ (r : Set) (m : ℕ) where
   unfolding transfer
   transferred e = go (transferable m)
     where
-      go : (b : Bool) → Leaves r (cond b (After (written r (transfer_name (m % 16)) (read r (transfer_name (m / 16))))) (Refused TransferCode))
+      go : (b : Bool) → Leaves r (cond b (Ok (written r (transfer_name (m % 16)) (read r (transfer_name (m / 16))))) (Err TransferCode))
       go true = ap (flag H) (other-written r (transfer_name (m % 16)) (read r (transfer_name (m / 16))) (name-other (m % 16) e))
       go false = tt
 
@@ -161,7 +159,7 @@ module _ (r : Set) (m : ℕ) where
       second = transfer_name (m % 16)
 
       go : (b : Bool) → is_other first ≡ true → is_other second ≡ true
-          → Leaves r (cond b (After (written (written r first (read r second)) second (read r first))) (Refused TransferCode))
+          → Leaves r (cond b (Ok (written (written r first (read r second)) second (read r first))) (Err TransferCode))
       go true f g = ap (flag H) (other-written (written r first (read r second)) second (read r first) g ∙ other-written r first (read r second) f)
       go false f g = tt
 
@@ -202,9 +200,9 @@ changed-leaves Orcc s mem r ea e = absurd (true≢false e)
 changed-leaves Exg s mem r ea e = exchanged r (byte_at mem ea) e
 changed-leaves Tfr s mem r ea e = transferred r (byte_at mem ea) e
 
-of-change : (r : Set) (c : Changed) → Leaves r c → Same (effect_of r c).regs.cc r.cc
-of-change r (After q) h = h
-of-change r (Refused x) h = refl
+of-change : (r : Set) (c : Result Set Refusal) → Leaves r c → Same (effect_of r c).regs.cc r.cc
+of-change r (Ok q) h = h
+of-change r (Err x) h = refl
 
 -- ---- stacks and vectors
 
@@ -212,9 +210,9 @@ either : (r : Set) (b : Bool) (e f : Effect) → Same e.regs.cc r.cc → Same f.
 either r true e f h k = h
 either r false e f h k = k
 
-once : (r : Set) (a : Answer) (e : Effect) → Same e.regs.cc r.cc → Same (once_pushed r a e).regs.cc r.cc
-once r Done e h = h
-once r (NotDone x) e h = refl
+once : (r : Set) (a : Result ⊤ Refusal) (e : Effect) → Same e.regs.cc r.cc → Same (once_pushed r a e).regs.cc r.cc
+once r (Ok u) e h = h
+once r (Err x) e h = refl
 
 push-same : (r : Set) (own : Stack) (mask : ℕ) (system : Bool) → Same (pushed r own mask system).regs.cc r.cc
 unfolding pushed

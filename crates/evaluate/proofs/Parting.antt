@@ -1,5 +1,6 @@
 -- The two settings part in a whole instruction in V alone, exactly where they part in its operation.
 -- Assumes nothing.
+use Rattle.std.specs.Prelude.{Result}
 use Prim.Native.Nat.{ℕ}
 use mathlib.Core.Path.{refl}
 use Rattle.registers.specs.declared.Set.{Set}
@@ -10,11 +11,11 @@ use Rattle.opcodes.specs.declared.Op.TheVariants.{Registers, Memory}
 use Rattle.opcodes.specs.declared.RegisterOp.{RegisterOp}
 use Rattle.opcodes.specs.declared.Unary.{Unary}
 use Rattle.operations.specs.Parting.{PartInV, ChangedPart, both-after, both-refused, EffectsPart, UnaryParts, OpParts}
-use Rattle.operations.specs.declared.Changed.{Changed}
 use Rattle.operations.proofs.Parting.{same-effects, changes-part, on-memory-parts}
 use Rattle.vectors.specs.Service.{vectored}
 use Rattle.evaluate.specs.Evaluate.{effect_of}
 use Rattle.evaluate.specs.Parting.{InstructionParts, on-registers, on-memory, InstructionsPart}
+use Rattle.answers.specs.declared.Refusal.{Refusal}
 
 -- the same parting, where the case is named otherwise
 pub renamed : {r q : Set} {C D : Type 0} → PartInV r q C → (C → D) → (D → C) → PartInV r q D
@@ -31,7 +32,7 @@ renamed p f g = record {
   exactly = (λ h. f (p.exactly.0 h), λ k. p.exactly.1 (g k));
 }
 
-of-change : {C D : Type 0} (r : Set) (c d : Changed) → ChangedPart C c d → (C → D) → (D → C) → EffectsPart (effect_of r c) (effect_of r d) D
+of-change : {C D : Type 0} (r : Set) (c d : Result Set Refusal) → ChangedPart C c d → (C → D) → (D → C) → EffectsPart (effect_of r c) (effect_of r d) D
 of-change r c d (both-after p) f g = record { writes = refl; wait = refl; answer = refl; registers = renamed p f g }
 of-change r c d (both-refused n) f g = same-effects refl (λ k. n (g k))
 

@@ -1,5 +1,6 @@
 -- 8 is given exactly where a stack pointer is too small: the numbers of each subject's refusals say so.
 -- Assumes nothing.
+use Rattle.std.specs.Prelude.{Err, Ok, Result}
 use Prim.Native.Nat.{ℕ}
 use mathlib.Core.Bool.{Bool, true, false, not, cond, ◌&&◌}
 use mathlib.Core.List.{List}
@@ -21,8 +22,6 @@ use Rattle.operations.specs.Change.{changed_of}
 use Rattle.operations.specs.Refusals.{number_of_changed, names_two}
 use Rattle.operations.specs.Transfers.{transferable}
 use Rattle.operations.specs.Words.{store16}
-use Rattle.operations.specs.declared.Changed.{Changed}
-use Rattle.operations.specs.declared.Changed.TheVariants.{After, Refused}
 use Rattle.operations.proofs.Refusals.{change-refuses-exactly}
 use Rattle.stack.specs.Frames.{framed}
 use Rattle.stack.specs.Pushing.{bytes_pushed, jumped_to_subroutine}
@@ -34,6 +33,7 @@ use Rattle.vectors.specs.declared.table.Vector.{Vector}
 use Rattle.vectors.proofs.Laws.{vectors-refuse-exactly}
 use Rattle.evaluate.specs.Evaluate.{effect_of}
 use Rattle.evaluate.specs.Room.{SmallExactly}
+use Rattle.answers.specs.declared.Refusal.{Refusal}
 
 -- the number of a refusal is 8, or another
 abbrev is_eight : ℕ → Bool
@@ -59,9 +59,9 @@ of-service mem s r v =
     (other (bars s frame) 28 (zero_number after v) refl (other (eqb (byte_at after (word_at after (address_of v))) 0) 9 0 refl refl))
 
 -- a change of registers has the number of its refusal
-numbered : (r : Set) (c : Changed) → number_of_answer (effect_of r c).answer ≡ number_of_changed c
-numbered r (After q) = refl
-numbered r (Refused x) = refl
+numbered : (r : Set) (c : Result Set Refusal) → number_of_answer (effect_of r c).answer ≡ number_of_changed c
+numbered r (Ok q) = refl
+numbered r (Err x) = refl
 
 pub small-exactly : SmallExactly
 unfolding on_memory store16

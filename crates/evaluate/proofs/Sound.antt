@@ -1,5 +1,6 @@
 -- Every operation is sound, since those of its subject are.
 -- Assumes nothing.
+use Rattle.std.specs.Prelude.{Err, Ok, Result}
 use mathlib.Core.Bool.{false}
 use Rattle.registers.specs.declared.Set.{Set}
 use Rattle.registers.specs.declared.Stack.TheVariants.{S}
@@ -10,8 +11,6 @@ use Rattle.opcodes.specs.declared.MemoryOp.TheVariants.{OnMemory, Store8, Store1
 use Rattle.opcodes.specs.declared.Op.TheVariants.{Registers, Memory}
 use Rattle.operations.specs.Change.{changed_of}
 use Rattle.operations.specs.Sound.{Sound, ChangedFits}
-use Rattle.operations.specs.declared.Changed.{Changed}
-use Rattle.operations.specs.declared.Changed.TheVariants.{After, Refused}
 use Rattle.operations.proofs.Sound.{changed-sound, refused-sound, on-memory-sound, store8-sound, store16-sound}
 use Rattle.operations.proofs.Widths.{changes-fit}
 use Rattle.stack.proofs.Sound.{stack-sound}
@@ -19,10 +18,11 @@ use Rattle.vectors.specs.Table.{software_vector}
 use Rattle.vectors.proofs.Sound.{vectors-sound}
 use Rattle.evaluate.specs.Evaluate.{effect_of}
 use Rattle.evaluate.specs.Sound.{EvaluatedSound}
+use Rattle.answers.specs.declared.Refusal.{Refusal}
 
-of-change : {P : Type 0} (r : Set) (c : Changed) → (P → Fits r) → (P → ChangedFits c) → Sound P r Running (effect_of r c)
-of-change r (After q) h f = changed-sound r q f
-of-change r (Refused x) h f = refused-sound r h x
+of-change : {P : Type 0} (r : Set) (c : Result Set Refusal) → (P → Fits r) → (P → ChangedFits c) → Sound P r Running (effect_of r c)
+of-change r (Ok q) h f = changed-sound r q f
+of-change r (Err x) h f = refused-sound r h x
 
 pub evaluated-sound : EvaluatedSound
 evaluated-sound (Registers op) s mem r ea = of-change r (changed_of op s.flags mem r ea) (λ g. g.registers) (changes-fit op s.flags mem r ea)

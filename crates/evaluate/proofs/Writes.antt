@@ -1,5 +1,6 @@
 -- No write is lost: a list in the twelve places is read back whole, and no operation lays down more than fits.
 -- Assumes nothing.
+use Rattle.std.specs.Prelude.{Err, Ok, Result, ⊤}
 use Prim.Native.Nat.{ℕ}
 use mathlib.Core.Bool.{Bool, true, false, cond}
 use mathlib.Core.List.{List, []}
@@ -7,8 +8,6 @@ use mathlib.Core.Path.{◌≡◌, refl, ap, ◌∙◌}
 use native.Mathlib.Omega.{arith}
 use lib.Dec.{eqb, ltb}
 use lib.ListN.{length}
-use Rattle.answers.specs.declared.Answer.{Answer}
-use Rattle.answers.specs.declared.Answer.TheVariants.{Done, Refused}
 use Rattle.answers.specs.declared.Refusal.{Refusal}
 use Rattle.answers.specs.declared.Refusal.TheVariants.{StackTooSmall, Fenced, ZeroAtVector}
 use Rattle.registers.specs.ConditionCodes.{put}
@@ -38,8 +37,6 @@ use Rattle.operations.specs.Change.{changed_of}
 use Rattle.operations.specs.Codes.{with_codes, and_codes, or_codes}
 use Rattle.operations.specs.EightBit.{on_memory}
 use Rattle.operations.specs.Words.{store16}
-use Rattle.operations.specs.declared.Changed.{Changed}
-use Rattle.operations.specs.declared.Changed.TheVariants.{After, Refused as NotChanged}
 use Rattle.stack.specs.Frames.{stacked_by, framed}
 use Rattle.stack.specs.Pushing.{registers_named, bytes_pushed, pushes, pushed, once_pushed, jumped_to_subroutine}
 use Rattle.stack.proofs.Laws.{none_dropped}
@@ -53,9 +50,10 @@ use Rattle.evaluate.proofs.Sound.{evaluated-sound}
 
 -- an effect that is carried out lists l
 abbrev Lists : Effect → List Write → Type 0
-Lists e l = e.answer ≡ Done → listed e.writes ≡ l
+Lists e l = e.answer ≡ (Ok tt) → listed e.writes ≡ l
 
-not_done : {A : Type 0} {x : Refusal} → Refused x ≡ Done → A
+-- a refusal is not done
+pub not_done : {A : Type 0} {x : Refusal} → ◌≡◌ {A = Result ⊤ Refusal} (Err x) (Ok tt) → A
 not_done e = let z : ◌≡◌ {A = ℕ} 0 1 = cc in absurd (omega arith)
 
 -- ---- parts
@@ -64,14 +62,14 @@ either : (b : Bool) (e f : Effect) (l : List Write) → Lists e l → Lists f l 
 either true e f l h k = h
 either false e f l h k = k
 
-once : (r : Set) (a : Answer) (e : Effect) (l : List Write) → (a ≡ Done → Lists e l) → Lists (once_pushed r a e) l
-once r Done e l h = h refl
-once r (Refused x) e l h = λ d. not_done d
+once : (r : Set) (a : Result ⊤ Refusal) (e : Effect) (l : List Write) → (a ≡ (Ok tt) → Lists e l) → Lists (once_pushed r a e) l
+once r (Ok u) e l h = h refl
+once r (Err x) e l h = λ d. not_done d
 
 -- a change of registers, refused or not, lists nothing
-of-change : (r : Set) (c : Changed) → listed (effect_of r c).writes ≡ []
-of-change r (After q) = listed_back []
-of-change r (NotChanged x) = listed_back []
+of-change : (r : Set) (c : Result Set Refusal) → listed (effect_of r c).writes ≡ []
+of-change r (Ok q) = listed_back []
+of-change r (Err x) = listed_back []
 
 of-push : (r : Set) (own : Stack) (mask : ℕ) (system : Bool) → Lists (pushed r own mask system) (pushes r system (word_of r (stack_word own)) (registers_named own mask))
 unfolding pushed
@@ -107,7 +105,7 @@ of-wait : (r : Set) (m : ℕ) → Lists (waiting r m) (frame_writes (and_codes r
 unfolding waiting
 of-wait r m =
     let frame = framed (and_codes r m) true in
-    once r frame.answer (record { writes = frame.writes; regs = frame.regs; wait = InCwai; answer = Done }) (frame_writes (and_codes r m) true)
+    once r frame.answer (record { writes = frame.writes; regs = frame.regs; wait = InCwai; answer = (Ok tt) }) (frame_writes (and_codes r m) true)
     (λ a d. of-frame (and_codes r m) true a)
 
 of-store : (r : Set) (w : Word) (ea : ℕ) → Lists (store16 r w ea) (word_writes ea (word_of r w) false)

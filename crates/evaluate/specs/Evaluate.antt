@@ -1,6 +1,6 @@
 -- What each operation does: settings s, memory, the registers r with PC at the next instruction, the effective address ea.
 -- Assumes nothing.
-use Rattle.std.specs.Prelude.{ℕ, false, List}
+use Rattle.std.specs.Prelude.{ℕ, false, List, Err, Ok, Result}
 use Rattle.registers.specs.declared.Set.{Set}
 use Rattle.registers.specs.declared.Stack.TheVariants.{S}
 use Rattle.memory.specs.Map.{byte_at}
@@ -14,12 +14,11 @@ use Rattle.opcodes.specs.declared.Op.TheVariants.{Registers, Memory}
 use Rattle.operations.specs.EightBit.{on_memory, store8}
 use Rattle.operations.specs.Change.{changed_of}
 use Rattle.operations.specs.Words.{store16}
-use Rattle.operations.specs.declared.Changed.{Changed}
-use Rattle.operations.specs.declared.Changed.TheVariants.{After, Refused}
 use Rattle.stack.specs.Pulling.{pulled, returned_from_interrupt}
 use Rattle.stack.specs.Pushing.{pushed, jumped_to_subroutine}
 use Rattle.vectors.specs.Service.{software}
 use Rattle.vectors.specs.Waits.{waiting, synchronized}
+use Rattle.answers.specs.declared.Refusal.{Refusal}
 
 -- the operations that may write memory, use a stack or wait; PSH and PUL have their post-byte at ea, CWAI its mask
 abbrev pub memory_of : MemoryOp → Settings → List ℕ → Set → ℕ → Effect
@@ -37,9 +36,9 @@ memory_of (Push own) s mem r ea = pushed r own (byte_at mem ea) false
 memory_of (Pull own) s mem r ea = changes (pulled mem r own (byte_at mem ea))
 
 -- a change of registers as an effect: a refusal hands back the registers that came
-abbrev pub effect_of : Set → Changed → Effect
-effect_of r (After q) = changes q
-effect_of r (Refused x) = refuses r x
+abbrev pub effect_of : Set → Result Set Refusal → Effect
+effect_of r (Ok q) = changes q
+effect_of r (Err x) = refuses r x
 
 abbrev pub evaluate_of : Op → Settings → List ℕ → Set → ℕ → Effect
 evaluate_of (Registers op) s mem r ea = effect_of r (changed_of op s.flags mem r ea)

@@ -1,7 +1,6 @@
 -- Every byte that an operation writes stands in the list of its effect: none is lost to the twelve places of that list.
 -- Assumes nothing.
-use Rattle.std.specs.Prelude.{ℕ, Bool, true, false, List, [], ◌∷◌, ◌≡◌, length}
-use Rattle.answers.specs.declared.Answer.TheVariants.{Done, Refused}
+use Rattle.std.specs.Prelude.{ℕ, Bool, true, false, List, [], ◌∷◌, ◌≡◌, length, Err, Ok}
 use Rattle.answers.specs.declared.Refusal.{Refusal}
 use Rattle.registers.specs.ConditionCodes.{put}
 use Rattle.registers.specs.Names.{stack_word}
@@ -73,9 +72,9 @@ bytes_made (Memory op) m = memory_bytes op m
 
 -- the laws: an operation that is carried out lists all of them, a refused one none; a hardware interrupt that is served lists its frame
 pub record NoneLost (op : Op) (s : Settings) (mem : List ℕ) (r : Set) (ea : ℕ) : Type 0 where
-  pub all : (evaluate_of op s mem r ea).answer ≡ Done → listed (evaluate_of op s mem r ea).writes ≡ made_by op s mem r ea
+  pub all : (evaluate_of op s mem r ea).answer ≡ (Ok tt) → listed (evaluate_of op s mem r ea).writes ≡ made_by op s mem r ea
   pub many : length (made_by op s mem r ea) ≡ bytes_made op (byte_at mem ea)
-  pub none : (x : Refusal) → (evaluate_of op s mem r ea).answer ≡ Refused x → listed (evaluate_of op s mem r ea).writes ≡ []
+  pub none : (x : Refusal) → (evaluate_of op s mem r ea).answer ≡ Err x → listed (evaluate_of op s mem r ea).writes ≡ []
 
 abbrev pub NoWriteLost : Type 0
 NoWriteLost = (op : Op) (s : Settings) (mem : List ℕ) (r : Set) (ea : ℕ) → NoneLost op s mem r ea
@@ -83,4 +82,4 @@ NoWriteLost = (op : Op) (s : Settings) (mem : List ℕ) (r : Set) (ea : ℕ) →
 abbrev pub NoFrameLost : Type 0
 NoFrameLost =
     (mem : List ℕ) (s : Settings) (r : Set) (v : Vector)
-    → (served mem s r v).answer ≡ Done → listed (served mem s r v).writes ≡ frame_writes r (is_entire v)
+    → (served mem s r v).answer ≡ (Ok tt) → listed (served mem s r v).writes ≡ frame_writes r (is_entire v)

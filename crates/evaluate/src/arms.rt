@@ -9,13 +9,7 @@ use registers::{Stack, Word};
 fn is_s(word: Word) -> bool
     ensures { result ≡ is_s word }
 {
-    match word {
-        Word::D => false,
-        Word::X => false,
-        Word::Y => false,
-        Word::U => false,
-        Word::S => true,
-    }
+    matches!(word, Word::S)
 }
 
 // In a post-byte of EXG and TFR code 4 names S.
@@ -31,6 +25,7 @@ fn transfer_arms(m: u8) -> bool
     m % 16 == 4
 }
 
+// This and `memory_arms` are two: each asks of an enum of its own, and no arm is in both, so that a trait would join nothing.
 pub fn registers_arm(op: RegisterOp, mem: &[u8], ea: u16) -> bool
     ensures { result ≡ registers_arm op (byte_at mem.now ea) }
 {

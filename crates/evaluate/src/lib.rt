@@ -1,5 +1,6 @@
 // What an instruction does: chooses the function of its operation, in `operations`, `stack` or `vectors`.
 // The registers come with PC at the next instruction and the index register changed; `ea` is the effective address.
+// Settings, memory, registers and address stay parameters: memory is lent, and the others are found one after the other.
 #![tactic(auto)]
 
 mod arms;
@@ -10,7 +11,6 @@ ghost use Rattle.evaluate.specs.Evaluate.{memory_of, evaluate_of};
 pub use arms::{memory_arms, registers_arm};
 use machine::{Effect, Settings};
 use opcodes::{MemoryOp, Op};
-use operations::Changed;
 use registers::{Set, Stack};
 use vectors::Vector;
 
@@ -19,10 +19,7 @@ pub fn evaluate_memory(op: MemoryOp, settings: Settings, mem: &[u8], regs: Set, 
     ensures { result ≡ memory_of op settings mem.now regs ea }
 {
     match op {
-        MemoryOp::OnMemory(unary) => {
-            let flags = settings.flags;
-            operations::on_memory(flags, unary, mem, regs, ea)
-        }
+        MemoryOp::OnMemory(unary) => operations::on_memory(settings.flags, unary, mem, regs, ea),
         MemoryOp::Store8(acc) => operations::store8(regs, acc, ea),
         MemoryOp::Store16(word) => operations::store16(regs, word, ea),
         MemoryOp::Bsr => stack::jump_to_subroutine(regs, ea),
@@ -42,10 +39,10 @@ pub fn evaluate(op: Op, settings: Settings, mem: &[u8], regs: Set, ea: u16) -> E
 {
     match op {
         Op::Registers(operation) => {
-            let flags = settings.flags;
-            match operations::change(operation, flags, mem, regs, ea) {
-                Changed::After(after) => Effect::changes(after),
-                Changed::Refused(refusal) => Effect::refuses(regs, refusal),
+            // An effect is no Result: a refused one gives back the registers from before. So an arm hands the refusal on, and no `?`.
+            match operations::change(operation, settings.flags, mem, regs, ea) {
+                Ok(after) => Effect::changes(after),
+                Err(refusal) => Effect::refuses(regs, refusal),
             }
         }
         Op::Memory(operation) => evaluate_memory(operation, settings, mem, regs, ea),

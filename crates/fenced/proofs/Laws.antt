@@ -1,5 +1,6 @@
 -- The laws of the fence over whole calls.
 -- Assumes nothing.
+use Rattle.std.specs.Prelude.{Err, Ok, Result, ⊤}
 use Prim.Native.Nat.{ℕ, ◌-◌, ◌<◌}
 use mathlib.Core.Bool.{Bool, true, false, not, cond, ◌&&◌, true≢false}
 use mathlib.Core.List.{List, [], ◌∷◌, ◌++◌}
@@ -9,8 +10,6 @@ use borrow.Author.Tests.{eqb-false}
 use lib.Dec.{eqb, ltb}
 use lib.ListN.{length}
 use Rattle.answers.specs.Numbers.{number_of_answer}
-use Rattle.answers.specs.declared.Answer.{Answer}
-use Rattle.answers.specs.declared.Answer.TheVariants.{Done, Refused}
 use Rattle.answers.specs.declared.Refusal.TheVariants.{MemoryLength, Fenced, ZeroAtVector}
 use Rattle.registers.specs.Fits.{Fits}
 use Rattle.registers.specs.Names.{register_size, stack_word}
@@ -70,12 +69,13 @@ use Rattle.refusals.specs.Steps.{Met}
 use Rattle.refusals.proofs.Operations.{frame-listed}
 use Rattle.refusals.proofs.Steps.{steps-refused}
 use Rattle.fenced.specs.Laws.{CallsWithin, fenced_frame, InterruptFencedExactly, AllAllowedFree, SamePlaces}
+use Rattle.answers.specs.declared.Refusal.{Refusal}
 
 -- ---- what a call stores passes the fence
 
 -- an interrupt that is served: the fence let its frame pass
 module _ (mem : List ℕ) (s : Settings) (r : Set) (frame : Effect) (v : Vector) where
-  served-passes : (vectored mem s r frame v).answer ≡ Done → bars s (listed (vectored mem s r frame v).writes) ≡ false
+  served-passes : (vectored mem s r frame v).answer ≡ (Ok tt) → bars s (listed (vectored mem s r frame v).writes) ≡ false
   unfolding vectored barred
   served-passes = go frame.answer (bars s (listed frame.writes)) refl (eqb (byte_at after pc) 0)
     where
@@ -88,23 +88,23 @@ module _ (mem : List ℕ) (s : Settings) (r : Set) (frame : Effect) (v : Vector)
       end : Effect
       end = stores (jumped (or_codes frame.regs (masks_of v)) pc) frame.writes
 
-      go : (a : Answer) (b : Bool) → bars s (listed frame.writes) ≡ b → (z : Bool)
-          → (once_pushed r a (cond b (refuses r Fenced) (cond z (refuses r ZeroAtVector) end))).answer ≡ Done
+      go : (a : Result ⊤ Refusal) (b : Bool) → bars s (listed frame.writes) ≡ b → (z : Bool)
+          → (once_pushed r a (cond b (refuses r Fenced) (cond z (refuses r ZeroAtVector) end))).answer ≡ (Ok tt)
           → bars s (listed (once_pushed r a (cond b (refuses r Fenced) (cond z (refuses r ZeroAtVector) end))).writes) ≡ false
-      go (Refused x) b e z d = refl
-      go Done true e z d = refl
-      go Done false e true d = refl
-      go Done false e false d = e
+      go (Err x) b e z d = refl
+      go (Ok u) true e z d = refl
+      go (Ok u) false e true d = refl
+      go (Ok u) false e false d = e
 
-taken-passes : (mem : List ℕ) (s : Settings) (r : Set) (v : Vector) (w : Wait) → (taken w mem s r v).answer ≡ Done → bars s (listed (taken w mem s r v).writes) ≡ false
+taken-passes : (mem : List ℕ) (s : Settings) (r : Set) (v : Vector) (w : Wait) → (taken w mem s r v).answer ≡ (Ok tt) → bars s (listed (taken w mem s r v).writes) ≡ false
 taken-passes mem s r v Running = served-passes mem s r (framed r (is_entire v)) v
 taken-passes mem s r v Sync = served-passes mem s r (framed r (is_entire v)) v
 taken-passes mem s r v Cwai = served-passes mem s r (changes r) v
 
-effect-passes : (s : Settings) (m : Machine) (n : ℕ) (e : Effect) (a : Answer) → (a ≡ Done → bars s (listed e.writes) ≡ false) → bars s (listed (of_effect m n e a).writes) ≡ false
+effect-passes : (s : Settings) (m : Machine) (n : ℕ) (e : Effect) (a : Result ⊤ Refusal) → (a ≡ (Ok tt) → bars s (listed e.writes) ≡ false) → bars s (listed (of_effect m n e a).writes) ≡ false
 unfolding barred
-effect-passes s m n e Done h = h refl
-effect-passes s m n e (Refused x) h = refl
+effect-passes s m n e (Ok u) h = h refl
+effect-passes s m n e (Err x) h = refl
 
 call_passes : (c : Call) (mem : List ℕ) (m : Machine) → bars (settings_in c) (listed (plan_of c mem m).writes) ≡ false
 unfolding step_plan interrupt_plan reset_plan barred
@@ -142,7 +142,7 @@ calls-within c mem m =
 
 -- ---- an interrupt is refused by 28 exactly there
 
-abbrev is28 : Answer → Bool
+abbrev is28 : Result ⊤ Refusal → Bool
 is28 a = eqb (number_of_answer a) 28
 
 no-28 : (zero : Bool) → eqb (cond zero 9 0) 28 ≡ false
@@ -154,9 +154,9 @@ frame-28 true g f zero h = refl
 frame-28 false true f zero h = h refl
 frame-28 false false f zero h = no-28 zero ∙ h refl
 
-answered : (m : Machine) (n : ℕ) (e : Effect) (a : Answer) → is28 (of_effect m n e a).answer ≡ is28 a
-answered m n e Done = refl
-answered m n e (Refused x) = refl
+answered : (m : Machine) (n : ℕ) (e : Effect) (a : Result ⊤ Refusal) → is28 (of_effect m n e a).answer ≡ is28 a
+answered m n e (Ok u) = refl
+answered m n e (Err x) = refl
 
 module _ (mem : List ℕ) (s : Settings) (r : Set) (v : Vector) where
   -- whether the vector leads to a zero byte

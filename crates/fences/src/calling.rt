@@ -7,6 +7,7 @@ use machine::Settings;
 use memory::Writes;
 
 // What a call leaves: the device writes, the twin, and the number.
+// The number and no Result: it is printed, 0 where the call is done.
 #[derive(Clone, Copy)]
 pub struct Called {
     pub devices: Writes,
@@ -14,6 +15,7 @@ pub struct Called {
     pub number: u8,
 }
 
+// The letters are the line's, and become an enum here.
 fn interrupt(letter: u8) -> InterruptType {
     match letter {
         b'I' => InterruptType::Irq,
@@ -22,32 +24,27 @@ fn interrupt(letter: u8) -> InterruptType {
     }
 }
 
+// Not From: `of_report` takes the twin besides, and the two are named alike.
 fn of_outcome(outcome: Outcome) -> Called {
-    let devices = outcome.devices;
-    let twin = outcome.twin;
-    let answer = outcome.answer;
     Called {
-        devices,
-        twin,
-        number: answer.number(),
+        devices: outcome.devices,
+        twin: outcome.twin,
+        number: answers::number(&outcome.answer),
     }
 }
 
 fn of_report(twin: Twin, report: Report) -> Called {
-    let devices = report.devices;
-    let machine = report.machine;
-    let answer = report.answer;
     Called {
-        devices,
+        devices: report.devices,
         twin: Twin {
-            machine,
-            records: twin.records,
-            bytes: twin.bytes,
+            machine: report.machine,
+            ..twin
         },
-        number: answer.number(),
+        number: answers::number(&report.answer),
     }
 }
 
+// Not one function with `unrecorded`: its calls take a journal and a twin, and return another struct. The letters are matched at once.
 fn recorded(
     mem: &mut [u8],
     journal: &mut [u8],

@@ -14,6 +14,7 @@ pub const OPERATIONS: usize = 96;
 
 const PROFILES: usize = 108;
 
+// Line and place stand apart: the places are those of the README's table, another in each call.
 pub fn byte_at(line: &Line, at: usize) -> u8
     requires { at + 2 ≤ 252 }
 {
@@ -51,6 +52,7 @@ fn profile_at(line: &Line, at: usize) -> [Range; 8]
     ]
 }
 
+// `second` is a value of the scene, which of its two profiles holds: it picks no step.
 fn profile(line: &Line, second: bool) -> [Range; 8] {
     if second {
         return profile_at(line, PROFILES + 72);

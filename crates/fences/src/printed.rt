@@ -1,49 +1,37 @@
 // What is printed of a call.
+// Numbers are laid at fixed places of a form of bytes, over its zeros, which Display does not do.
 ghost use Rattle.std.specs.Prelude.{◌≤◌};
 
 use super::calling::Called;
 use super::line::{Line, has_sums, word_at};
-use machine::{Machine, Wait};
+use machine::Machine;
 use memory::Writes;
 use std::io;
 
 const OUT: usize = 97;
 
 fn put_byte(out: &mut [u8], at: usize, b: u8) {
-    let digits = text::hex2(b);
-    text::put(out, at, &digits);
+    text::put(out, at, &text::hex2(b));
 }
 
 fn put_word(out: &mut [u8], at: usize, w: u16) {
-    let digits = text::hex4(w);
-    text::put(out, at, &digits);
+    text::put(out, at, &text::hex4(w));
 }
 
 // A decimal number that ends before `end`. What stands left of it, zeros, stays.
 fn put_decimal(out: &mut [u8], end: usize, n: u64) {
     let number = text::decimal(n);
-    let len = number.len;
-    if len <= end {
-        number.put(out, end - len);
-    }
-}
-
-fn wait_number(wait: Wait) -> u64 {
-    match wait {
-        Wait::Running => 0,
-        Wait::Cwai => 1,
-        Wait::Sync => 2,
+    if number.len <= end {
+        number.put(out, end - number.len);
     }
 }
 
 fn put_machine(out: &mut [u8], machine: Machine) {
     let regs = machine.regs;
-    let cc = regs.cc;
-    let wait = machine.wait;
     put_word(out, 20, regs.pc);
-    put_byte(out, 25, cc.get_as_byte());
+    put_byte(out, 25, regs.cc.get_as_byte());
     put_word(out, 28, regs.s);
-    put_decimal(out, 34, wait_number(wait));
+    put_decimal(out, 34, machine::wait_byte(machine.wait) as u64);
     put_decimal(out, 45, machine.cycles);
     put_decimal(out, 51, machine.instructions);
 }
@@ -56,17 +44,16 @@ fn put_devices(out: &mut [u8], devices: Writes) {
     put_byte(out, 17, first.byte);
 }
 
+// 0 past the end, and no Option: the line shows 00 there.
 fn byte_of(bytes: &[u8], at: usize) -> u8 {
-    if at < bytes.len() { bytes[at] } else { 0 }
+    bytes.get(at).copied().unwrap_or(0)
 }
 
 // Four bytes of memory, raw.
 fn put_view(out: &mut [u8], mem: &[u8], place: u16) {
-    let p = place as usize;
-    put_byte(out, 70, byte_of(mem, p));
-    put_byte(out, 72, byte_of(mem, p + 1));
-    put_byte(out, 74, byte_of(mem, p + 2));
-    put_byte(out, 76, byte_of(mem, p + 3));
+    for i in 0..4 {
+        put_byte(out, 70 + 2 * i, byte_of(mem, place as usize + i));
+    }
 }
 
 // Adler-32, as eight digits.
@@ -75,23 +62,19 @@ fn put_sum(out: &mut [u8], at: usize, bytes: &[u8])
 {
     let mut low: u32 = 1;
     let mut high: u32 = 0;
-    let mut i = 0;
-    while i < bytes.len() {
-        low = (low + bytes[i] as u32) % 65521;
+    for b in bytes {
+        low = (low + *b as u32) % 65521;
         high = (high + low) % 65521;
-        i += 1;
     }
     put_word(out, at, high as u16);
     put_word(out, at + 4, low as u16);
 }
 
 fn put_called(out: &mut [u8], called: Called) {
-    let devices = called.devices;
     let twin = called.twin;
-    let machine = twin.machine;
     put_decimal(out, 8, called.number as u64);
-    put_devices(out, devices);
-    put_machine(out, machine);
+    put_devices(out, called.devices);
+    put_machine(out, twin.machine);
     put_decimal(out, 60, twin.records as u64);
     put_decimal(out, 69, twin.bytes as u64);
 }

@@ -14,22 +14,21 @@ const CODE: u16 = 0x1000;
 
 // A byte put raw into memory.
 fn put_one(mem: &mut [u8], at: u16, byte: u8) {
-    let p = at as usize;
-    if p < mem.len() {
-        mem[p] = byte;
+    if let Some(b) = mem.get_mut(at as usize) {
+        *b = byte;
     }
 }
 
 // Bytes of the line.
-fn put(mem: &mut [u8], at: u16, line: &Line, from: usize, count: usize)
+fn put(mem: &mut [u8], at: u16, line: &Line, from: usize, count: u16)
     requires { from + 2 * count ≤ 252 }
 {
-    let mut place = at;
-    let mut i = 0;
-    while i < count {
-        put_one(mem, place, line::byte_at(line, from + 2 * i));
-        place = std::num::wrapping_add_u16(place, 1);
-        i += 1;
+    for i in 0..count {
+        put_one(
+            mem,
+            at.wrapping_add(i),
+            line::byte_at(line, from + 2 * i as usize),
+        );
     }
 }
 
@@ -68,12 +67,9 @@ fn turn(
 fn act_all(rt: &HostRuntime, mem: &mut [u8], journal: &mut [u8], line: &Line) -> io::Result<()> {
     let mut twin = line::twin(line);
     let mut second = false;
-    let mut i: usize = 0;
-    while i < 8 {
-        let letter = line[OPERATIONS + i];
-        second = second | (letter == b'p');
-        twin = turn(rt, mem, journal, line, twin, second, letter)?;
-        i += 1;
+    for letter in &line[OPERATIONS..OPERATIONS + 8] {
+        second = second || *letter == b'p';
+        twin = turn(rt, mem, journal, line, twin, second, *letter)?;
     }
     Ok(())
 }

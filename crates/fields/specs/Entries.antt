@@ -1,14 +1,13 @@
 -- An instruction of the opcode map: its size and base cycles follow from the page, the mode, and what the operation takes itself.
 -- Assumes nothing.
-use Rattle.std.specs.Prelude.{ℕ, ◌+◌, ◌/◌, ◌%◌, cond, [], ◌∷◌, eqb, get_or}
+use Rattle.std.specs.Prelude.{ℕ, ◌+◌, ◌/◌, ◌%◌, cond, [], ◌∷◌, eqb, get_or, None, Option}
 use Rattle.opcodes.specs.Manual.{instruction}
 use Rattle.opcodes.specs.declared.Mode.{Mode}
 use Rattle.opcodes.specs.declared.Mode.TheVariants.{Inherent, Immediate8, Immediate16, Direct, Indexed, Extended, Relative8, Relative16}
 use Rattle.opcodes.specs.declared.Op.{Op}
 use Rattle.opcodes.specs.declared.Page.{Page}
 use Rattle.opcodes.specs.declared.Page.TheVariants.{Plain, Ten, Eleven}
-use Rattle.opcodes.specs.declared.Place.{Place}
-use Rattle.opcodes.specs.declared.Place.TheVariants.{None}
+use Rattle.opcodes.specs.declared.Entry.{Entry}
 
 -- the byte before the opcode, which takes one cycle
 abbrev pub prefix_bytes : Page → ℕ
@@ -39,7 +38,7 @@ reach_cycles Relative8 = 0
 reach_cycles Relative16 = 0
 
 -- n cycles are the operation's own
-abbrev pub entry_at : Page → Op → Mode → ℕ → Place
+abbrev pub entry_at : Page → Op → Mode → ℕ → Option Entry
 entry_at page op mode n =
     instruction op mode (prefix_bytes page + 1 + operand_bytes mode) (prefix_bytes page + n + reach_cycles mode)
 
@@ -48,5 +47,5 @@ abbrev pub mode_of : ℕ → Mode → Mode
 mode_of code immediate = get_or (immediate ∷ Direct ∷ Indexed ∷ []) (code / 16 % 4) Extended
 
 -- a store has no immediate form
-abbrev pub unless_immediate : ℕ → Place → Place
+abbrev pub unless_immediate : ℕ → Option Entry → Option Entry
 unless_immediate code place = cond (eqb (code / 16 % 4) 0) None place

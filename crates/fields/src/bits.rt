@@ -3,7 +3,7 @@ ghost use Rattle.std.specs.Prelude.{◌≡◌};
 ghost use Rattle.registers.specs.ConditionCodes.{bit_at};
 ghost use Rattle.fields.specs.Entries.{mode_of, unless_immediate};
 
-use opcodes::{Mode, Place};
+use opcodes::{Entry, Mode};
 
 // Bit 6 clear: accumulator A and the words that stand with it. Bit 6 set: accumulator B and its words.
 pub fn is_second(code: u8) -> bool
@@ -25,12 +25,8 @@ pub fn mode_of(code: u8, immediate: Mode) -> Mode
 }
 
 // Nothing can be stored in an immediate operand: with bits 5 and 4 clear a store's place is empty.
-pub fn unless_immediate(code: u8, place: Place) -> Place
+pub fn unless_immediate(code: u8, place: Option<Entry>) -> Option<Entry>
     ensures { result ≡ unless_immediate code place }
 {
-    if (code >> 4) % 4 == 0 {
-        Place::None
-    } else {
-        place
-    }
+    if (code >> 4) % 4 == 0 { None } else { place }
 }

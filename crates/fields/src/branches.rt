@@ -3,7 +3,7 @@ ghost use Rattle.std.specs.Prelude.{◌≡◌};
 ghost use Rattle.fields.specs.Named.{one_of_pair, branch_condition, short_branch, long_branch};
 
 use super::entries::entry_at;
-use opcodes::{Cond, Mode, Op, Page, Place, RegisterOp};
+use opcodes::{Cond, Entry, Mode, Op, Page, RegisterOp};
 
 // Bit 0 chooses the second of a pair, which is taken exactly where the first is not.
 fn one_of_pair(column: u8, first: Cond, second: Cond) -> Cond
@@ -28,7 +28,7 @@ fn condition(column: u8) -> Cond
     }
 }
 
-pub fn short(column: u8) -> Place
+pub fn short(column: u8) -> Option<Entry>
     ensures { result ≡ short_branch column }
 {
     let op = Op::Registers(RegisterOp::Branch(condition(column)));
@@ -36,18 +36,14 @@ pub fn short(column: u8) -> Place
 }
 
 // Long branches stand after a byte 10. The one that is always taken, LBRA, has no prefix: it is 16, in row 1.
-pub fn long(page: Page, column: u8) -> Place
+pub fn long(page: Page, column: u8) -> Option<Entry>
     ensures { result ≡ long_branch page column }
 {
     match page {
-        Page::Plain => Place::None,
-        Page::Ten => {
-            if column == 0 {
-                return Place::None;
-            }
+        Page::Ten if column != 0 => {
             let op = Op::Registers(RegisterOp::Branch(condition(column)));
             entry_at(page, op, Mode::Relative16, 4)
         }
-        Page::Eleven => Place::None,
+        _ => None,
     }
 }

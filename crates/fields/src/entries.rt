@@ -2,7 +2,7 @@
 ghost use Rattle.std.specs.Prelude.{◌≡◌, ◌≤◌};
 ghost use Rattle.fields.specs.Entries.{prefix_bytes, operand_bytes, reach_cycles, entry_at};
 
-use opcodes::{Entry, Mode, Op, Page, Place};
+use opcodes::{Entry, Mode, Op, Page};
 
 // The byte 10 or 11 that stands before the opcode. It takes one cycle.
 fn prefix_bytes(page: Page) -> u8
@@ -11,8 +11,7 @@ fn prefix_bytes(page: Page) -> u8
 {
     match page {
         Page::Plain => 0,
-        Page::Ten => 1,
-        Page::Eleven => 1,
+        Page::Ten | Page::Eleven => 1,
     }
 }
 
@@ -23,13 +22,8 @@ fn operand_bytes(mode: Mode) -> u8
 {
     match mode {
         Mode::Inherent => 0,
-        Mode::Immediate8 => 1,
-        Mode::Immediate16 => 2,
-        Mode::Direct => 1,
-        Mode::Indexed => 1,
-        Mode::Extended => 2,
-        Mode::Relative8 => 1,
-        Mode::Relative16 => 2,
+        Mode::Immediate8 | Mode::Direct | Mode::Indexed | Mode::Relative8 => 1,
+        Mode::Immediate16 | Mode::Extended | Mode::Relative16 => 2,
     }
 }
 
@@ -39,24 +33,24 @@ fn reach_cycles(mode: Mode) -> u8
     ensures upper_bound { result ≤ 3 }
 {
     match mode {
-        Mode::Inherent => 0,
-        Mode::Immediate8 => 0,
-        Mode::Immediate16 => 0,
-        Mode::Direct => 2,
-        Mode::Indexed => 2,
+        Mode::Direct | Mode::Indexed => 2,
         Mode::Extended => 3,
-        Mode::Relative8 => 0,
-        Mode::Relative16 => 0,
+        Mode::Inherent
+        | Mode::Immediate8
+        | Mode::Immediate16
+        | Mode::Relative8
+        | Mode::Relative16 => 0,
     }
 }
 
 // `cycles` is what the operation takes itself.
-pub(super) fn entry_at(page: Page, op: Op, mode: Mode, cycles: u8) -> Place
+// Its bound stands in three contracts: a type for it would be named at each line that gives a number.
+pub(super) fn entry_at(page: Page, op: Op, mode: Mode, cycles: u8) -> Option<Entry>
     requires { cycles ≤ 20 }
     ensures { result ≡ entry_at page op mode cycles }
 {
     let prefix = prefix_bytes(page);
-    Place::Instruction(Entry {
+    Some(Entry {
         op,
         mode,
         size: prefix + 1 + operand_bytes(mode),

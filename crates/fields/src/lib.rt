@@ -23,10 +23,10 @@ ghost use Rattle.std.specs.Prelude.{◌≡◌};
 ghost use Rattle.opcodes.specs.Manual.{entry_of};
 ghost use Rattle.fields.specs.Fields.{plain_place, prefixed_place};
 
-use opcodes::{Acc, Mode, Page, Place};
+use opcodes::{Acc, Entry, Mode, Page};
 
 // The plain page, row by row.
-fn plain(code: u8) -> Place
+fn plain(code: u8) -> Option<Entry>
     ensures { result ≡ plain_place code }
 {
     let column = code % 16;
@@ -44,7 +44,7 @@ fn plain(code: u8) -> Place
 }
 
 // Pages 10 and 11: three groups. Bit 7 is set in rows 8 to F.
-fn prefixed(page: Page, code: u8) -> Place
+fn prefixed(page: Page, code: u8) -> Option<Entry>
     ensures { result ≡ prefixed_place page code }
 {
     if 0x80 <= code {
@@ -53,17 +53,16 @@ fn prefixed(page: Page, code: u8) -> Place
     match code >> 4 {
         0x2 => branches::long(page, code % 16),
         0x3 => named::software(page, code % 16),
-        _ => Place::None,
+        _ => None,
     }
 }
 
 // What a byte on a page stands for.
-pub fn place(page: Page, code: u8) -> Place
+pub fn place(page: Page, code: u8) -> Option<Entry>
     ensures { result ≡ entry_of page code }
 {
     match page {
         Page::Plain => plain(code),
-        Page::Ten => prefixed(page, code),
-        Page::Eleven => prefixed(page, code),
+        Page::Ten | Page::Eleven => prefixed(page, code),
     }
 }

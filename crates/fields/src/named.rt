@@ -5,17 +5,18 @@ ghost use Rattle.fields.specs.Entries.{entry_at};
 ghost use Rattle.fields.specs.Named.{row_one, address_load, stack_transfer, by_name, row_three, software_interrupt};
 
 use super::entries::entry_at;
-use opcodes::{Cond, MemoryOp, Mode, Op, Page, Place, RegisterOp, Software};
+use opcodes::{Cond, Entry, MemoryOp, Mode, Op, Page, RegisterOp, Software};
 use registers::{Index, Stack};
 
-fn on_registers(op: RegisterOp, mode: Mode, cycles: u8) -> Place
+// Two helpers: one for both would have each line below say `Op::Registers(..)` or `Op::Memory(..)`.
+fn on_registers(op: RegisterOp, mode: Mode, cycles: u8) -> Option<Entry>
     requires { cycles ≤ 20 }
     ensures { result ≡ entry_at Plain (Op.Registers op) mode cycles }
 {
     entry_at(Page::Plain, Op::Registers(op), mode, cycles)
 }
 
-fn on_memory(op: MemoryOp, mode: Mode, cycles: u8) -> Place
+fn on_memory(op: MemoryOp, mode: Mode, cycles: u8) -> Option<Entry>
     requires { cycles ≤ 20 }
     ensures { result ≡ entry_at Plain (Op.Memory op) mode cycles }
 {
@@ -23,7 +24,7 @@ fn on_memory(op: MemoryOp, mode: Mode, cycles: u8) -> Place
 }
 
 // NOP, SYNC, LBRA, LBSR, DAA, ORCC, ANDCC, SEX, EXG, TFR. 10 and 11 are prefixes and no instructions.
-pub fn row_1(column: u8) -> Place
+pub fn row_1(column: u8) -> Option<Entry>
     ensures { result ≡ row_one column }
 {
     match column {
@@ -37,36 +38,38 @@ pub fn row_1(column: u8) -> Place
         0xD => on_registers(RegisterOp::Sex, Mode::Inherent, 2),
         0xE => on_registers(RegisterOp::Exg, Mode::Immediate8, 8),
         0xF => on_registers(RegisterOp::Tfr, Mode::Immediate8, 6),
-        _ => Place::None,
+        _ => None,
     }
 }
 
 // LEA, of which bits 1 and 0 name the register: X, Y, S, U.
-fn address_load(column: u8) -> Place
+fn address_load(column: u8) -> Option<Entry>
     ensures { result ≡ address_load column }
 {
-    match column % 4 {
-        0 => on_registers(RegisterOp::Lea(Index::X), Mode::Indexed, 2),
-        1 => on_registers(RegisterOp::Lea(Index::Y), Mode::Indexed, 2),
-        2 => on_registers(RegisterOp::Lea(Index::S), Mode::Indexed, 2),
-        _ => on_registers(RegisterOp::Lea(Index::U), Mode::Indexed, 2),
-    }
+    let index = match column % 4 {
+        0 => Index::X,
+        1 => Index::Y,
+        2 => Index::S,
+        _ => Index::U,
+    };
+    on_registers(RegisterOp::Lea(index), Mode::Indexed, 2)
 }
 
 // Bit 1 chooses the stack, S or U. Bit 0: push or pull.
-fn stack_transfer(column: u8) -> Place
+fn stack_transfer(column: u8) -> Option<Entry>
     ensures { result ≡ stack_transfer column }
 {
-    match column % 4 {
-        0 => on_memory(MemoryOp::Push(Stack::S), Mode::Immediate8, 5),
-        1 => on_memory(MemoryOp::Pull(Stack::S), Mode::Immediate8, 5),
-        2 => on_memory(MemoryOp::Push(Stack::U), Mode::Immediate8, 5),
-        _ => on_memory(MemoryOp::Pull(Stack::U), Mode::Immediate8, 5),
-    }
+    let op = match column % 4 {
+        0 => MemoryOp::Push(Stack::S),
+        1 => MemoryOp::Pull(Stack::S),
+        2 => MemoryOp::Push(Stack::U),
+        _ => MemoryOp::Pull(Stack::U),
+    };
+    on_memory(op, Mode::Immediate8, 5)
 }
 
 // RTS, ABX, RTI, CWAI, MUL, SWI.
-fn by_name(column: u8) -> Place
+fn by_name(column: u8) -> Option<Entry>
     ensures { result ≡ by_name column }
 {
     match column {
@@ -76,12 +79,12 @@ fn by_name(column: u8) -> Place
         0xC => on_memory(MemoryOp::Cwai, Mode::Immediate8, 20),
         0xD => on_registers(RegisterOp::Mul, Mode::Inherent, 11),
         0xF => on_memory(MemoryOp::Swi(Software::Swi), Mode::Inherent, 19),
-        _ => Place::None,
+        _ => None,
     }
 }
 
 // Bits 3 and 2 tell LEA and the stack transfers from the rest.
-pub fn row_3(column: u8) -> Place
+pub fn row_3(column: u8) -> Option<Entry>
     ensures { result ≡ row_three column }
 {
     match column >> 2 {
@@ -92,25 +95,22 @@ pub fn row_3(column: u8) -> Place
 }
 
 // SWI2 and SWI3 stand where SWI stands on the plain page.
-pub fn software(page: Page, column: u8) -> Place
+pub fn software(page: Page, column: u8) -> Option<Entry>
     ensures { result ≡ software_interrupt page column }
 {
-    if column != 0xF {
-        return Place::None;
-    }
-    match page {
-        Page::Ten => entry_at(
+    let software = match page {
+        Page::Plain => return None,
+        Page::Ten => Software::Swi2,
+        Page::Eleven => Software::Swi3,
+    };
+    if column == 0xF {
+        entry_at(
             page,
-            Op::Memory(MemoryOp::Swi(Software::Swi2)),
+            Op::Memory(MemoryOp::Swi(software)),
             Mode::Inherent,
             19,
-        ),
-        Page::Eleven => entry_at(
-            page,
-            Op::Memory(MemoryOp::Swi(Software::Swi3)),
-            Mode::Inherent,
-            19,
-        ),
-        Page::Plain => Place::None,
+        )
+    } else {
+        None
     }
 }

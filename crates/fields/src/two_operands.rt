@@ -5,7 +5,7 @@ ghost use Rattle.fields.specs.TwoOperands.{two_operands, accumulator_of, with_by
 use super::bits::{is_second, mode_of, unless_immediate};
 use super::entries::entry_at;
 use super::words;
-use opcodes::{Acc, Alu, MemoryOp, Mode, Op, Page, Place, RegisterOp};
+use opcodes::{Acc, Alu, Entry, MemoryOp, Mode, Op, Page, RegisterOp};
 
 // What a column stands for: an operation of the accumulator and a byte, its store, or an operation on a word.
 #[derive(Clone, Copy)]
@@ -40,14 +40,14 @@ fn accumulator(code: u8) -> Acc
     if is_second(code) { Acc::B } else { Acc::A }
 }
 
-fn with_byte(alu: Alu, code: u8) -> Place
+fn with_byte(alu: Alu, code: u8) -> Option<Entry>
     ensures { result ≡ with_byte alu code }
 {
     let op = Op::Registers(RegisterOp::Alu(alu, accumulator(code)));
     entry_at(Page::Plain, op, mode_of(code, Mode::Immediate8), 2)
 }
 
-fn store_byte(code: u8) -> Place
+fn store_byte(code: u8) -> Option<Entry>
     ensures { result ≡ store_byte code }
 {
     let op = Op::Memory(MemoryOp::Store8(accumulator(code)));
@@ -55,7 +55,7 @@ fn store_byte(code: u8) -> Place
     unless_immediate(code, entry_at(Page::Plain, op, mode, 2))
 }
 
-pub fn place(code: u8) -> Place
+pub fn place(code: u8) -> Option<Entry>
     ensures { result ≡ two_operand_place code }
 {
     match operation(code % 16) {

@@ -5,7 +5,7 @@ ghost use Rattle.fields.specs.TwoOperands.{columns, word_operation, call, word_p
 
 use super::bits::{is_second, mode_of, unless_immediate};
 use super::entries::entry_at;
-use opcodes::{MemoryOp, Mode, Op, Page, Place, RegisterOp};
+use opcodes::{Entry, MemoryOp, Mode, Op, Page, RegisterOp};
 use registers::Word;
 
 // What a column stands for: a sum, difference or comparison; a load; a store; BSR or JSR.
@@ -15,18 +15,17 @@ pub enum WordOp {
     Load(Word),
     Store(Word),
     Call,
-    Nothing,
 }
 
 // The columns that have words: 3, and C to F.
 fn at_column(
     column: u8,
-    at_3: WordOp,
-    at_c: WordOp,
-    at_d: WordOp,
-    at_e: WordOp,
-    at_f: WordOp,
-) -> WordOp
+    at_3: Option<WordOp>,
+    at_c: Option<WordOp>,
+    at_d: Option<WordOp>,
+    at_e: Option<WordOp>,
+    at_f: Option<WordOp>,
+) -> Option<WordOp>
     ensures { result ≡ columns at_3 at_c at_d at_e at_f column }
 {
     match column {
@@ -35,68 +34,69 @@ fn at_column(
         0xD => at_d,
         0xE => at_e,
         0xF => at_f,
-        _ => WordOp::Nothing,
+        _ => None,
     }
 }
 
 // Bit 6 clear.
-fn first(page: Page, column: u8) -> WordOp
+fn first(page: Page, column: u8) -> Option<WordOp>
     ensures { result ≡ word_operation false page column }
 {
     match page {
         Page::Plain => at_column(
             column,
-            WordOp::Arithmetic(RegisterOp::Subd),
-            WordOp::Arithmetic(RegisterOp::Cmp16(Word::X)),
-            WordOp::Call,
-            WordOp::Load(Word::X),
-            WordOp::Store(Word::X),
+            Some(WordOp::Arithmetic(RegisterOp::Subd)),
+            Some(WordOp::Arithmetic(RegisterOp::Cmp16(Word::X))),
+            Some(WordOp::Call),
+            Some(WordOp::Load(Word::X)),
+            Some(WordOp::Store(Word::X)),
         ),
         Page::Ten => at_column(
             column,
-            WordOp::Arithmetic(RegisterOp::Cmp16(Word::D)),
-            WordOp::Arithmetic(RegisterOp::Cmp16(Word::Y)),
-            WordOp::Nothing,
-            WordOp::Load(Word::Y),
-            WordOp::Store(Word::Y),
+            Some(WordOp::Arithmetic(RegisterOp::Cmp16(Word::D))),
+            Some(WordOp::Arithmetic(RegisterOp::Cmp16(Word::Y))),
+            None,
+            Some(WordOp::Load(Word::Y)),
+            Some(WordOp::Store(Word::Y)),
         ),
         Page::Eleven => at_column(
             column,
-            WordOp::Arithmetic(RegisterOp::Cmp16(Word::U)),
-            WordOp::Arithmetic(RegisterOp::Cmp16(Word::S)),
-            WordOp::Nothing,
-            WordOp::Nothing,
-            WordOp::Nothing,
+            Some(WordOp::Arithmetic(RegisterOp::Cmp16(Word::U))),
+            Some(WordOp::Arithmetic(RegisterOp::Cmp16(Word::S))),
+            None,
+            None,
+            None,
         ),
     }
 }
 
 // Bit 6 set.
-fn second(page: Page, column: u8) -> WordOp
+// Beside `first`: the words themselves are all that each says.
+fn second(page: Page, column: u8) -> Option<WordOp>
     ensures { result ≡ word_operation true page column }
 {
     match page {
         Page::Plain => at_column(
             column,
-            WordOp::Arithmetic(RegisterOp::Addd),
-            WordOp::Load(Word::D),
-            WordOp::Store(Word::D),
-            WordOp::Load(Word::U),
-            WordOp::Store(Word::U),
+            Some(WordOp::Arithmetic(RegisterOp::Addd)),
+            Some(WordOp::Load(Word::D)),
+            Some(WordOp::Store(Word::D)),
+            Some(WordOp::Load(Word::U)),
+            Some(WordOp::Store(Word::U)),
         ),
         Page::Ten => at_column(
             column,
-            WordOp::Nothing,
-            WordOp::Nothing,
-            WordOp::Nothing,
-            WordOp::Load(Word::S),
-            WordOp::Store(Word::S),
+            None,
+            None,
+            None,
+            Some(WordOp::Load(Word::S)),
+            Some(WordOp::Store(Word::S)),
         ),
-        Page::Eleven => WordOp::Nothing,
+        Page::Eleven => None,
     }
 }
 
-fn operation(page: Page, code: u8) -> WordOp
+fn operation(page: Page, code: u8) -> Option<WordOp>
     ensures { result ≡ word_operation (bit_at 6 code) page (code % 16) }
 {
     if is_second(code) {
@@ -107,7 +107,7 @@ fn operation(page: Page, code: u8) -> WordOp
 }
 
 // JSR. There is nothing to call in an immediate operand: its place has BSR, whose operand is an offset.
-fn call(code: u8) -> Place
+fn call(code: u8) -> Option<Entry>
     ensures { result ≡ call code }
 {
     if (code >> 4) % 4 == 0 {
@@ -121,11 +121,11 @@ fn call(code: u8) -> Place
     )
 }
 
-pub fn place(page: Page, code: u8) -> Place
+pub fn place(page: Page, code: u8) -> Option<Entry>
     ensures { result ≡ word_place page code }
 {
     let mode = mode_of(code, Mode::Immediate16);
-    match operation(page, code) {
+    match operation(page, code)? {
         WordOp::Arithmetic(op) => entry_at(page, Op::Registers(op), mode, 4),
         WordOp::Load(word) => entry_at(page, Op::Registers(RegisterOp::Load16(word)), mode, 3),
         WordOp::Store(word) => {
@@ -133,6 +133,5 @@ pub fn place(page: Page, code: u8) -> Place
             unless_immediate(code, entry_at(page, op, mode, 3))
         }
         WordOp::Call => call(code),
-        WordOp::Nothing => Place::None,
     }
 }

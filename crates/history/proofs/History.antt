@@ -1,5 +1,6 @@
 -- Demand 3 of the code, from the contracts that rattle generates of it: `F.Reads.Post`, over the kinds of `F.Kinds`.
 -- Assumes nothing.
+use Rattle.std.specs.Prelude.{Ok}
 use mathlib.Core.Path.{◌≡◌, refl, sym, ◌∙◌, subst}
 use mathlib.Core.Logic.{◌≢◌}
 use mathlib.Core.List.{List, []}
@@ -9,7 +10,6 @@ use contract.Lifetimes.{Lfts}
 use denote.Ref.{Bor, MutBor}
 use denote.Triple.Clauses.{Lasts, at_exit}
 use borrow.Fn.Kinds.{ParamKind, ResultKind, Out, Dens, res_t, ended_of}
-use Rattle.answers.specs.declared.Answer.TheVariants.{Done}
 use Rattle.machine.specs.declared.Settings.{Settings}
 use Rattle.calls.specs.declared.InterruptType.{InterruptType}
 use Rattle.calls.specs.Calls.{Call, step, interrupt, reset}
@@ -136,9 +136,9 @@ module _ (C : Contracts {0}) (tells : Tells C) where
     counted = λ s past h. let u = holds s past (kept s past h) in record { counts = u.counts; shows = u.shows };
     undo = λ s past e h m. subst (Undone s past) (sym (tells.back s e m).0) (undo-is s past (kept s past h));
     drop = λ k s past e h m. subst (Drops k s past) (sym (tells.forget k s e m)) ((holds s past (kept s past h)).drops k);
-    refused-call = λ c s e m. subst (λ (z : Ended). z.answer ≢ Done → Unchanged s z) (sym (tells.forward c s e m).0) (called-stays c s);
-    refused-undo = λ s e m. subst (λ (z : Ended). z.answer ≢ Done → Unchanged s z) (sym (tells.back s e m).0) (undone-stays s);
-    refused-drop = λ k s e m. subst (λ (z : Ended). z.answer ≢ Done → Unchanged s z) (sym (tells.forget k s e m)) (dropped-stays k s);
+    refused-call = λ c s e m. subst (λ (z : Ended). z.answer ≢ (Ok tt) → Unchanged s z) (sym (tells.forward c s e m).0) (called-stays c s);
+    refused-undo = λ s e m. subst (λ (z : Ended). z.answer ≢ (Ok tt) → Unchanged s z) (sym (tells.back s e m).0) (undone-stays s);
+    refused-drop = λ k s e m. subst (λ (z : Ended). z.answer ≢ (Ok tt) → Unchanged s z) (sym (tells.forget k s e m)) (dropped-stays k s);
   }
 
 pub demand-3-of-the-code : Demand3Of generated

@@ -1,5 +1,6 @@
 -- Demand 3, of the definitions.
 -- Assumes nothing.
+use Rattle.std.specs.Prelude.{Err, Ok, Result, ⊤}
 use Prim.Native.Nat.{ℕ, zero, suc, ◌+◌, ◌-◌, ◌*◌, ◌^◌, ◌≤◌, ◌<◌}
 use mathlib.Core.Path.{◌≡◌, refl, sym, ap, ◌∙◌}
 use mathlib.Core.Bool.{Bool, true, false, cond, ◌&&◌}
@@ -11,8 +12,6 @@ use lib.Dec.{leb, ltb, eqb}
 use lib.ListN.{length, take, drop, set, length-set, length-append, length-drop, take-append-drop}
 use lib.Seq.{sets, sets-eq, length-sets, take-append_seam, drop-append_seam, take_at, drop_at, length-take-le}
 use borrow.Author.Tests.{eq-eqb, le-leb, lt-leb, lt-ltb, le-ltb, leb-true}
-use Rattle.answers.specs.declared.Answer.{Answer}
-use Rattle.answers.specs.declared.Answer.TheVariants.{Done, Refused}
 use Rattle.answers.specs.declared.Refusal.{Refusal}
 use Rattle.answers.specs.declared.Refusal.TheVariants.{MemoryLength, NoRecord, JournalLength, TooFewRecords}
 use Rattle.memory.specs.Fits.{Bytes}
@@ -40,7 +39,7 @@ use Rattle.history.proofs.Stores.{length-put_back, undone-writes, same-eq, same-
 use Rattle.history.proofs.Rows.{flat, flat_append, appended, Whole, reach-flat, walks-flat, moved-is, kept-is, flat-least, flat-most, newest-encode, sound-encode}
 use Rattle.history.proofs.Chain.{Leads, Chain, chain_length, chain_same, chain-take, chain-whole, all_drop, Top, top, Kept, kept-room}
 
-not-refused : {x : Refusal} → Refused x ≢ Done
+not-refused : {x : Refusal} → ◌≡◌ {A = Result ⊤ Refusal} (Err x) (Ok tt) → ⊥
 not-refused e = let z : ◌≡◌ {A = ℕ} 0 1 = cc in omega arith
 
 -- ---- undo, where the newest record leads back to the snapshot t
@@ -86,7 +85,7 @@ module _ (s : State) (t : Snap) (ss : List Snap) (v : Kept s (t ∷ ss)) where
   unfolding row
   length-is = rw newest-row (length-encode t.machine lead.saved)
 
-  undo-taken : undo_answer s ≡ Done
+  undo-taken : undo_answer s ≡ (Ok tt)
   unfolding undo_answer
   undo-taken =
       rw (
@@ -127,15 +126,15 @@ module _ (s : State) (t : Snap) (ss : List Snap) (v : Kept s (t ∷ ss)) where
 
 -- ---- undo, where nothing is left
 
-undo-empty : (s : State) → Kept s [] → undo_answer s ≡ need (eqb (length s.memory) 65536) MemoryLength (Refused NoRecord)
+undo-empty : (s : State) → Kept s [] → undo_answer s ≡ need (eqb (length s.memory) 65536) MemoryLength (Err NoRecord)
 unfolding undo_answer
 undo-empty s v = rw (le-leb s.twin.bytes (length s.journal) (kept-room s [] v), le-ltb 0 s.twin.records (omega (arith, v.count)))
 
-one-or-eleven : (b : Bool) → need b MemoryLength (Refused NoRecord) ≢ Done
+one-or-eleven : (b : Bool) → need b MemoryLength (Err NoRecord) ≢ (Ok tt)
 one-or-eleven true e = not-refused e
 one-or-eleven false e = not-refused e
 
-undo-barred : (s : State) → Kept s [] → undo_answer s ≢ Done
+undo-barred : (s : State) → Kept s [] → undo_answer s ≢ (Ok tt)
 undo-barred s v e = one-or-eleven (eqb (length s.memory) 65536) (sym (undo-empty s v) ∙ e)
 
 view-empty : (s : State) → Kept s [] → viewed s ≡ []
@@ -182,7 +181,7 @@ module _ (s : State) (past : List Snap) (v : Kept s past) (k : ℕ) (h : k ≤ l
       ∙ ap (λ (j : List ℕ). walks (length (drop left v.rows)) j s.twin.bytes) lies-split
       ∙ walks-flat (drop left v.rows) (new ++ v.tail) s.twin.bytes all_whole (omega (arith, used-split))
 
-  drop-taken : drop_answer k s ≡ Done
+  drop-taken : drop_answer k s ≡ (Ok tt)
   unfolding drop_answer
   drop-taken =
       rw (
@@ -228,19 +227,19 @@ module _ (s : State) (past : List Snap) (v : Kept s past) (k : ℕ) (h : k ≤ l
     others = rw (moved-rest, used-rest) (drop-append_seam new behind);
   })
 
-drop-barred : (s : State) (past : List Snap) → Kept s past → (k : ℕ) → length past < k → drop_answer k s ≡ Refused TooFewRecords
+drop-barred : (s : State) (past : List Snap) → Kept s past → (k : ℕ) → length past < k → drop_answer k s ≡ Err TooFewRecords
 unfolding drop_answer
 drop-barred s past v k h = rw (le-leb s.twin.bytes (length s.journal) (kept-room s past v), lt-leb k s.twin.records (omega (arith, v.count)))
 
 -- ---- a refused call changes nothing
 
-stays : (a : Answer) (s new : State) (ds : List Write) (n k : ℕ) → a ≢ Done → Unchanged s (ending a s new ds n k)
-stays Done s new ds n k h = absurd (h refl)
-stays (Refused x) s new ds n k h = record { state = refl; devices = refl; reads = refl; writes = refl }
+stays : (a : Result ⊤ Refusal) (s new : State) (ds : List Write) (n k : ℕ) → a ≢ (Ok tt) → Unchanged s (ending a s new ds n k)
+stays (Ok u) s new ds n k h = absurd (h refl)
+stays (Err x) s new ds n k h = record { state = refl; devices = refl; reads = refl; writes = refl }
 
-answered : (a : Answer) (s new : State) (ds : List Write) (n k : ℕ) → (ending a s new ds n k).answer ≡ a
-answered Done s new ds n k = refl
-answered (Refused x) s new ds n k = refl
+answered : (a : Result ⊤ Refusal) (s new : State) (ds : List Write) (n k : ℕ) → (ending a s new ds n k).answer ≡ a
+answered (Ok u) s new ds n k = refl
+answered (Err x) s new ds n k = refl
 
 undo-answer : (s : State) → (undone s).answer ≡ undo_answer s
 unfolding undone
@@ -252,10 +251,10 @@ drop-answer k s = answered (drop_answer k s) s (shortened k s) [] 0 0
 
 -- ---- the invariant goes on
 
-pop_kept : (a : Answer) (s new : State) (ds : List Write) (past : List Snap) → a ≢ Done → Kept s past
+pop_kept : (a : Result ⊤ Refusal) (s new : State) (ds : List Write) (past : List Snap) → a ≢ (Ok tt) → Kept s past
     → Kept (ending a s new ds 0 0).state (pop (ending a s new ds 0 0).answer past)
-pop_kept Done s new ds past h v = absurd (h refl)
-pop_kept (Refused x) s new ds past h v = v
+pop_kept (Ok u) s new ds past h v = absurd (h refl)
+pop_kept (Err x) s new ds past h v = v
 
 pub undo-kept : (s : State) (past : List Snap) → Kept s past → Kept (undone s).state (pop (undone s).answer past)
 unfolding undone
@@ -283,9 +282,9 @@ host-kept s past a b w v = record {
 
 -- ---- widths stay
 
-ending-typed : (a : Answer) (s new : State) (ds : List Write) (n k : ℕ) → (a ≡ Done → Typed new) → Typed s → Typed (ending a s new ds n k).state
-ending-typed Done s new ds n k h w = h refl
-ending-typed (Refused x) s new ds n k h w = w
+ending-typed : (a : Result ⊤ Refusal) (s new : State) (ds : List Write) (n k : ℕ) → (a ≡ (Ok tt) → Typed new) → Typed s → Typed (ending a s new ds n k).state
+ending-typed (Ok u) s new ds n k h w = h refl
+ending-typed (Err x) s new ds n k h w = w
 
 undo-typed : (s : State) (past : List Snap) → Kept s past → Typed s → Typed (undone s).state
 unfolding undone
@@ -311,7 +310,7 @@ brings s (t ∷ ts) v = rw (undo-taken s t ts v) (record {
   bytes = rw (view-is s t ts v) (omega (arith, used-last s t ts v, length-is s t ts v));
 })
 
-exact : (s : State) (past : List Snap) → Kept s past → ((undone s).answer ≡ Done) ↔ (past ≢ [])
+exact : (s : State) (past : List Snap) → Kept s past → ((undone s).answer ≡ (Ok tt)) ↔ (past ≢ [])
 exact s [] v = ((λ e. absurd (undo-barred s v (sym (undo-answer s) ∙ e))), (λ h. absurd (h refl)))
 exact s (t ∷ ts) v = ((λ z e. let n : ◌≡◌ {A = ℕ} 0 1 = cc in omega arith), (λ h. undo-answer s ∙ undo-taken s t ts v))
 
@@ -320,10 +319,10 @@ shown s [] v = view-empty s v
 shown s (t ∷ ts) v =
     rw (view-is s t ts v, count-is s t ts v) (machine-is s t ts v, (length-is s t ts v, (lead s t ts v).few))
 
-drops : (s : State) (past : List Snap) → Kept s past → (k : ℕ) → (dropped k s).answer ≡ need (leb k (length past)) TooFewRecords Done
+drops : (s : State) (past : List Snap) → Kept s past → (k : ℕ) → (dropped k s).answer ≡ need (leb k (length past)) TooFewRecords (Ok tt)
 drops s past v k = drop-answer k s ∙ go (dec_lt (length past) k)
   where
-    go : Dec (length past < k) → drop_answer k s ≡ need (leb k (length past)) TooFewRecords Done
+    go : Dec (length past < k) → drop_answer k s ≡ need (leb k (length past)) TooFewRecords (Ok tt)
     go (yes q) = rw (lt-leb k (length past) q) (drop-barred s past v k q)
     go (no q) = let h : k ≤ length past = omega arith in rw (le-leb k (length past) h) (drop-taken s past v k h)
 
@@ -379,7 +378,7 @@ module _ (set : Settings) (s : State) (f : Plan) (few : length (listed f.writes)
       leads = same-eq (put_back (stored set.ram_top ws s.memory) saved) s.memory (undone-writes set.ram_top s.memory ws);
     }
 
-    recorded-kept : Kept (recorded set f s) (push Done s past)
+    recorded-kept : Kept (recorded set f s) (push (Ok tt) s past)
     unfolding recorded record_for flat entry saved ws
     recorded-kept = record {
       size = λ l. length-stored set.ram_top ws s.memory ∙ t.before.size;
@@ -391,9 +390,9 @@ module _ (set : Settings) (s : State) (f : Plan) (few : length (listed f.writes)
       chain = (own, v.chain);
     }
 
-  call_kept : (a : Answer) (past : List Snap) → (a ≡ Done → Taken set f s) → Kept s past → Kept (concluded a set f s).state (push (concluded a set f s).answer s past)
-  call_kept Done past t v = recorded-kept past v (t refl)
-  call_kept (Refused x) past t v = v
+  call_kept : (a : Result ⊤ Refusal) (past : List Snap) → (a ≡ (Ok tt) → Taken set f s) → Kept s past → Kept (concluded a set f s).state (push (concluded a set f s).answer s past)
+  call_kept (Ok u) past t v = recorded-kept past v (t refl)
+  call_kept (Err x) past t v = v
 
 -- what each call's plan keeps
 module _ (c : Call) (s : State) (w : Typed s) where
@@ -477,12 +476,12 @@ module _ (set : Settings) (s : State) (f : Plan) (few : length (listed f.writes)
       )
       own-newest
 
-appends : (c : Call) (s : State) → (call c s).answer ≡ Done → Appends c s (call c s)
+appends : (c : Call) (s : State) → (call c s).answer ≡ (Ok tt) → Appends c s (call c s)
 unfolding called
 appends c s e =
     let f = plan_of c s.memory s.twin.machine in
     let t = settings_in c in
-    let d : call_answer t f s ≡ Done = sym (answered (call_answer t f s) s (recorded t f s) (reported t.ram_top (listed f.writes)) f.reads (length (listed f.writes))) ∙ e in
+    let d : call_answer t f s ≡ Ok tt = sym (answered (call_answer t f s) s (recorded t f s) (reported t.ram_top (listed f.writes)) f.reads (length (listed f.writes))) ∙ e in
     let few = few-writes c s.memory s.twin.machine in
     let k = call-taken t f s d in
     rw d (record { earlier = earlier-stay t s f few k; newest = view-own t s f few k; later = later-stay t s f few k })
@@ -493,13 +492,13 @@ no-empty : (r : List ℕ) → record_length 0 ≤ length r → r ≢ []
 no-empty r h e = let z : length r ≡ 0 = ap length e in omega arith
 
 view-by : (a b c : Bool) (r : List ℕ) (s new : State) → (a ≡ true → c ≡ true → r ≢ [])
-    → (cond (a && (b && c)) r [] ≡ []) ↔ ((ending (need a JournalLength (need b NoRecord (need c JournalLength Done))) s new [] 0 0).answer ≢ Done)
+    → (cond (a && (b && c)) r [] ≡ []) ↔ ((ending (need a JournalLength (need b NoRecord (need c JournalLength (Ok tt)))) s new [] 0 0).answer ≢ (Ok tt))
 view-by true true true r s new h = ((λ e. absurd (h refl refl e)), (λ n. absurd (n refl)))
 view-by true true false r s new h = ((λ e. not-refused), (λ n. refl))
 view-by true false c r s new h = ((λ e. not-refused), (λ n. refl))
 view-by false b c r s new h = ((λ e. not-refused), (λ n. refl))
 
-view-undo : (s : State) → length s.memory ≡ 65536 → (viewed s ≡ []) ↔ ((undone s).answer ≢ Done)
+view-undo : (s : State) → length s.memory ≡ 65536 → (viewed s ≡ []) ↔ ((undone s).answer ≢ (Ok tt))
 unfolding newest_of undone undo_answer
 view-undo s size =
     rw (eq-eqb (length s.memory) 65536 size)
@@ -510,9 +509,9 @@ view-undo s size =
 
 -- ---- the journal's length
 
-ending-length : (a : Answer) (s new : State) (ds : List Write) (n k : ℕ) → length new.journal ≡ length s.journal → length (ending a s new ds n k).state.journal ≡ length s.journal
-ending-length Done s new ds n k h = h
-ending-length (Refused x) s new ds n k h = refl
+ending-length : (a : Result ⊤ Refusal) (s new : State) (ds : List Write) (n k : ℕ) → length new.journal ≡ length s.journal → length (ending a s new ds n k).state.journal ≡ length s.journal
+ending-length (Ok u) s new ds n k h = h
+ending-length (Err x) s new ds n k h = refl
 
 recorded-length : (set : Settings) (f : Plan) (s : State) → length (recorded set f s).journal ≡ length s.journal
 unfolding recorded
@@ -575,7 +574,7 @@ countable s past n v e h = let c = counts s past v in (e, omega (arith, c.room, 
 
 -- ---- refused
 
-pub called-stays : (c : Call) (s : State) → (call c s).answer ≢ Done → Unchanged s (call c s)
+pub called-stays : (c : Call) (s : State) → (call c s).answer ≢ (Ok tt) → Unchanged s (call c s)
 unfolding called
 called-stays c s h =
     let f = plan_of c s.memory s.twin.machine in
@@ -584,11 +583,11 @@ called-stays c s h =
     let ds = reported t.ram_top (listed f.writes) in
     stays a s (recorded t f s) ds f.reads (length (listed f.writes)) (λ e. h (answered a s (recorded t f s) ds f.reads (length (listed f.writes)) ∙ e))
 
-pub undone-stays : (s : State) → (undone s).answer ≢ Done → Unchanged s (undone s)
+pub undone-stays : (s : State) → (undone s).answer ≢ (Ok tt) → Unchanged s (undone s)
 unfolding undone
 undone-stays s h = stays (undo_answer s) s (restored s) [] 0 0 (λ e. h (undo-answer s ∙ e))
 
-pub dropped-stays : (k : ℕ) (s : State) → (dropped k s).answer ≢ Done → Unchanged s (dropped k s)
+pub dropped-stays : (k : ℕ) (s : State) → (dropped k s).answer ≢ (Ok tt) → Unchanged s (dropped k s)
 unfolding dropped
 dropped-stays k s h = stays (drop_answer k s) s (shortened k s) [] 0 0 (λ e. h (drop-answer k s ∙ e))
 

@@ -1,8 +1,7 @@
 -- Demand 3 of the code: what Sequence.antt says of the definitions, said of any chain of calls each of which meets its contract.
 -- A chain asks nothing of widths: that memory is bytes, and that each number in a machine fits, each contract tells of its own arguments.
 -- Assumes nothing.
-use Rattle.std.specs.Prelude.{ℕ, ◌≡◌, ◌↔◌, ◌≢◌, List, []}
-use Rattle.answers.specs.declared.Answer.TheVariants.{Done}
+use Rattle.std.specs.Prelude.{ℕ, ◌≡◌, ◌↔◌, ◌≢◌, List, [], Ok}
 use Rattle.machine.specs.declared.Machine.{Machine}
 use Rattle.calls.specs.Calls.{Call}
 use Rattle.journal.specs.Recorded.{State, in_hand, Ended}
@@ -27,7 +26,7 @@ pub data Chain {ℓ} (C : Contracts {ℓ}) : State → List Snap → Type ℓ wh
 
 -- An undo at s that ended as e, where the calls of past are held
 pub record Undone (s : State) (past : List Snap) (e : Ended) : Type 0 where
-  pub exactly : (e.answer ≡ Done) ↔ (past ≢ [])
+  pub exactly : (e.answer ≡ (Ok tt)) ↔ (past ≢ [])
   pub brings : BringsBack s past e
 
 -- the counts, and what the statement of `newest` cites
@@ -40,6 +39,6 @@ pub record Demand3Of {ℓ} (C : Contracts {ℓ}) : Type ℓ where
   pub counted : (s : State) (past : List Snap) → Chain C s past → Counted s past
   pub undo : (s : State) (past : List Snap) (e : Ended) → Chain C s past → C.back s e → Undone s past e
   pub drop : (k : ℕ) (s : State) (past : List Snap) (e : Ended) → Chain C s past → C.forget k s e → Drops k s past e
-  pub refused-call : (c : Call) (s : State) (e : Ended) → C.forward c s e → e.answer ≢ Done → Unchanged s e
-  pub refused-undo : (s : State) (e : Ended) → C.back s e → e.answer ≢ Done → Unchanged s e
-  pub refused-drop : (k : ℕ) (s : State) (e : Ended) → C.forget k s e → e.answer ≢ Done → Unchanged s e
+  pub refused-call : (c : Call) (s : State) (e : Ended) → C.forward c s e → e.answer ≢ (Ok tt) → Unchanged s e
+  pub refused-undo : (s : State) (e : Ended) → C.back s e → e.answer ≢ (Ok tt) → Unchanged s e
+  pub refused-drop : (k : ℕ) (s : State) (e : Ended) → C.forget k s e → e.answer ≢ (Ok tt) → Unchanged s e

@@ -6,11 +6,9 @@
 -- what the statements of `step`, `interrupt` and `reset` cite. A machine that works on the first call and idles afterwards does not meet
 -- them at the second call. Of damaged records, and of the order of refusals, it says nothing: along a sequence there are none.
 -- Assumes nothing.
-use Rattle.std.specs.Prelude.{ℕ, ◌+◌, ◌-◌, ◌*◌, ◌^◌, ◌≤◌, ◌<◌, ◌≡◌, ◌↔◌, ◌≢◌, List, [], ◌∷◌, eqb, leb, length, get_or, take, drop, set}
+use Rattle.std.specs.Prelude.{ℕ, ◌+◌, ◌-◌, ◌*◌, ◌^◌, ◌≤◌, ◌<◌, ◌≡◌, ◌↔◌, ◌≢◌, List, [], ◌∷◌, eqb, leb, length, get_or, take, drop, set, Err, Ok, Result, ⊤}
 use Rattle.memory.specs.Fits.{Bytes}
 use Rattle.memory.specs.Writes.{writes_of}
-use Rattle.answers.specs.declared.Answer.{Answer}
-use Rattle.answers.specs.declared.Answer.TheVariants.{Done, Refused}
 use Rattle.answers.specs.declared.Refusal.TheVariants.{MemoryLength, NoRecord, TooFewRecords}
 use Rattle.machine.specs.Machine.{MachineFits}
 use Rattle.machine.specs.Record.{machine_of}
@@ -20,6 +18,7 @@ use Rattle.journal.specs.Record.{All, count_of, most_stored, record_length}
 use Rattle.journal.specs.Recorded.{State, Ended, need, most_records, record_for, call}
 use Rattle.journal.specs.Undos.{undone, viewed}
 use Rattle.journal.specs.Drops.{dropped}
+use Rattle.answers.specs.declared.Refusal.{Refusal}
 
 -- ---- sequences
 
@@ -52,25 +51,25 @@ pub record World : Type 0 where
   pub now : State
   pub past : List Snap
 
-abbrev pub push : Answer → State → List Snap → List Snap
-push Done s past = record { machine = s.twin.machine; memory = s.memory } ∷ past
-push (Refused x) s past = past
+abbrev pub push : Result ⊤ Refusal → State → List Snap → List Snap
+push (Ok u) s past = record { machine = s.twin.machine; memory = s.memory } ∷ past
+push (Err x) s past = past
 
 abbrev pub rest : List Snap → List Snap
 rest [] = []
 rest (s ∷ ss) = ss
 
-abbrev pub pop : Answer → List Snap → List Snap
-pop Done past = rest past
-pop (Refused x) past = past
+abbrev pub pop : Result ⊤ Refusal → List Snap → List Snap
+pop (Ok u) past = rest past
+pop (Err x) past = past
 
 -- all but the k oldest, which stand last
 abbrev pub but : ℕ → List Snap → List Snap
 but k past = take (length past - k) past
 
-abbrev pub lose : ℕ → Answer → List Snap → List Snap
-lose k Done past = but k past
-lose k (Refused x) past = past
+abbrev pub lose : ℕ → Result ⊤ Refusal → List Snap → List Snap
+lose k (Ok u) past = but k past
+lose k (Err x) past = past
 
 abbrev pub host_writes : ℕ → ℕ → State → State
 host_writes a v s = record { twin = s.twin; memory = set s.memory a v; journal = s.journal }
@@ -98,7 +97,7 @@ pub record Same (m n : List ℕ) : Type 0 where
 
 -- An undo at s that ends as o, of a call before which t stood
 pub record Restores (s : State) (t : Snap) (o : Ended) : Type 0 where
-  pub accepted : o.answer ≡ Done
+  pub accepted : o.answer ≡ (Ok tt)
   -- registers, wait state, mark and both counters
   pub machine : o.state.twin.machine ≡ t.machine
   -- memory outside FF00-FFDF is as it stood before the call, and inside as it stands now
@@ -111,7 +110,7 @@ pub record Restores (s : State) (t : Snap) (o : Ended) : Type 0 where
 
 -- Undo brings back the newest of the past, and where there is none it is refused, by 1 or 11
 abbrev pub BringsBack : State → List Snap → Ended → Type 0
-BringsBack s [] o = (o.answer ≡ need (eqb (length s.memory) 65536) MemoryLength (Refused NoRecord)) × (o.state ≡ s)
+BringsBack s [] o = (o.answer ≡ need (eqb (length s.memory) 65536) MemoryLength (Err NoRecord)) × (o.state ≡ s)
 BringsBack s (t ∷ ts) o = Restores s t o
 
 -- ---- what the newest record is, and what drop does
@@ -133,7 +132,7 @@ pub record Shortens (k : ℕ) (s : State) (o : Ended) : Type 0 where
 
 -- Drop is accepted exactly when k calls are held, and else refused by 26
 pub record Drops (k : ℕ) (s : State) (past : List Snap) (o : Ended) : Type 0 where
-  pub answer : o.answer ≡ need (leb k (length past)) TooFewRecords Done
+  pub answer : o.answer ≡ need (leb k (length past)) TooFewRecords (Ok tt)
   pub shortens : k ≤ length past → Shortens k s o
 
 -- one record for each call held, of 34 to 70 bytes, and room for them
@@ -148,7 +147,7 @@ pub record Counts (s : State) (past : List Snap) : Type 0 where
 -- What demand 3 says where a sequence has led. Neither undo nor drop is refused by 12
 pub record Held (w : World) : Type 0 where
   -- undo is accepted exactly when a call is still held
-  pub exactly : ((undone w.now).answer ≡ Done) ↔ (w.past ≢ [])
+  pub exactly : ((undone w.now).answer ≡ (Ok tt)) ↔ (w.past ≢ [])
   pub brings : BringsBack w.now w.past (undone w.now)
   pub shows : Shows w.past (viewed w.now)
   pub drops : (k : ℕ) → Drops k w.now w.past (dropped k w.now)
@@ -174,9 +173,9 @@ pub record Demand3 : Type 0 where
   -- the journal keeps its length, and where that fits 64 bits one more record can always be counted: no forward call is refused by 12
   pub countable : (m : Machine) (mem j : List ℕ) (es : List Event) → MachineFits m → Bytes mem → All Legal es → length j < 2 ^ 64
       → (length (run es (without_records m mem j)).now.journal ≡ length j) × ((run es (without_records m mem j)).now.twin.records < most_records)
-  pub refused-call : (c : Call) (s : State) → (call c s).answer ≢ Done → Unchanged s (call c s)
-  pub refused-undo : (s : State) → (undone s).answer ≢ Done → Unchanged s (undone s)
-  pub refused-drop : (k : ℕ) (s : State) → (dropped k s).answer ≢ Done → Unchanged s (dropped k s)
+  pub refused-call : (c : Call) (s : State) → (call c s).answer ≢ (Ok tt) → Unchanged s (call c s)
+  pub refused-undo : (s : State) → (undone s).answer ≢ (Ok tt) → Unchanged s (undone s)
+  pub refused-drop : (k : ℕ) (s : State) → (dropped k s).answer ≢ (Ok tt) → Unchanged s (dropped k s)
   -- at any state: an accepted call leaves its own record behind the bytes used; the view is empty exactly where undo, with a whole memory, is refused (by 11 or 12)
-  pub appends : (c : Call) (s : State) → (call c s).answer ≡ Done → Appends c s (call c s)
-  pub view-undo : (s : State) → length s.memory ≡ 65536 → (viewed s ≡ []) ↔ ((undone s).answer ≢ Done)
+  pub appends : (c : Call) (s : State) → (call c s).answer ≡ (Ok tt) → Appends c s (call c s)
+  pub view-undo : (s : State) → length s.memory ≡ 65536 → (viewed s ≡ []) ↔ ((undone s).answer ≢ (Ok tt))

@@ -1,5 +1,6 @@
 -- What goes to a host and back, and the numbers apart: the laws of specs/Numbers.antt and specs/Structs.antt.
 -- Assumes nothing.
+use Rattle.std.specs.Prelude.{Err, Ok}
 use Prim.Native.Nat.{ℕ, zero, suc, ◌<◌}
 use mathlib.Core.List.{List, [], ◌∷◌, map}
 use mathlib.Core.Path.{◌≡◌, refl, ap}
@@ -7,7 +8,6 @@ use mathlib.Core.Bool.{Bool, true, false, ◌&&◌, false≢true}
 use native.Mathlib.Omega.{arith}
 use borrow.Author.Tests.{ltb-true, eqb-true}
 use lib.Dec.{ltb, eqb}
-use Rattle.answers.specs.declared.Answer.TheVariants.{Done, Refused}
 use Rattle.answers.specs.declared.Refusal.{Refusal}
 use Rattle.answers.specs.declared.Refusal.TheVariants.{MemoryLength, Waiting, Opcode, PastEnd, PostByte, TransferCode, StackTooSmall, ZeroAtVector, JournalFull, NoRecord, JournalLength, DivisionByZero, LeftByte, NoRoom, Malformed, OutputShort, LineShape, Checksum, PastTop, NoEnd, PostByte8F, TooFewRecords, SalvageShort, ListShort}
 use Rattle.answers.proofs.Numbers.{numbers-small}
@@ -30,8 +30,8 @@ use Rattle.host.specs.declared.HostTwin.{HostTwin}
 -- ---- 64 is no number of a call
 
 pub unnamed-apart : UnnamedApart
-unnamed-apart Done = omega arith
-unnamed-apart (Refused x) = numbers-small x
+unnamed-apart (Ok u) = omega arith
+unnamed-apart (Err x) = numbers-small x
 
 -- ---- numbers
 

@@ -4,7 +4,7 @@ use mathlib.Core.Path.{refl, sym, ◌∙◌}
 use Rattle.answers.proofs.Determined.{Determines}
 use Rattle.host.proofs
 
-pub settings-of : Determines 0 proofs.settings_of.Kinds.ps proofs.settings_of.Kinds.r proofs.settings_of.Reads.Post
+pub settings-of : Determines 0 proofs.SettingsFromHostSettings.from.Kinds.ps proofs.SettingsFromHostSettings.from.Kinds.r proofs.SettingsFromHostSettings.from.Reads.Post
 settings-of κs a x y ws vs p q = (p ∙ sym q, refl)
 
 pub interrupt-type-of : Determines 0 proofs.interrupt_type_of.Kinds.ps proofs.interrupt_type_of.Kinds.r proofs.interrupt_type_of.Reads.Post
@@ -19,16 +19,16 @@ is-named κs a x y ws vs p q = (p ∙ sym q, refl)
 pub is-interrupt : Determines 0 proofs.is_interrupt.Kinds.ps proofs.is_interrupt.Kinds.r proofs.is_interrupt.Reads.Post
 is-interrupt κs a x y ws vs p q = (p ∙ sym q, refl)
 
-pub machine-of : Determines 0 proofs.machine_of.Kinds.ps proofs.machine_of.Kinds.r proofs.machine_of.Reads.Post
+pub machine-of : Determines 0 proofs.MachineFromHostTwin.from.Kinds.ps proofs.MachineFromHostTwin.from.Kinds.r proofs.MachineFromHostTwin.from.Reads.Post
 machine-of κs a x y ws vs p q = (p ∙ sym q, refl)
 
-pub twin-of : Determines 0 proofs.twin_of.Kinds.ps proofs.twin_of.Kinds.r proofs.twin_of.Reads.Post
+pub twin-of : Determines 0 proofs.TwinFromHostTwin.from.Kinds.ps proofs.TwinFromHostTwin.from.Kinds.r proofs.TwinFromHostTwin.from.Reads.Post
 twin-of κs a x y ws vs p q = (p ∙ sym q, refl)
 
-pub host-twin : Determines 0 proofs.host_twin.Kinds.ps proofs.host_twin.Kinds.r proofs.host_twin.Reads.Post
+pub host-twin : Determines 0 proofs.HostTwinFromTwin.from.Kinds.ps proofs.HostTwinFromTwin.from.Kinds.r proofs.HostTwinFromTwin.from.Reads.Post
 host-twin κs a x y ws vs p q = (p ∙ sym q, refl)
 
-pub outcome-of : Determines 0 proofs.outcome_of.Kinds.ps proofs.outcome_of.Kinds.r proofs.outcome_of.Reads.Post
+pub outcome-of : Determines 0 proofs.HostOutcomeFromOutcome.from.Kinds.ps proofs.HostOutcomeFromOutcome.from.Kinds.r proofs.HostOutcomeFromOutcome.from.Reads.Post
 outcome-of κs a x y ws vs p q = (p ∙ sym q, refl)
 
 pub report-of : Determines 0 proofs.report_of.Kinds.ps proofs.report_of.Kinds.r proofs.report_of.Reads.Post
@@ -36,3 +36,9 @@ report-of κs a x y ws vs p q = (p ∙ sym q, refl)
 
 pub unnamed : Determines 0 proofs.unnamed.Kinds.ps proofs.unnamed.Kinds.r proofs.unnamed.Reads.Post
 unnamed κs a x y ws vs p q = (p ∙ sym q, refl)
+
+pub range-from : Determines 0 proofs.RangeFromHostRange.from.Kinds.ps proofs.RangeFromHostRange.from.Kinds.r proofs.RangeFromHostRange.from.Reads.Post
+range-from κs a x y ws vs p q = (p ∙ sym q, refl)
+
+pub write-from : Determines 0 proofs.HostWriteFromWrite.from.Kinds.ps proofs.HostWriteFromWrite.from.Kinds.r proofs.HostWriteFromWrite.from.Reads.Post
+write-from κs a x y ws vs p q = (p ∙ sym q, refl)

@@ -1,14 +1,14 @@
 -- The numbers of a host in another language: what they name, and where they name nothing.
 -- Assumes nothing.
-use Rattle.std.specs.Prelude.{ℕ, zero, suc, ◌<◌, Bool, ◌&&◌, ◌≡◌, ltb, eqb}
+use Rattle.std.specs.Prelude.{ℕ, zero, suc, ◌<◌, Bool, ◌&&◌, ◌≡◌, ltb, eqb, Result, ⊤}
 use Rattle.answers.specs.Numbers.{number_of_answer}
-use Rattle.answers.specs.declared.Answer.{Answer}
 use Rattle.registers.specs.declared.Flags.{Flags}
 use Rattle.registers.specs.declared.Flags.TheVariants.{Bought, Manual}
 use Rattle.calls.specs.declared.InterruptType.{InterruptType}
 use Rattle.calls.specs.declared.InterruptType.TheVariants.{Irq, Firq, Nmi}
 use Rattle.host.specs.declared.HostSettings.{HostSettings}
 use Rattle.host.specs.declared.HostTwin.{HostTwin}
+use Rattle.answers.specs.declared.Refusal.{Refusal}
 
 -- 0 as bought, 1 by the manual
 unfoldable pub flags_of : ℕ → Flags
@@ -51,7 +51,7 @@ unnamed_number = 64
 
 -- the laws: no answer of a call has that number, nor one above it; the numbers of flags and interrupts go there and back
 abbrev pub UnnamedApart : Type 0
-UnnamedApart = (a : Answer) → number_of_answer a < unnamed_number
+UnnamedApart = (a : Result ⊤ Refusal) → number_of_answer a < unnamed_number
 
 pub record NumbersBack : Type 0 where
   pub flags : (n : ℕ) → n < 2 → flags_number (flags_of n) ≡ n

@@ -1,16 +1,18 @@
 // The twin as a host in another language has it: structs of numbers laid out as C's, and how each is made of the twin's own.
-// `include/doorhawser.h` declares the same structs. Numbers that name nothing are refused before anything else is judged.
+// `include/doorhawser.h` declares the same structs: the twin's own have no layout that C could know. Numbers that name nothing are refused
+// before anything else is judged. In the structs an array stands beside its count, and a number beside the twin: C has no slice, no Option
+// and no Result.
 #![tactic(auto)]
 
-ghost use Rattle.std.specs.Prelude.{◌≡◌, map};
-ghost use Rattle.machine.specs.Record.{wait_byte, wait_of, mark_byte, mark_of};
+ghost use Rattle.std.specs.Prelude.{◌≡◌};
+ghost use Rattle.machine.specs.Record.{wait_of};
 ghost use Rattle.host.specs.Numbers.{flags_of, interrupt_type_of, is_twin, is_settings, is_named, is_interrupt};
 ghost use Rattle.host.specs.Structs.{range_from, settings_from, machine_from, twin_from, host_twin, host_write, no_writes, host_outcome, keeping, unnamed};
 
 use calls::{InterruptType, Report};
 use journal::{Outcome, Twin};
 use machine::{Machine, Range, Settings, Wait};
-use memory::{Write, Writes};
+use memory::Write;
 use registers::{CCBits, Flags, Set};
 
 // The answer where a host's numbers name no wait state, mark, flag setting or interrupt, or a spare field is not 0. It is no number of a
@@ -79,91 +81,38 @@ pub struct HostOutcome {
     pub answer: u64,
 }
 
+// C gives the kinds as numbers, and what they name is part of its interface. One above the last is taken as the last: `is_named` and
+// `is_interrupt` have refused it before, so that no conversion below can fail.
 fn flags_of(flags: u8) -> Flags
     ensures { result ≡ flags_of flags }
 {
-    if flags == 0 {
-        return Flags::Bought;
+    match flags {
+        0 => Flags::Bought,
+        _ => Flags::Manual,
     }
-    Flags::Manual
-}
-
-fn range_of(g: HostRange) -> Range
-    ensures { result ≡ range_from g }
-{
-    Range {
-        first: g.first,
-        last: g.last,
-    }
-}
-
-fn profile_of(list: [HostRange; 8]) -> [Range; 8]
-    ensures { result ≡ map range_from list }
-{
-    let mut out = [Range { first: 1, last: 0 }; 8];
-    let mut i = 0;
-    while i < 8 {
-        let g = range_of(list[i]);
-        out[i] = g;
-        i += 1;
-    }
-    out
-}
-
-pub fn settings_of(s: HostSettings) -> Settings
-    ensures { result ≡ settings_from s }
-{
-    let profile = s.profile;
-    Settings::fenced(s.ram_top, flags_of(s.flags), profile_of(profile))
 }
 
 fn wait_of(n: u8) -> Wait
     ensures { result ≡ wait_of n }
 {
-    if n == 0 {
-        return Wait::Running;
+    match n {
+        0 => Wait::Running,
+        1 => Wait::Cwai,
+        _ => Wait::Sync,
     }
-    if n == 1 {
-        return Wait::Cwai;
-    }
-    Wait::Sync
-}
-
-fn wait_number(wait: Wait) -> u8
-    ensures { result ≡ wait_byte wait }
-{
-    match wait {
-        Wait::Running => 0,
-        Wait::Cwai => 1,
-        Wait::Sync => 2,
-    }
-}
-
-fn mark_of(n: u8) -> bool
-    ensures { result ≡ mark_of n }
-{
-    n == 1
-}
-
-fn mark_number(armed: bool) -> u8
-    ensures { result ≡ mark_byte armed }
-{
-    if armed { 1 } else { 0 }
 }
 
 pub fn interrupt_type_of(which: u8) -> InterruptType
     ensures { result ≡ interrupt_type_of which }
 {
-    if which == 0 {
-        return InterruptType::Irq;
+    match which {
+        0 => InterruptType::Irq,
+        1 => InterruptType::Firq,
+        _ => InterruptType::Nmi,
     }
-    if which == 1 {
-        return InterruptType::Firq;
-    }
-    InterruptType::Nmi
 }
 
-// Wait state and mark are named, and the spare field is 0.
+// Wait state and mark are named.
 pub fn is_twin(t: HostTwin) -> bool
     ensures { result ≡ is_twin t }
 {
@@ -191,62 +140,133 @@ pub fn is_interrupt(t: HostTwin, s: HostSettings, which: u8) -> bool
     is_named(t, s) & (which < 3)
 }
 
-pub fn machine_of(t: HostTwin) -> Machine
-    ensures { result ≡ machine_from t }
+impl From<HostRange> for Range {
+    ghost from_gives = { λ g r. r ≡ range_from g };
+
+    fn from(g: HostRange) -> Range {
+        Range {
+            first: g.first,
+            last: g.last,
+        }
+    }
+}
+
+impl From<HostSettings> for Settings {
+    ghost from_gives = { λ s r. r ≡ settings_from s };
+
+    fn from(s: HostSettings) -> Settings {
+        Settings::fenced(
+            s.ram_top,
+            flags_of(s.flags),
+            s.profile.map(|g| Range::from(g)),
+        )
+    }
+}
+
+impl From<HostTwin> for Machine {
+    ghost from_gives = { λ t m. m ≡ machine_from t };
+
+    fn from(t: HostTwin) -> Machine {
+        Machine {
+            cycles: t.cycles,
+            instructions: t.instructions,
+            regs: Set {
+                x: t.x,
+                y: t.y,
+                u: t.u,
+                s: t.s,
+                pc: t.pc,
+                a: t.a,
+                b: t.b,
+                dp: t.dp,
+                cc: CCBits { reg: t.cc },
+            },
+            wait: wait_of(t.wait),
+            armed: t.armed == 1,
+        }
+    }
+}
+
+impl From<HostTwin> for Twin {
+    ghost from_gives = { λ t r. r ≡ twin_from t };
+
+    fn from(t: HostTwin) -> Twin {
+        Twin {
+            machine: Machine::from(t),
+            records: t.records,
+            bytes: t.bytes,
+        }
+    }
+}
+
+impl From<Twin> for HostTwin {
+    ghost from_gives = { λ t r. r ≡ host_twin t };
+
+    fn from(t: Twin) -> HostTwin {
+        let machine = t.machine;
+        let regs = machine.regs;
+        HostTwin {
+            cycles: machine.cycles,
+            instructions: machine.instructions,
+            records: t.records,
+            bytes: t.bytes,
+            x: regs.x,
+            y: regs.y,
+            u: regs.u,
+            s: regs.s,
+            pc: regs.pc,
+            a: regs.a,
+            b: regs.b,
+            dp: regs.dp,
+            cc: regs.cc.reg,
+            wait: machine::wait_byte(machine.wait),
+            armed: machine::mark_byte(machine.armed),
+        }
+    }
+}
+
+impl From<Write> for HostWrite {
+    ghost from_gives = { λ w r. r ≡ host_write w };
+
+    fn from(w: Write) -> HostWrite {
+        HostWrite {
+            at: w.at,
+            byte: w.byte,
+            system: w.system,
+        }
+    }
+}
+
+impl From<Outcome> for HostOutcome {
+    ghost from_gives = { λ o r. r ≡ host_outcome o };
+
+    fn from(o: Outcome) -> HostOutcome {
+        HostOutcome {
+            twin: HostTwin::from(o.twin),
+            devices: o.devices.list.map(|w| HostWrite::from(w)),
+            count: o.devices.count,
+            reads: o.reads as u64,
+            writes: o.writes as u64,
+            answer: answers::number(&o.answer) as u64,
+        }
+    }
+}
+
+// A call that is not recorded keeps both counts of the journal. It takes them beside the report, and so is no `From`.
+pub fn report_of(t: HostTwin, report: Report) -> HostOutcome
+    ensures { result ≡ host_outcome (keeping t report) }
 {
-    Machine {
-        cycles: t.cycles,
-        instructions: t.instructions,
-        regs: Set {
-            x: t.x,
-            y: t.y,
-            u: t.u,
-            s: t.s,
-            pc: t.pc,
-            a: t.a,
-            b: t.b,
-            dp: t.dp,
-            cc: CCBits { reg: t.cc },
+    HostOutcome::from(Outcome {
+        devices: report.devices,
+        twin: Twin {
+            machine: report.machine,
+            records: t.records,
+            bytes: t.bytes,
         },
-        wait: wait_of(t.wait),
-        armed: mark_of(t.armed),
-    }
-}
-
-pub fn twin_of(t: HostTwin) -> Twin
-    ensures { result ≡ twin_from t }
-{
-    Twin {
-        machine: machine_of(t),
-        records: t.records,
-        bytes: t.bytes,
-    }
-}
-
-pub fn host_twin(t: Twin) -> HostTwin
-    ensures { result ≡ host_twin t }
-{
-    let machine = t.machine;
-    let regs = machine.regs;
-    let cc = regs.cc;
-    let wait = machine.wait;
-    HostTwin {
-        cycles: machine.cycles,
-        instructions: machine.instructions,
-        records: t.records,
-        bytes: t.bytes,
-        x: regs.x,
-        y: regs.y,
-        u: regs.u,
-        s: regs.s,
-        pc: regs.pc,
-        a: regs.a,
-        b: regs.b,
-        dp: regs.dp,
-        cc: cc.reg,
-        wait: wait_number(wait),
-        armed: mark_number(machine.armed),
-    }
+        reads: report.reads,
+        writes: report.writes,
+        answer: report.answer,
+    })
 }
 
 fn no_writes() -> [HostWrite; 12]
@@ -257,66 +277,6 @@ fn no_writes() -> [HostWrite; 12]
         byte: 0,
         system: false,
     }; 12]
-}
-
-fn host_write(w: Write) -> HostWrite
-    ensures { result ≡ host_write w }
-{
-    HostWrite {
-        at: w.at,
-        byte: w.byte,
-        system: w.system,
-    }
-}
-
-fn host_writes(devices: Writes) -> [HostWrite; 12]
-    ensures { result ≡ map host_write devices.list }
-{
-    let list = devices.list;
-    let mut out = no_writes();
-    let mut i = 0;
-    while i < 12 {
-        let w = host_write(list[i]);
-        out[i] = w;
-        i += 1;
-    }
-    out
-}
-
-pub fn outcome_of(o: Outcome) -> HostOutcome
-    ensures { result ≡ host_outcome o }
-{
-    let devices = o.devices;
-    let twin = o.twin;
-    let answer = o.answer;
-    HostOutcome {
-        twin: host_twin(twin),
-        devices: host_writes(devices),
-        count: devices.count,
-        reads: o.reads as u64,
-        writes: o.writes as u64,
-        answer: answer.number() as u64,
-    }
-}
-
-// A call that is not recorded keeps both counts of the journal.
-pub fn report_of(t: HostTwin, report: Report) -> HostOutcome
-    ensures { result ≡ host_outcome (keeping t report) }
-{
-    let devices = report.devices;
-    let machine = report.machine;
-    let answer = report.answer;
-    outcome_of(Outcome {
-        devices,
-        twin: Twin {
-            machine,
-            records: t.records,
-            bytes: t.bytes,
-        },
-        reads: report.reads,
-        writes: report.writes,
-        answer,
-    })
 }
 
 // The twin comes back as it was given.

@@ -1,13 +1,12 @@
 -- A refused call leaves everything: of the calls on a twin by their ends, of the host's by the conversions.
 -- Assumes nothing.
+use Rattle.std.specs.Prelude.{Err, Ok, Result, ⊤}
 use Prim.Native.Nat.{ℕ}
 use mathlib.Core.Bool.{Bool, true, false}
 use mathlib.Core.List.{List, []}
 use mathlib.Core.Path.{◌≡◌, refl, sym, ap, ◌∙◌}
 use native.Mathlib.Omega.{arith}
 use Rattle.answers.specs.Numbers.{number_of_answer}
-use Rattle.answers.specs.declared.Answer.{Answer}
-use Rattle.answers.specs.declared.Answer.TheVariants.{Done, Refused}
 use Rattle.answers.specs.declared.Refusal.{Refusal}
 use Rattle.memory.specs.declared.writes.Write.{Write}
 use Rattle.machine.specs.declared.Settings.{Settings}
@@ -23,15 +22,15 @@ use Rattle.host.specs.declared.HostOutcome.{HostOutcome}
 use Rattle.host.proofs.Back.{twins-back}
 use Rattle.host_calls.specs.Refusals.{Keeps, CallsKeep, HostKept, RefusedKept}
 
-not_done : {A : Type 0} {x : Refusal} → Refused x ≡ Done → A
+not_done : {A : Type 0} {x : Refusal} → ◌≡◌ {A = Result ⊤ Refusal} (Err x) (Ok tt) → A
 not_done e = let z : ◌≡◌ {A = ℕ} 0 1 = cc in absurd (omega arith)
 
 -- an end that is refused
-ended : (a : Answer) (s new : State) (ws : List Write) (n k : ℕ) (x : Refusal) → (ending a s new ws n k).answer ≡ Refused x → (ending a s new ws n k).state ≡ s
-ended Done s new ws n k x e = not_done (sym e)
-ended (Refused y) s new ws n k x e = refl
+ended : (a : Result ⊤ Refusal) (s new : State) (ws : List Write) (n k : ℕ) (x : Refusal) → (ending a s new ws n k).answer ≡ Err x → (ending a s new ws n k).state ≡ s
+ended (Ok u) s new ws n k x e = not_done (sym e)
+ended (Err y) s new ws n k x e = refl
 
-called-keeps : (t : Settings) (p : Plan) (s : State) (x : Refusal) → (called t p s).answer ≡ Refused x → (called t p s).state ≡ s
+called-keeps : (t : Settings) (p : Plan) (s : State) (x : Refusal) → (called t p s).answer ≡ Err x → (called t p s).state ≡ s
 unfolding called
 called-keeps t p s x e = ended (call_answer t p s) s (recorded t p s) _ _ _ x e
 
@@ -54,7 +53,7 @@ calls-keep =
     }
 
 module _ (call : State → Ended) (t : HostTwin) (memory journal : List ℕ) (r : HostOutcome) (us vs : List ℕ) where
-  refused-so : (x : Refusal) → Keeps call → is_twin t ≡ true → Ends true call t memory journal r us vs → (call (handed memory journal t)).answer ≡ Refused x
+  refused-so : (x : Refusal) → Keeps call → is_twin t ≡ true → Ends true call t memory journal r us vs → (call (handed memory journal t)).answer ≡ Err x
       → HostKept t memory journal r us vs
   unfolding host_outcome
   refused-so x keeps named e d =
@@ -65,14 +64,14 @@ module _ (call : State → Ended) (t : HostTwin) (memory journal : List ℕ) (r 
         journal-is = e.journal-is ∙ ap (λ (s : State). s.journal) k;
       }
 
-  zero-so : Ends true call t memory journal r us vs → (call (handed memory journal t)).answer ≡ Done → r.answer ≡ 0
+  zero-so : Ends true call t memory journal r us vs → (call (handed memory journal t)).answer ≡ (Ok tt) → r.answer ≡ 0
   unfolding host_outcome
   zero-so e d = ap (λ (o : HostOutcome). o.answer) e.result ∙ ap number_of_answer d
 
-  by_answer : (a : Answer) → Keeps call → is_twin t ≡ true → Ends true call t memory journal r us vs → (r.answer ≡ 0 → ⊥) → (call (handed memory journal t)).answer ≡ a
+  by_answer : (a : Result ⊤ Refusal) → Keeps call → is_twin t ≡ true → Ends true call t memory journal r us vs → (r.answer ≡ 0 → ⊥) → (call (handed memory journal t)).answer ≡ a
       → HostKept t memory journal r us vs
-  by_answer Done keeps named e n d = absurd (n (zero-so e d))
-  by_answer (Refused x) keeps named e n d = refused-so x keeps named e d
+  by_answer (Ok u) keeps named e n d = absurd (n (zero-so e d))
+  by_answer (Err x) keeps named e n d = refused-so x keeps named e d
 
   unnamed-so : Ends false call t memory journal r us vs → HostKept t memory journal r us vs
   unfolding unnamed

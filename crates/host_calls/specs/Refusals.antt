@@ -1,7 +1,6 @@
 -- A refused recorded call of a host, undo or drop leaves its twin, memory and journal, every byte.
 -- Assumes nothing.
-use Rattle.std.specs.Prelude.{ℕ, Bool, true, List, ◌≡◌}
-use Rattle.answers.specs.declared.Answer.TheVariants.{Refused}
+use Rattle.std.specs.Prelude.{ℕ, Bool, true, List, ◌≡◌, Err}
 use Rattle.answers.specs.declared.Refusal.{Refusal}
 use Rattle.machine.specs.declared.Settings.{Settings}
 use Rattle.calls.specs.declared.InterruptType.{InterruptType}
@@ -15,7 +14,7 @@ use Rattle.host.specs.declared.HostOutcome.{HostOutcome}
 
 -- the calls on a twin leave what they had in hand
 abbrev pub Keeps : (State → Ended) → Type 0
-Keeps call = (s : State) (x : Refusal) → (call s).answer ≡ Refused x → (call s).state ≡ s
+Keeps call = (s : State) (x : Refusal) → (call s).answer ≡ Err x → (call s).state ≡ s
 
 pub record CallsKeep : Type 0 where
   pub step : (t : Settings) → Keeps (stepped t)

@@ -1,10 +1,9 @@
 -- What a host gets of the newest record and of S-records.
 -- Assumes nothing.
-use Rattle.std.specs.Prelude.{ℕ, Bool, cond, List, ◌≡◌, length, take, drop}
-use Rattle.answers.specs.Numbers.{number_of_answer}
+use Rattle.std.specs.Prelude.{ℕ, Bool, cond, List, ◌≡◌, length, take, drop, Err, Ok, Result}
+use Rattle.answers.specs.Numbers.{number_of}
+use Rattle.answers.specs.declared.Refusal.{Refusal}
 use Rattle.journal.specs.Undos.{newest_of, newest_from}
-use Rattle.srecord.specs.declared.Loaded.{Loaded}
-use Rattle.srecord.specs.declared.written.Written.{Written}
 use Rattle.salvage.specs.declared.mended.Salvaged.{Salvaged}
 use Rattle.host_calls.specs.declared.HostPart.{HostPart}
 use Rattle.host_calls.specs.declared.HostLoaded.{HostLoaded}
@@ -19,17 +18,21 @@ abi_number = 4
 unfoldable pub part_of : List ℕ → ℕ → ℕ → HostPart
 part_of j records bytes = record { at = newest_from j records bytes; count = length (newest_of j records bytes) }
 
-abbrev pub host_loaded : Loaded → HostLoaded
-host_loaded l = record { start = l.start; answer = number_of_answer l.answer }
+-- 0 in place of what is not there
+abbrev pub host_loaded : Result ℕ Refusal → HostLoaded
+host_loaded (Ok a) = record { start = a; answer = 0 }
+host_loaded (Err r) = record { start = 0; answer = number_of r }
 
-abbrev pub host_written : Written → HostWritten
-host_written w = record { count = w.count; answer = number_of_answer w.answer }
+abbrev pub host_written : Result ℕ Refusal → HostWritten
+host_written (Ok n) = record { count = n; answer = 0 }
+host_written (Err r) = record { count = 0; answer = number_of r }
 
 abbrev pub one_if : Bool → ℕ
 one_if is = cond is 1 0
 
-abbrev pub host_salvaged : Salvaged → HostSalvaged
-host_salvaged s = record { bytes = s.bytes; numbers = s.numbers; added = one_if s.added; answer = number_of_answer s.answer }
+abbrev pub host_salvaged : Result Salvaged Refusal → HostSalvaged
+host_salvaged (Ok s) = record { bytes = s.bytes; numbers = s.numbers; added = one_if s.added; answer = 0 }
+host_salvaged (Err r) = record { bytes = 0; numbers = 0; added = 0; answer = number_of r }
 
 -- the law: that part of the journal is the newest record
 abbrev pub NewestPart : Type 0

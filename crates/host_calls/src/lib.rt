@@ -1,4 +1,5 @@
 // The calls of a host that are not steps: start, interrupt, reset, undo, drop, the newest record, and S-records, torn ones too.
+// C calls each by its name, so that none is generic, and has no Result: an answer stands beside what is 0 where it is a refusal.
 #![tactic(auto)]
 
 ghost use Rattle.std.specs.Prelude.{◌≡◌, length};
@@ -13,10 +14,11 @@ ghost use Rattle.salvage.specs.Mended.{salvaged_of, output_mended, list_filled};
 ghost use Rattle.host.specs.Numbers.{interrupt_type_of, is_twin, is_named, is_interrupt};
 ghost use Rattle.host.specs.Structs.{settings_from, machine_from, host_twin};
 ghost use Rattle.host.specs.Ends.{Ends, EndsEach, Reports};
-ghost use Rattle.host_calls.specs.Results.{abi_number, part_of, host_loaded, host_written, one_if, host_salvaged};
+ghost use Rattle.host_calls.specs.Results.{abi_number, part_of, host_loaded, host_written, host_salvaged};
 
 use host::{HostOutcome, HostSettings, HostTwin};
 use journal::Twin;
+use machine::{Machine, Settings};
 
 // Raised with each change of a struct, or of what a call takes.
 const ABI: u64 = 4;
@@ -65,7 +67,7 @@ pub extern "C" fn doorhawser_abi() -> u64
 pub extern "C" fn doorhawser_start() -> HostTwin
     ensures { result ≡ host_twin fresh_twin }
 {
-    host::host_twin(Twin::fresh())
+    HostTwin::from(Twin::fresh())
 }
 
 // `which` is 0 IRQ, 1 FIRQ, 2 NMI.
@@ -80,11 +82,11 @@ pub extern "C" fn doorhawser_interrupt(
     ensures { Ends (is_interrupt twin settings which) (interrupted (settings_from settings) (interrupt_type_of which)) twin mem.old journal.old result mem.new journal.new }
 {
     if host::is_interrupt(twin, settings, which) {
-        return host::outcome_of(journal::interrupt(
+        return HostOutcome::from(journal::interrupt(
             mem,
             journal,
-            host::twin_of(twin),
-            host::settings_of(settings),
+            Twin::from(twin),
+            Settings::from(settings),
             host::interrupt_type_of(which),
         ));
     }
@@ -101,11 +103,11 @@ pub extern "C" fn doorhawser_reset(
     ensures { Ends (is_named twin settings) (was_reset (settings_from settings)) twin mem.old journal.old result mem.new journal.new }
 {
     if host::is_named(twin, settings) {
-        return host::outcome_of(journal::reset(
+        return HostOutcome::from(journal::reset(
             mem,
             journal,
-            host::twin_of(twin),
-            host::settings_of(settings),
+            Twin::from(twin),
+            Settings::from(settings),
         ));
     }
     host::unnamed(twin)
@@ -117,7 +119,7 @@ pub extern "C" fn doorhawser_undo(mem: &mut [u8], journal: &[u8], twin: HostTwin
     ensures { Ends (is_twin twin) undone twin mem.old journal.now result mem.new journal.now }
 {
     if host::is_twin(twin) {
-        return host::outcome_of(journal::undo(mem, journal, host::twin_of(twin)));
+        return HostOutcome::from(journal::undo(mem, journal, Twin::from(twin)));
     }
     host::unnamed(twin)
 }
@@ -128,7 +130,7 @@ pub extern "C" fn doorhawser_drop(journal: &mut [u8], twin: HostTwin, k: usize) 
     ensures { EndsEach (is_twin twin) (dropped k) twin journal.old result journal.new }
 {
     if host::is_twin(twin) {
-        return host::outcome_of(journal::drop(journal, host::twin_of(twin), k));
+        return HostOutcome::from(journal::drop(journal, Twin::from(twin), k));
     }
     host::unnamed(twin)
 }
@@ -147,8 +149,8 @@ pub extern "C" fn doorhawser_interrupt_unrecorded(
             twin,
             calls::interrupt(
                 mem,
-                host::machine_of(twin),
-                host::settings_of(settings),
+                Machine::from(twin),
+                Settings::from(settings),
                 host::interrupt_type_of(which),
             ),
         );
@@ -167,7 +169,7 @@ pub extern "C" fn doorhawser_reset_unrecorded(
     if host::is_named(twin, settings) {
         return host::report_of(
             twin,
-            calls::reset(mem, host::machine_of(twin), host::settings_of(settings)),
+            calls::reset(mem, Machine::from(twin), Settings::from(settings)),
         );
     }
     host::unnamed(twin)
@@ -192,11 +194,15 @@ pub extern "C" fn doorhawser_newest(journal: &[u8], records: usize, bytes: usize
 pub extern "C" fn doorhawser_load(mem: &mut [u8], text: &[u8]) -> HostLoaded
     ensures { (result ≡ host_loaded (loaded_of mem.old text.now)) × (mem.new ≡ memory_loaded mem.old text.now) }
 {
-    let loaded = srecord::read(mem, text);
-    let answer = loaded.answer;
-    HostLoaded {
-        start: loaded.start as u64,
-        answer: answer.number() as u64,
+    match srecord::read(mem, text) {
+        Ok(start) => HostLoaded {
+            start: start as u64,
+            answer: 0,
+        },
+        Err(refusal) => HostLoaded {
+            start: 0,
+            answer: refusal.number() as u64,
+        },
     }
 }
 
@@ -205,18 +211,13 @@ pub extern "C" fn doorhawser_load(mem: &mut [u8], text: &[u8]) -> HostLoaded
 pub extern "C" fn doorhawser_save(mem: &[u8], start: u16, out: &mut [u8]) -> HostWritten
     ensures { (result ≡ host_written (output_written mem.now start out.old)) × (out.new ≡ output_after mem.now start out.old) }
 {
-    let written = srecord::write(mem, start, out);
-    let answer = written.answer;
-    HostWritten {
-        count: written.count,
-        answer: answer.number() as u64,
+    match srecord::write(mem, start, out) {
+        Ok(count) => HostWritten { count, answer: 0 },
+        Err(refusal) => HostWritten {
+            count: 0,
+            answer: refusal.number() as u64,
+        },
     }
-}
-
-fn one_if(is: bool) -> u64
-    ensures { result ≡ one_if is }
-{
-    if is { 1 } else { 0 }
 }
 
 // What is sound of an S-record file, at the front of `out`, and the numbers of the lines that are dropped, at the front of `list`.
@@ -224,13 +225,18 @@ fn one_if(is: bool) -> u64
 pub extern "C" fn doorhawser_salvage(text: &[u8], out: &mut [u8], list: &mut [u8]) -> HostSalvaged
     ensures { (result ≡ host_salvaged (salvaged_of text.now out.old list.old)) × ((out.new ≡ output_mended text.now out.old list.old) × (list.new ≡ list_filled text.now out.old list.old)) }
 {
-    let salvaged = salvage::salvage(text, out, list);
-    let answer = salvaged.answer;
-    let added = one_if(salvaged.added);
-    HostSalvaged {
-        bytes: salvaged.bytes,
-        numbers: salvaged.numbers,
-        added,
-        answer: answer.number() as u64,
+    match salvage::salvage(text, out, list) {
+        Ok(salvaged) => HostSalvaged {
+            bytes: salvaged.bytes,
+            numbers: salvaged.numbers,
+            added: salvaged.added as u64,
+            answer: 0,
+        },
+        Err(refusal) => HostSalvaged {
+            bytes: 0,
+            numbers: 0,
+            added: 0,
+            answer: refusal.number() as u64,
+        },
     }
 }

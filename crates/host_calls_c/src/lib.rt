@@ -1,4 +1,5 @@
-// The calls that are not steps, for hosts in C and Rust: start, interrupt, reset, undo, drop, the newest record, and S-records, torn ones too.
+// The calls that are not steps, for hosts in C and Rust: start, interrupt, reset, undo, drop, the newest record, and S-records, torn ones
+// too. A thin archive over the library of the same names, as host_step_c is.
 #![tactic(auto)]
 
 ghost use Rattle.std.specs.Prelude.{◌≡◌};

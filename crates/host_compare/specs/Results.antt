@@ -1,9 +1,10 @@
 -- What a host gets of dumps and of a comparison.
 -- Assumes nothing.
-use Rattle.answers.specs.Numbers.{number_of_answer}
-use Rattle.difference.specs.declared.Compared.{Compared}
-use Rattle.dump.specs.declared.Dumped.{Dumped}
-use Rattle.dump.specs.declared.Undumped.{Undumped}
+use Rattle.std.specs.Prelude.{ℕ, Result, Err, Ok}
+use Rattle.answers.specs.Numbers.{number_of}
+use Rattle.answers.specs.declared.Refusal.{Refusal}
+use Rattle.machine.specs.Machine.{fresh}
+use Rattle.machine.specs.declared.Machine.{Machine}
 use Rattle.host.specs.Numbers.{unnamed_number}
 use Rattle.host.specs.Structs.{host_twin}
 use Rattle.host_compare.specs.declared.HostCounted.{HostCounted}
@@ -13,12 +14,15 @@ use Rattle.host_compare.specs.declared.HostUndumped.{HostUndumped}
 abbrev pub unnamed_count : HostCounted
 unnamed_count = record { count = 0; answer = unnamed_number }
 
-abbrev pub host_dumped : Dumped → HostCounted
-host_dumped d = record { count = d.count; answer = number_of_answer d.answer }
+-- how many bytes, or entries, are written
+abbrev pub host_counted : Result ℕ Refusal → HostCounted
+host_counted (Ok n) = record { count = n; answer = 0 }
+host_counted (Err x) = record { count = 0; answer = number_of x }
 
 -- a dump has no journal: no record is held, and no byte is in use
-abbrev pub host_undumped : Undumped → HostUndumped
-host_undumped u = record { twin = host_twin (record { machine = u.machine; records = 0; bytes = 0 }); answer = number_of_answer u.answer }
+abbrev pub undumped_as : Machine → ℕ → HostUndumped
+undumped_as m n = record { twin = host_twin (record { machine = m; records = 0; bytes = 0 }); answer = n }
 
-abbrev pub host_compared : Compared → HostCounted
-host_compared c = record { count = c.count; answer = number_of_answer c.answer }
+abbrev pub host_undumped : Result Machine Refusal → HostUndumped
+host_undumped (Ok m) = undumped_as m 0
+host_undumped (Err x) = undumped_as fresh (number_of x)

@@ -1,4 +1,5 @@
 // For hosts in C and Rust: dumps, and what differs between two twins.
+// The structs are C's: an answer's number stands beside a count or a twin, and a count alone tells what a lent buffer got.
 #![tactic(auto)]
 
 ghost use Rattle.std.specs.Prelude.{cond, ◌&&◌, ◌≡◌};
@@ -6,10 +7,12 @@ ghost use Rattle.difference.specs.Compare.{compared, list_after};
 ghost use Rattle.dump.specs.Dumps.{dumped, output_dumped, undumped, memory_undumped};
 ghost use Rattle.host.specs.Numbers.{is_twin};
 ghost use Rattle.host.specs.Structs.{machine_from};
-ghost use Rattle.host_compare.specs.Results.{unnamed_count, host_dumped, host_undumped, host_compared};
+ghost use Rattle.host_compare.specs.Results.{unnamed_count, host_counted, undumped_as, host_undumped};
 
+use answers::Refusal;
 use host::HostTwin;
 use journal::Twin;
+use machine::Machine;
 
 // How many bytes, or entries, are written.
 #[repr(C)]
@@ -30,45 +33,55 @@ pub struct HostUndumped {
 fn unnamed_count(twin: HostTwin) -> HostCounted
     ensures { result ≡ unnamed_count }
 {
-    let refused = host::unnamed(twin);
     HostCounted {
         count: 0,
-        answer: refused.answer,
+        answer: host::unnamed(twin).answer,
     }
+}
+
+fn counted(answer: Result<usize, Refusal>) -> HostCounted
+    ensures { result ≡ host_counted answer }
+{
+    match answer {
+        Ok(count) => HostCounted { count, answer: 0 },
+        Err(refusal) => HostCounted {
+            count: 0,
+            answer: refusal.number() as u64,
+        },
+    }
+}
+
+// A dump has no journal: no record is held, and no byte is in use.
+fn undumped_as(machine: Machine, answer: u64) -> HostUndumped
+    ensures { result ≡ undumped_as machine answer }
+{
+    let twin = HostTwin::from(Twin {
+        machine,
+        records: 0,
+        bytes: 0,
+    });
+    HostUndumped { twin, answer }
 }
 
 // A twin's machine with its memory as a dump, at the front of `out`.
 #[unsafe(no_mangle)]
 pub extern "C" fn doorhawser_dump(mem: &[u8], twin: HostTwin, out: &mut [u8]) -> HostCounted
-    ensures { (result ≡ cond (is_twin twin) (host_dumped (dumped mem.now out.old)) unnamed_count) × (out.new ≡ cond (is_twin twin) (output_dumped (machine_from twin) mem.now out.old) out.old) }
+    ensures { (result ≡ cond (is_twin twin) (host_counted (dumped mem.now out.old)) unnamed_count) × (out.new ≡ cond (is_twin twin) (output_dumped (machine_from twin) mem.now out.old) out.old) }
 {
     if host::is_twin(twin) {
-        let written = dump::write(host::machine_of(twin), mem, out);
-        let answer = written.answer;
-        return HostCounted {
-            count: written.count,
-            answer: answer.number() as u64,
-        };
+        return counted(dump::write(Machine::from(twin), mem, out));
     }
     unnamed_count(twin)
 }
 
-// A dump's memory is laid in `mem`, and its machine handed back with no record.
+// A dump's memory is laid in `mem`, and its machine handed back with no record; where it is refused, a fresh machine.
 #[unsafe(no_mangle)]
 pub extern "C" fn doorhawser_undump(mem: &mut [u8], dump: &[u8]) -> HostUndumped
     ensures { (result ≡ host_undumped (undumped dump.now mem.old)) × (mem.new ≡ memory_undumped dump.now mem.old) }
 {
-    let read = dump::read(dump, mem);
-    let machine = read.machine;
-    let answer = read.answer;
-    let twin = host::host_twin(Twin {
-        machine,
-        records: 0,
-        bytes: 0,
-    });
-    HostUndumped {
-        twin,
-        answer: answer.number() as u64,
+    match dump::read(dump, mem) {
+        Ok(machine) => undumped_as(machine, 0),
+        Err(refusal) => undumped_as(Machine::fresh(), refusal.number() as u64),
     }
 }
 
@@ -81,21 +94,17 @@ pub extern "C" fn doorhawser_compare(
     right: HostTwin,
     list: &mut [u8],
 ) -> HostCounted
-    ensures { (result ≡ cond (is_twin left && is_twin right) (host_compared (compared (machine_from left) left_mem.now (machine_from right) right_mem.now list.old)) unnamed_count) × (list.new ≡ cond (is_twin left && is_twin right) (list_after (machine_from left) left_mem.now (machine_from right) right_mem.now list.old) list.old) }
+    ensures { (result ≡ cond (is_twin left && is_twin right) (host_counted (compared (machine_from left) left_mem.now (machine_from right) right_mem.now list.old)) unnamed_count) × (list.new ≡ cond (is_twin left && is_twin right) (list_after (machine_from left) left_mem.now (machine_from right) right_mem.now list.old) list.old) }
 {
     if host::is_twin(left) & host::is_twin(right) {
         let compared = difference::compare(
-            host::machine_of(left),
+            Machine::from(left),
             left_mem,
-            host::machine_of(right),
+            Machine::from(right),
             right_mem,
             list,
         );
-        let answer = compared.answer;
-        return HostCounted {
-            count: compared.count,
-            answer: answer.number() as u64,
-        };
+        return counted(compared);
     }
     unnamed_count(left)
 }

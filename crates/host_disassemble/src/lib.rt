@@ -5,9 +5,8 @@ ghost use Rattle.std.specs.Prelude.{◌≡◌, length};
 ghost use Rattle.disassembly.specs.Disassembly.{disassembled_of, line_after};
 ghost use Rattle.host_disassemble.specs.Results.{host_line};
 
-use disassembly::Disassembled;
-
 // How many bytes the instruction has, 0 where it is refused.
+// C's struct: a count and a refusal's number, and no `Result`.
 #[repr(C)]
 #[derive(Clone, Copy)]
 pub struct HostLine {
@@ -20,11 +19,11 @@ pub extern "C" fn doorhawser_disassemble(mem: &[u8], at: u16, line: &mut [u8]) -
     ensures { (result ≡ host_line (disassembled_of mem.now at (length line.old))) × (line.new ≡ line_after mem.now at line.old) }
 {
     match disassembly::disassemble(mem, at, line) {
-        Disassembled::Line(n) => HostLine {
+        Ok(n) => HostLine {
             count: n as u64,
             answer: 0,
         },
-        Disassembled::Refused(refusal) => HostLine {
+        Err(refusal) => HostLine {
             count: 0,
             answer: refusal.number() as u64,
         },

@@ -1,5 +1,6 @@
 -- A run by steps: one more, and the end.
 -- Assumes nothing.
+use Rattle.std.specs.Prelude.{Err, Ok, Result, ⊤}
 use Prim.Native.Nat.{ℕ, zero, suc, ◌-◌, ◌≤◌, ◌<◌}
 use mathlib.Core.Path.{◌≡◌, refl}
 use mathlib.Core.Bool.{Bool, true, false, ◌&&◌}
@@ -7,18 +8,17 @@ use mathlib.Core.List.{List}
 use native.Mathlib.Omega.{arith}
 use borrow.Author.Tests.{lt-ltb}
 use lib.Dec.{ltb}
-use Rattle.answers.specs.declared.Answer.{Answer}
-use Rattle.answers.specs.declared.Answer.TheVariants.{Done, Refused}
 use Rattle.machine.specs.declared.Settings.{Settings}
 use Rattle.calls.specs.Steps.{step_of, memory_after_step}
 use Rattle.calls.specs.declared.Report.{Report}
 use Rattle.host.specs.declared.HostTwin.{HostTwin}
 use Rattle.host_run.specs.Runs.{goes_on, uncounted, Running, running, run_stopped, host_ran, not_run, RunEnds}
 use Rattle.host_run.specs.declared.HostRan.{HostRan}
+use Rattle.answers.specs.declared.Refusal.{Refusal}
 
-pub at_most_one : (a : Answer) → uncounted a ≤ 1
-at_most_one Done = omega arith
-at_most_one (Refused x) = omega arith
+pub at_most_one : (a : Result ⊤ Refusal) → uncounted a ≤ 1
+at_most_one (Ok u) = omega arith
+at_most_one (Err x) = omega arith
 
 module _ (s : Settings) where
   pub run_more : (n : ℕ) (r : Report) (mem : List ℕ) → 0 < n → goes_on r ≡ true

@@ -1,8 +1,6 @@
 -- A run: at most so many steps that are not recorded, up to and with the first that is refused or reports a device write.
 -- Assumes nothing.
-use Rattle.std.specs.Prelude.{ℕ, zero, suc, ◌+◌, Bool, true, false, cond, ◌&&◌, List, [], ◌≡◌, eqb}
-use Rattle.answers.specs.declared.Answer.{Answer}
-use Rattle.answers.specs.declared.Answer.TheVariants.{Done, Refused}
+use Rattle.std.specs.Prelude.{ℕ, zero, suc, ◌+◌, Bool, true, false, cond, ◌&&◌, List, [], ◌≡◌, eqb, Err, Ok, Result, ⊤}
 use Rattle.memory.specs.Writes.{writes_of}
 use Rattle.machine.specs.declared.Machine.{Machine}
 use Rattle.machine.specs.declared.Settings.{Settings}
@@ -12,10 +10,11 @@ use Rattle.host.specs.Structs.{host_outcome, keeping, unnamed}
 use Rattle.host.specs.declared.HostTwin.{HostTwin}
 use Rattle.host_run.specs.declared.HostRan.{HostRan}
 use Rattle.host_run.specs.declared.Ran.{Ran}
+use Rattle.answers.specs.declared.Refusal.{Refusal}
 
-abbrev pub is_done : Answer → Bool
-is_done Done = true
-is_done (Refused x) = false
+abbrev pub is_done : Result ⊤ Refusal → Bool
+is_done (Ok u) = true
+is_done (Err x) = false
 
 -- after a step that was carried out and reported no device write
 unfoldable pub goes_on : Report → Bool
@@ -23,7 +22,7 @@ goes_on r = is_done r.answer && eqb r.devices.count 0
 
 -- before the first step
 abbrev pub before : Machine → Report
-before m = record { devices = writes_of []; machine = m; reads = 0; writes = 0; answer = Done }
+before m = record { devices = writes_of []; machine = m; reads = 0; writes = 0; answer = (Ok tt) }
 
 -- the last step, the steps allowed less those that were carried out, and memory
 pub record Running : Type 0 where
@@ -31,9 +30,9 @@ pub record Running : Type 0 where
   pub memory : List ℕ
 
 -- a step that is refused does not count
-abbrev pub uncounted : Answer → ℕ
-uncounted Done = 0
-uncounted (Refused x) = 1
+abbrev pub uncounted : Result ⊤ Refusal → ℕ
+uncounted (Ok u) = 0
+uncounted (Err x) = 1
 
 abbrev pub run_stopped : Report → ℕ → List ℕ → Running
 run_stopped r left mem = record { ran = record { last = r; left = left + uncounted r.answer }; memory = mem }

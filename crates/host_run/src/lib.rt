@@ -6,7 +6,6 @@ ghost use Rattle.host.specs.Numbers.{is_named};
 ghost use Rattle.host.specs.Structs.{settings_from, machine_from};
 ghost use Rattle.host_run.specs.Runs.{goes_on, before, uncounted, running, host_ran, not_run, RunEnds};
 
-use answers::Answer;
 use calls::Report;
 use host::{HostOutcome, HostSettings, HostTwin};
 use machine::{Machine, Settings};
@@ -31,11 +30,9 @@ pub struct Ran {
 fn goes_on(report: Report) -> bool
     ensures { result ≡ goes_on report }
 {
-    let devices = report.devices;
-    let answer = report.answer;
-    match answer {
-        Answer::Done => devices.count == 0,
-        Answer::Refused(_) => false,
+    match report.answer {
+        Ok(()) => report.devices.count == 0,
+        Err(_) => false,
     }
 }
 
@@ -43,11 +40,7 @@ fn goes_on(report: Report) -> bool
 fn uncounted(report: Report) -> u64
     ensures { result ≡ uncounted report.answer }
 {
-    let answer = report.answer;
-    match answer {
-        Answer::Done => 0,
-        Answer::Refused(_) => 1,
-    }
+    report.answer.is_err() as u64
 }
 
 fn run(mem: &mut [u8], machine: Machine, settings: Settings, count: u64) -> Ran
@@ -58,18 +51,17 @@ fn run(mem: &mut [u8], machine: Machine, settings: Settings, count: u64) -> Ran
         machine,
         reads: 0,
         writes: 0,
-        answer: Answer::Done,
+        answer: Ok(()),
     };
     let mut left = count;
+    // What a step did ends the loop too: a `for` would leave its body for that, and be no plainer.
     while (0 < left) & goes_on(last) {
-        let current = last.machine;
-        last = calls::step(mem, current, settings);
+        last = calls::step(mem, last.machine, settings);
         left -= 1;
     }
-    let uncarried = uncounted(last);
     Ran {
         last,
-        left: left + uncarried,
+        left: left + uncounted(last),
     }
 }
 
@@ -93,15 +85,9 @@ pub extern "C" fn doorhawser_run_unrecorded(
     ensures { RunEnds (is_named twin settings) (running (settings_from settings) count (before (machine_from twin)) mem.old) twin count mem.old result mem.new }
 {
     if host::is_named(twin, settings) {
-        let ran = run(
-            mem,
-            host::machine_of(twin),
-            host::settings_of(settings),
-            count,
-        );
-        let last = ran.last;
+        let ran = run(mem, Machine::from(twin), Settings::from(settings), count);
         return HostRan {
-            last: host::report_of(twin, last),
+            last: host::report_of(twin, ran.last),
             left: ran.left,
         };
     }

@@ -1,21 +1,19 @@
 -- A run with an allowance for a host: the stop address as a number, and what comes back.
 -- Assumes nothing.
-use Rattle.std.specs.Prelude.{ℕ, Bool, cond, List, map, ◌≡◌, leb, ltb}
+use Rattle.std.specs.Prelude.{ℕ, Bool, cond, List, map, ◌≡◌, leb, ltb, None, Option, Some}
 use Rattle.answers.specs.Numbers.{number_of_answer}
 use Rattle.host.specs.Structs.{host_twin, host_write, unnamed}
 use Rattle.host.specs.declared.HostTwin.{HostTwin}
 use Rattle.runs.specs.Runs.{RunEnded, reason_number, ran_returned}
 use Rattle.runs.specs.declared.RunOutcome.{RunOutcome}
-use Rattle.runs.specs.declared.Stop.{Stop}
-use Rattle.runs.specs.declared.Stop.TheVariants.{Nowhere, At}
 use Rattle.host_run_recorded.specs.declared.HostStopped.{HostStopped}
 
 -- 0000 to FFFF is an address, and 10000 none; a number above names nothing
 abbrev pub is_stop : ℕ → Bool
 is_stop n = leb n 0x10000
 
-abbrev pub stop_from : ℕ → Stop
-stop_from n = cond (ltb n 0x10000) (At n) Nowhere
+abbrev pub stop_from : ℕ → Option ℕ
+stop_from n = cond (ltb n 0x10000) (Some n) None
 
 unfoldable pub host_stopped : RunOutcome → HostStopped
 host_stopped o =

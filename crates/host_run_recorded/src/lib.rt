@@ -9,14 +9,15 @@ ghost use Rattle.runs.specs.Runs.{ran};
 ghost use Rattle.host_run_recorded.specs.Runs.{is_stop, stop_from, host_stopped, not_started, HostRunEnds};
 
 use host::{HostOutcome, HostSettings, HostTwin};
-use journal::Outcome;
-use runs::{RunOutcome, Stop};
+use journal::{Outcome, Twin};
+use machine::Settings;
+use runs::RunOutcome;
 
-// The number by which a host names no stop address: the first that is no address.
+// The number by which a host names no stop address: the first that is no address. C has no None.
 const NO_STOP: u32 = 0x10000;
 
-// What the run returns, with the bytes that its steps read and wrote, why it ended (0 where the host's numbers name nothing), and the refused
-// step's number.
+// What the run returns, with the bytes that its steps read and wrote, why it ended (0 where the host's numbers name nothing), and the
+// refused step's number: C has no Option.
 #[repr(C)]
 #[derive(Clone, Copy)]
 pub struct HostStopped {
@@ -31,35 +32,28 @@ fn is_stop(stop: u32) -> bool
     stop <= NO_STOP
 }
 
-fn stop_of(stop: u32) -> Stop
+fn stop_of(stop: u32) -> Option<u16>
     ensures { result ≡ stop_from stop }
 {
-    if stop < NO_STOP {
-        return Stop::At(stop as u16);
-    }
-    Stop::Nowhere
+    u16::try_from(stop).ok()
 }
 
 fn stopped(ran: RunOutcome) -> HostStopped
     ensures { result ≡ host_stopped ran }
 {
-    let devices = ran.devices;
-    let twin = ran.twin;
-    let answer = ran.answer;
-    let reason = ran.reason;
     // The sums of a run are wider than a call's counts.
-    let mut outcome = host::outcome_of(Outcome {
-        devices,
-        twin,
+    let mut outcome = HostOutcome::from(Outcome {
+        devices: ran.devices,
+        twin: ran.twin,
         reads: 0,
         writes: 0,
-        answer,
+        answer: ran.answer,
     });
     outcome.reads = ran.reads;
     outcome.writes = ran.writes;
     HostStopped {
         outcome,
-        reason: reason.number() as u64,
+        reason: ran.reason.number() as u64,
         number: ran.number as u64,
     }
 }
@@ -89,8 +83,8 @@ pub extern "C" fn doorhawser_run(
         return stopped(runs::run(
             mem,
             journal,
-            host::twin_of(twin),
-            host::settings_of(settings),
+            Twin::from(twin),
+            Settings::from(settings),
             allowance,
             stop_of(stop),
         ));

@@ -1,5 +1,5 @@
-// The recorded step for hosts in C and Rust. A crate is a library or an archive, so each library of such calls has a thin archive over it, whose
-// functions call the library's of the same names and promise the same. With one call site in its archive the step is compiled into it
+// The recorded step for hosts in C and Rust. A crate is a library or an archive, so each library of such calls has a thin archive over it,
+// whose functions call the library's of the same names and promise the same. With one call site in its archive the step is compiled into it
 // (docs/PERFORMANCE.md).
 #![tactic(auto)]
 

@@ -7,6 +7,7 @@ ghost use Rattle.host.specs.Structs.{settings_from, machine_from};
 ghost use Rattle.host.specs.Ends.{Reports};
 
 use host::{HostOutcome, HostSettings, HostTwin};
+use machine::{Machine, Settings};
 
 #[unsafe(no_mangle)]
 pub extern "C" fn doorhawser_step_unrecorded(
@@ -19,7 +20,7 @@ pub extern "C" fn doorhawser_step_unrecorded(
     if host::is_named(twin, settings) {
         return host::report_of(
             twin,
-            calls::step(mem, host::machine_of(twin), host::settings_of(settings)),
+            calls::step(mem, Machine::from(twin), Settings::from(settings)),
         );
     }
     host::unnamed(twin)

@@ -14,7 +14,7 @@ type Dump = [u8; 65568];
 // Room for four records of 34 bytes, and one of 70 with twelve entries.
 type Journal = [u8; 206];
 
-// 0000 to FFFF, then seven empty ranges.
+// 0000 to FFFF, then seven empty ranges: the profile as a host has it, whose ranges are C's.
 fn all_allowed() -> [HostRange; 8] {
     let mut profile = [HostRange { first: 1, last: 0 }; 8];
     profile[0] = HostRange {
@@ -69,19 +69,19 @@ fn forward(rt: &HostRuntime, mem: &mut Memory, journal: &mut Journal) -> io::Res
     )
 }
 
-// Five undos, and one that finds no record.
+// So many undos.
 fn back(
     rt: &HostRuntime,
     mem: &mut Memory,
     journal: &Journal,
     twin: HostTwin,
+    count: u8,
 ) -> io::Result<HostTwin> {
-    let fourth = played::shown(rt, host_calls::doorhawser_undo(mem, journal, twin))?;
-    let third = played::shown(rt, host_calls::doorhawser_undo(mem, journal, fourth))?;
-    let second = played::shown(rt, host_calls::doorhawser_undo(mem, journal, third))?;
-    let first = played::shown(rt, host_calls::doorhawser_undo(mem, journal, second))?;
-    let none = played::shown(rt, host_calls::doorhawser_undo(mem, journal, first))?;
-    played::shown(rt, host_calls::doorhawser_undo(mem, journal, none))
+    let mut left = twin;
+    for _ in 0..count {
+        left = played::shown(rt, host_calls::doorhawser_undo(mem, journal, left))?;
+    }
+    Ok(left)
 }
 
 // Of five records the two oldest are dropped, which six are too many for; then three undos, and one that finds no record.
@@ -96,10 +96,7 @@ fn forget(
     played::number(rt, fewer.records as u64)?;
     played::number(rt, fewer.bytes as u64)?;
     newest(rt, journal, fewer)?;
-    let second = played::shown(rt, host_calls::doorhawser_undo(mem, journal, fewer))?;
-    let first = played::shown(rt, host_calls::doorhawser_undo(mem, journal, second))?;
-    let none = played::shown(rt, host_calls::doorhawser_undo(mem, journal, first))?;
-    played::shown(rt, host_calls::doorhawser_undo(mem, journal, none))?;
+    back(rt, mem, journal, fewer, 4)?;
     Ok(())
 }
 
@@ -148,8 +145,10 @@ fn unrecorded(rt: &HostRuntime, mem: &mut Memory, twin: HostTwin) -> io::Result<
         rt,
         host_calls::doorhawser_interrupt_unrecorded(mem, reset, settings(), 2),
     )?;
-    let mut armed = held_off;
-    armed.armed = 1;
+    let armed = HostTwin {
+        armed: 1,
+        ..held_off
+    };
     let refused = played::shown(
         rt,
         host_calls::doorhawser_interrupt_unrecorded(mem, armed, settings(), 2),
@@ -167,8 +166,7 @@ fn unrecorded(rt: &HostRuntime, mem: &mut Memory, twin: HostTwin) -> io::Result<
         rt,
         host_calls::doorhawser_interrupt_unrecorded(mem, third, settings(), 1),
     )?;
-    let mut waits = masked;
-    waits.wait = 1;
+    let waits = HostTwin { wait: 1, ..masked };
     let stopped = host_run::doorhawser_run_unrecorded(mem, waits, settings(), 7);
     played::number(rt, stopped.left)?;
     played::shown(rt, stopped.last)?;
@@ -186,30 +184,31 @@ fn unnamed(
     journal: &mut Journal,
     twin: HostTwin,
 ) -> io::Result<()> {
-    let mut waits = twin;
-    waits.wait = 3;
+    let waits = HostTwin { wait: 3, ..twin };
     played::shown(
         rt,
         host_step::doorhawser_step(mem, journal, waits, settings()),
     )?;
-    let mut armed = twin;
-    armed.armed = 2;
+    let armed = HostTwin { armed: 2, ..twin };
     played::shown(rt, host_calls::doorhawser_undo(mem, journal, armed))?;
     played::shown(rt, host_calls::doorhawser_drop(journal, armed, 0))?;
-    let mut bytes = twin;
-    bytes.bytes = 207;
+    let bytes = HostTwin { bytes: 207, ..twin };
     played::shown(
         rt,
         host_calls::doorhawser_reset(mem, journal, bytes, settings()),
     )?;
-    let mut flags = settings();
-    flags.flags = 2;
+    let flags = HostSettings {
+        flags: 2,
+        ..settings()
+    };
     played::shown(
         rt,
         host_step_unrecorded::doorhawser_step_unrecorded(mem, twin, flags),
     )?;
-    let mut spare = settings();
-    spare.spare = 1;
+    let spare = HostSettings {
+        spare: 1,
+        ..settings()
+    };
     let ran = host_run::doorhawser_run_unrecorded(mem, twin, spare, 7);
     played::number(rt, ran.left)?;
     played::shown(rt, ran.last)?;
@@ -235,10 +234,6 @@ fn save(rt: &HostRuntime, mem: &Memory) -> io::Result<()> {
     played::number(rt, written.count as u64)
 }
 
-fn wide(b: u8) -> u64 {
-    b as u64
-}
-
 // A torn file: a line, and one that is cut.
 fn salvage(rt: &HostRuntime) -> io::Result<()> {
     let mut out = [0u8; 26];
@@ -248,7 +243,7 @@ fn salvage(rt: &HostRuntime) -> io::Result<()> {
     played::number(rt, salvaged.bytes as u64)?;
     played::number(rt, salvaged.numbers as u64)?;
     played::number(rt, salvaged.added)?;
-    played::number(rt, wide(list[7]))
+    played::byte(rt, list[7])
 }
 
 // The instruction at 1000, in a line of 48 bytes and in one of 47.
@@ -285,8 +280,7 @@ fn dumps(
     let compared = host_compare::doorhawser_compare(other, twin, mem, none, &mut list);
     played::number(rt, compared.answer)?;
     played::number(rt, compared.count as u64)?;
-    let mut waits = none;
-    waits.wait = 3;
+    let waits = HostTwin { wait: 3, ..none };
     let refused = host_compare::doorhawser_compare(other, twin, mem, waits, &mut list);
     played::number(rt, refused.answer)?;
     played::number(rt, refused.count as u64)
@@ -299,7 +293,8 @@ fn main(rt: HostRuntime) -> io::Result<()> {
     load(&rt, &mut mem)?;
     let ended = forward(&rt, &mut mem, &mut journal)?;
     newest(&rt, &journal, ended)?;
-    let none = back(&rt, &mut mem, &journal, ended)?;
+    // Of five records, and one undo that finds none.
+    let none = back(&rt, &mut mem, &journal, ended, 6)?;
     newest(&rt, &journal, none)?;
     let again = forward(&rt, &mut mem, &mut journal)?;
     forget(&rt, &mut mem, &mut journal, again)?;

@@ -11,8 +11,7 @@ fn letter(n: u8) -> u8 {
 
 // The low word of a number, in hexadecimal, in a line of its own.
 pub fn number(rt: &HostRuntime, n: u64) -> io::Result<()> {
-    let high = (n / 256 % 256) as u8;
-    let low = (n % 256) as u8;
+    let [high, low] = ((n % 0x10000) as u16).to_be_bytes();
     let out = [
         letter(high / 16),
         letter(high),
@@ -29,8 +28,7 @@ pub fn byte(rt: &HostRuntime, n: u8) -> io::Result<()> {
 
 // The answer in two decimal digits, PC, CC, and the last digit of cycles.
 fn show(rt: &HostRuntime, answer: u8, pc: u16, cc: u8, cycles: u8) -> io::Result<()> {
-    let high = (pc / 256) as u8;
-    let low = (pc % 256) as u8;
+    let [high, low] = pc.to_be_bytes();
     let out = [
         letter(answer / 10),
         letter(answer % 10),

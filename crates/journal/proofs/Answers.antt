@@ -1,5 +1,6 @@
 -- What the calls answer, test by test, and what then is left in memory and journal.
 -- Assumes nothing.
+use Rattle.std.specs.Prelude.{Err, Ok, Result, ⊤}
 use Prim.Native.Nat.{ℕ, ◌+◌, ◌-◌, ◌≤◌, ◌<◌}
 use mathlib.Core.Path.{◌≡◌, refl, sym, ap, ◌∙◌}
 use mathlib.Core.Bool.{Bool, true, false, cond, ◌&&◌}
@@ -12,8 +13,6 @@ use lib.ListN.{length, get_or, take, drop, length-drop}
 use lib.Seq.{sets, length-take-le}
 use borrow.Author.Tests.{eq-eqb, ne_eqb, le-leb, lt-leb, lt-ltb, le-ltb, eqb-true, leb-true, ltb-true}
 use Rattle.memory.specs.Writes.{writes_of, listed, stored, reported}
-use Rattle.answers.specs.declared.Answer.{Answer}
-use Rattle.answers.specs.declared.Answer.TheVariants.{Done, Refused}
 use Rattle.answers.specs.declared.Refusal.{Refusal}
 use Rattle.answers.specs.declared.Refusal.TheVariants.{MemoryLength, Waiting, JournalFull, NoRecord, JournalLength}
 use Rattle.memory.specs.declared.writes.Write.{Write}
@@ -46,38 +45,38 @@ and-false true = refl
 and-false false = refl
 
 -- a refusal
-pub refused-leaves : (a : Answer) (s new : State) (ds : List Write) (reads writes : ℕ) (x : Refusal) (r : Outcome) → a ≡ Refused x
+pub refused-leaves : (a : Result ⊤ Refusal) (s new : State) (ds : List Write) (reads writes : ℕ) (x : Refusal) (r : Outcome) → a ≡ Err x
     → r ≡ turned_down s.twin x → Leaves r s.memory s.journal (ending a s new ds reads writes)
 refused-leaves a s new ds reads writes x r e p = rw e (record { result = p; memory-is = refl; journal-is = refl })
 
 -- ---- before a recorded call
 
 module _ (memory journal records bytes : ℕ) where
-  pub short-memory : (memory ≡ 65536 → ⊥) → Refused MemoryLength ≡ admitted memory journal records bytes
+  pub short-memory : (memory ≡ 65536 → ⊥) → Err MemoryLength ≡ admitted memory journal records bytes
   unfolding admitted
   short-memory h = rw (ne_eqb memory 65536 h)
 
   module _ (size : memory ≡ 65536) where
-    pub short-journal : journal < bytes → Refused JournalLength ≡ admitted memory journal records bytes
+    pub short-journal : journal < bytes → Err JournalLength ≡ admitted memory journal records bytes
     unfolding admitted
     short-journal h = rw (eq-eqb memory 65536 size, lt-leb bytes journal h)
 
     module _ (within : bytes ≤ journal) where
-      pub most-counted : most_records ≤ records → Refused JournalLength ≡ admitted memory journal records bytes
+      pub most-counted : most_records ≤ records → Err JournalLength ≡ admitted memory journal records bytes
       unfolding admitted
       most-counted h = rw (eq-eqb memory 65536 size, le-leb bytes journal within, le-ltb records most_records h)
 
-      pub admits-all : records < most_records → Done ≡ admitted memory journal records bytes
+      pub admits-all : records < most_records → (Ok tt) ≡ admitted memory journal records bytes
       unfolding admitted
       admits-all h = rw (eq-eqb memory 65536 size, le-leb bytes journal within, lt-ltb records most_records h)
 
-need-done : (b : Bool) (x : Refusal) (rest : Answer) → need b x rest ≡ Done → (b ≡ true) × (rest ≡ Done)
+need-done : (b : Bool) (x : Refusal) (rest : Result ⊤ Refusal) → need b x rest ≡ (Ok tt) → (b ≡ true) × (rest ≡ (Ok tt))
 need-done true x rest e = (refl, e)
 need-done false x rest e = let z : ◌≡◌ {A = ℕ} 0 1 = cc in absurd (omega arith)
 
-unless-done : (a rest : Answer) → unless a rest ≡ Done → (a ≡ Done) × (rest ≡ Done)
-unless-done Done rest e = (refl, e)
-unless-done (Refused x) rest e = let z : ◌≡◌ {A = ℕ} 0 1 = cc in absurd (omega arith)
+unless-done : (a rest : Result ⊤ Refusal) → unless a rest ≡ (Ok tt) → (a ≡ (Ok tt)) × (rest ≡ (Ok tt))
+unless-done (Ok u) rest e = (refl, e)
+unless-done (Err x) rest e = let z : ◌≡◌ {A = ℕ} 0 1 = cc in absurd (omega arith)
 
 -- what a call that is admitted has shown
 pub record Admitted (memory journal records bytes : ℕ) : Type 0 where
@@ -85,12 +84,12 @@ pub record Admitted (memory journal records bytes : ℕ) : Type 0 where
   pub within : bytes ≤ journal
   pub counted : records < most_records
 
-pub admitted-done : (memory journal records bytes : ℕ) → admitted memory journal records bytes ≡ Done → Admitted memory journal records bytes
+pub admitted-done : (memory journal records bytes : ℕ) → admitted memory journal records bytes ≡ (Ok tt) → Admitted memory journal records bytes
 unfolding admitted
 admitted-done memory journal records bytes e =
     let e1 = need-done (eqb memory 65536) MemoryLength _ e in
     let e2 = need-done (leb bytes journal) JournalLength _ e1.1 in
-    let e3 = need-done (ltb records most_records) JournalLength Done e2.1 in
+    let e3 = need-done (ltb records most_records) JournalLength (Ok tt) e2.1 in
     record { size = eqb-true memory 65536 e1.0; within = leb-true bytes journal e2.0; counted = ltb-true records most_records e3.0 }
 
 -- ---- a recorded call
@@ -101,34 +100,34 @@ module _ (t : Settings) (f : Plan) (s : State) where
   unfolding record_for
   record-size n size e q = q ∙ rw e (sym (length-encode s.twin.machine (saved_for t.ram_top (listed f.writes) s.memory)))
 
-  pub plan-refused : (x : Refusal) → f.answer ≡ Refused x → plan_answer t f s ≡ Refused x
-  plan-refused x e = ap (λ (a : Answer). unless a (need (leb (s.twin.bytes + length (record_for t f s)) (length s.journal)) JournalFull Done)) e
+  pub plan-refused : (x : Refusal) → f.answer ≡ Err x → plan_answer t f s ≡ Err x
+  plan-refused x e = ap (λ (a : Result ⊤ Refusal). unless a (need (leb (s.twin.bytes + length (record_for t f s)) (length s.journal)) JournalFull (Ok tt))) e
 
-  plan-by : {b : Bool} → f.answer ≡ Done → leb (s.twin.bytes + length (record_for t f s)) (length s.journal) ≡ b → plan_answer t f s ≡ need b JournalFull Done
+  plan-by : {b : Bool} → f.answer ≡ (Ok tt) → leb (s.twin.bytes + length (record_for t f s)) (length s.journal) ≡ b → plan_answer t f s ≡ need b JournalFull (Ok tt)
   plan-by e q =
-      ap (λ (a : Answer). unless a (need (leb (s.twin.bytes + length (record_for t f s)) (length s.journal)) JournalFull Done)) e
-      ∙ ap (λ (c : Bool). need c JournalFull Done) q
+      ap (λ (a : Result ⊤ Refusal). unless a (need (leb (s.twin.bytes + length (record_for t f s)) (length s.journal)) JournalFull (Ok tt))) e
+      ∙ ap (λ (c : Bool). need c JournalFull (Ok tt)) q
 
-  pub plan-full : f.answer ≡ Done → length s.journal < s.twin.bytes + length (record_for t f s) → plan_answer t f s ≡ Refused JournalFull
+  pub plan-full : f.answer ≡ (Ok tt) → length s.journal < s.twin.bytes + length (record_for t f s) → plan_answer t f s ≡ Err JournalFull
   plan-full e h = plan-by e (lt-leb (s.twin.bytes + length (record_for t f s)) (length s.journal) h)
 
-  pub plan-fits : f.answer ≡ Done → s.twin.bytes + length (record_for t f s) ≤ length s.journal → plan_answer t f s ≡ Done
+  pub plan-fits : f.answer ≡ (Ok tt) → s.twin.bytes + length (record_for t f s) ≤ length s.journal → plan_answer t f s ≡ (Ok tt)
   plan-fits e h = plan-by e (le-leb (s.twin.bytes + length (record_for t f s)) (length s.journal) h)
 
   -- the record, the writes and the counts
-  pub recorded-leaves : (d : Writes) (n w : ℕ) (mem j : List ℕ) (size : ℕ) (a : Answer) → plan_answer t f s ≡ Done → a ≡ Done → size ≡ length (record_for t f s)
+  pub recorded-leaves : (d : Writes) (n w : ℕ) (mem j : List ℕ) (size : ℕ) (a : Result ⊤ Refusal) → plan_answer t f s ≡ (Ok tt) → a ≡ (Ok tt) → size ≡ length (record_for t f s)
       → d ≡ writes_of (reported t.ram_top (listed f.writes)) → n ≡ f.reads → w ≡ length (listed f.writes) → mem ≡ stored t.ram_top (listed f.writes) s.memory
       → j ≡ sets s.journal s.twin.bytes (record_for t f s)
       → Leaves (record { devices = d; twin = record { machine = f.machine; records = s.twin.records + 1; bytes = s.twin.bytes + size }; reads = n; writes = w; answer = a }) mem j (concluded (plan_answer t f s) t f s)
   unfolding recorded
   recorded-leaves d n w mem j size a e ea k p en ew q l = rw (e, ea) (record { result = rw (p, k, en, ew); memory-is = q; journal-is = l })
 
-  pub called-refused : (x : Refusal) (r : Outcome) → admitted (length s.memory) (length s.journal) s.twin.records s.twin.bytes ≡ Refused x
+  pub called-refused : (x : Refusal) (r : Outcome) → admitted (length s.memory) (length s.journal) s.twin.records s.twin.bytes ≡ Err x
       → r ≡ turned_down s.twin x → Leaves r s.memory s.journal (called t f s)
   unfolding called
   called-refused x r e p = refused-leaves (call_answer t f s) s (recorded t f s) (reported t.ram_top (listed f.writes)) f.reads (length (listed f.writes)) x r (rw e) p
 
-  pub called-done : (r : Outcome) (mem j : List ℕ) → admitted (length s.memory) (length s.journal) s.twin.records s.twin.bytes ≡ Done
+  pub called-done : (r : Outcome) (mem j : List ℕ) → admitted (length s.memory) (length s.journal) s.twin.records s.twin.bytes ≡ (Ok tt)
       → Leaves r mem j (concluded (plan_answer t f s) t f s) → Leaves r mem j (called t f s)
   unfolding called
   called-done r mem j e h = rw e h
@@ -142,14 +141,14 @@ outside-so ResetFrom t s r mem j h = h
 -- what an accepted call has shown
 pub record Taken (t : Settings) (f : Plan) (s : State) : Type 0 where
   pub before : Admitted (length s.memory) (length s.journal) s.twin.records s.twin.bytes
-  pub own : f.answer ≡ Done
+  pub own : f.answer ≡ (Ok tt)
   pub space : s.twin.bytes + length (record_for t f s) ≤ length s.journal
 
-pub call-taken : (t : Settings) (f : Plan) (s : State) → call_answer t f s ≡ Done → Taken t f s
+pub call-taken : (t : Settings) (f : Plan) (s : State) → call_answer t f s ≡ (Ok tt) → Taken t f s
 call-taken t f s e =
     let e1 = unless-done (admitted (length s.memory) (length s.journal) s.twin.records s.twin.bytes) _ e in
     let e2 = unless-done f.answer _ e1.1 in
-    let e3 = need-done (leb (s.twin.bytes + length (record_for t f s)) (length s.journal)) JournalFull Done e2.1 in
+    let e3 = need-done (leb (s.twin.bytes + length (record_for t f s)) (length s.journal)) JournalFull (Ok tt) e2.1 in
     record {
       before = admitted-done (length s.memory) (length s.journal) s.twin.records s.twin.bytes e1.0;
       own = e2.0;
@@ -277,37 +276,37 @@ module _ (j : List ℕ) (bytes : ℕ) (fits : bytes ≤ length j) where
     newest-none h = unsound-by (sound_at j bytes) refl r plain h
 
 module _ (s : State) where
-  pub undo-refused : (x : Refusal) (r : Outcome) → undo_answer s ≡ Refused x
+  pub undo-refused : (x : Refusal) (r : Outcome) → undo_answer s ≡ Err x
       → r ≡ turned_down s.twin x → Leaves r s.memory s.journal (undone s)
   unfolding undone
   undo-refused x r e p = refused-leaves (undo_answer s) s (restored s) [] 0 0 x r e p
 
-  pub undo-1 : (length s.memory ≡ 65536 → ⊥) → undo_answer s ≡ Refused MemoryLength
+  pub undo-1 : (length s.memory ≡ 65536 → ⊥) → undo_answer s ≡ Err MemoryLength
   unfolding undo_answer
   undo-1 h = rw (ne_eqb (length s.memory) 65536 h)
 
   module _ (size : length s.memory ≡ 65536) where
-    pub undo-12 : length s.journal < s.twin.bytes → undo_answer s ≡ Refused JournalLength
+    pub undo-12 : length s.journal < s.twin.bytes → undo_answer s ≡ Err JournalLength
     unfolding undo_answer
     undo-12 h = rw (eq-eqb (length s.memory) 65536 size, lt-leb s.twin.bytes (length s.journal) h)
 
     module _ (fits : s.twin.bytes ≤ length s.journal) where
-      pub undo-11 : s.twin.records ≡ 0 → undo_answer s ≡ Refused NoRecord
+      pub undo-11 : s.twin.records ≡ 0 → undo_answer s ≡ Err NoRecord
       unfolding undo_answer
       undo-11 h = rw (eq-eqb (length s.memory) 65536 size, le-leb s.twin.bytes (length s.journal) fits, le-ltb 0 s.twin.records (omega arith))
 
       module _ (held : 0 < s.twin.records) where
-        pub undo-record : sound_at s.journal s.twin.bytes ≡ false → undo_answer s ≡ Refused JournalLength
+        pub undo-record : sound_at s.journal s.twin.bytes ≡ false → undo_answer s ≡ Err JournalLength
         unfolding undo_answer
         undo-record h = rw (eq-eqb (length s.memory) 65536 size, le-leb s.twin.bytes (length s.journal) fits, lt-ltb 0 s.twin.records held, h)
 
-        pub undo-0 : sound_at s.journal s.twin.bytes ≡ true → undo_answer s ≡ Done
+        pub undo-0 : sound_at s.journal s.twin.bytes ≡ true → undo_answer s ≡ (Ok tt)
         unfolding undo_answer
         undo-0 h = rw (eq-eqb (length s.memory) 65536 size, le-leb s.twin.bytes (length s.journal) fits, lt-ltb 0 s.twin.records held, h)
 
         pub undo-done : (r after : List ℕ) (m : Machine) (d : Writes) → Newest s.journal s.twin.bytes r → m ≡ machine_of r
             → after ≡ put_back s.memory (read_entries (count_of r) (drop entries_at r)) → d ≡ writes_of []
-            → Leaves (record { devices = d; twin = record { machine = m; records = s.twin.records - 1; bytes = s.twin.bytes - length r }; reads = 0; writes = 0; answer = Done }) after s.journal (undone s)
+            → Leaves (record { devices = d; twin = record { machine = m; records = s.twin.records - 1; bytes = s.twin.bytes - length r }; reads = 0; writes = 0; answer = (Ok tt) }) after s.journal (undone s)
         unfolding undone restored entries_of
         undo-done r after m d n p q w =
             rw (undo-0 n.sound, ← n.is, p, q, w)
@@ -319,7 +318,7 @@ pub running-plan : (mem : List ℕ) (m : Machine) (t : Settings) → length mem 
 unfolding step_plan reached
 running-plan mem m t h e = rw (eq-eqb (length mem) 65536 h) (ap (λ (w : Wait). fenced t m (planned mem m t (unless_waiting w mem m.regs))) e)
 
-pub waiting-plan : (mem : List ℕ) (m : Machine) (t : Settings) → length mem ≡ 65536 → (m.wait ≡ Cwai) ⊎ (m.wait ≡ Sync) → (step_plan mem m t).answer ≡ Refused Waiting
+pub waiting-plan : (mem : List ℕ) (m : Machine) (t : Settings) → length mem ≡ 65536 → (m.wait ≡ Cwai) ⊎ (m.wait ≡ Sync) → (step_plan mem m t).answer ≡ Err Waiting
 unfolding step_plan reached
 waiting-plan mem m t h (inl e) = rw (eq-eqb (length mem) 65536 h) (ap (λ (w : Wait). (fenced t m (planned mem m t (unless_waiting w mem m.regs))).answer) e ∙ ap (λ (p : Plan). p.answer) (refused-free t m Waiting))
 waiting-plan mem m t h (inr e) = rw (eq-eqb (length mem) 65536 h) (ap (λ (w : Wait). (fenced t m (planned mem m t (unless_waiting w mem m.regs))).answer) e ∙ ap (λ (p : Plan). p.answer) (refused-free t m Waiting))

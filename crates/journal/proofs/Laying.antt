@@ -6,8 +6,9 @@ use Prim.Native.Nat.{ℕ, zero, suc, ◌+◌, ◌-◌, ◌*◌, ◌≤◌, ◌<�
 use native.Mathlib.Nat.{zero-add}
 use native.Mathlib.Numerals.{add-one}
 use native.Mathlib.Omega.{arith}
-use lib.ListN.{length, get_or, take, drop, set, length-append, length-drop, take-append-drop}
-use lib.Seq.{sets, sets-eq, take-suc, take_all, drop-drop, drop-length, length-take-le}
+use lib.ListN.{length, get_or, take, drop, set, length-append, length-drop, length-take, take-append-drop}
+use lib.Seq.{sets, sets-eq, take-suc, take_all, drop-drop, drop-length}
+use borrow.Rule.Slice.PartMut.{put_mid}
 use Rattle.memory.specs.Map.{landing_of}
 use Rattle.memory.specs.declared.Landing.{Landing}
 use Rattle.memory.specs.declared.Landing.TheVariants.{Stored, Device, Ignored}
@@ -20,6 +21,10 @@ use Rattle.journal.specs.Recorded.{saved_at, saved_for}
 use Rattle.journal.proofs.Reading.{length-entries, length-encode}
 
 -- ---- parts
+
+-- a part written at once
+pub laid_at : (l vs : List ℕ) (at : ℕ) → at + length vs ≤ length l → put_mid at (length vs) l vs ≡ sets l at vs
+laid_at l vs at h = rw (drop-drop (length vs) at l) (sym (sets-eq vs l at h ∙ append_assoc (take at l) vs (drop (at + length vs) l)))
 
 -- one part more
 pub sets_more : (d p q : List ℕ) (k n : ℕ) → k + length p ≡ n → sets (sets d k p) n q ≡ sets d k (p ++ q)
@@ -55,38 +60,29 @@ saved-one : (top : ℕ) (w : Write) (mem : List ℕ) → saved_for top (w ∷ []
 unfolding saved_for
 saved-one top w mem = append-nil (saved_at mem (landing_of w.at top w.system))
 
--- the first i writes have no more entries than those that count
-pub saved-some : (top : ℕ) (list : List Write) (i count : ℕ) (mem : List ℕ) → i ≤ count
-    → length (saved_for top (take i list) mem) ≤ length (saved_for top (take count list) mem)
-saved-some top list i count mem h =
-    let e : take i (take count list) ++ drop i (take count list) ≡ take count list = take-append-drop i (take count list) in
-    let f : take i (take count list) ≡ take i list = first i count list h in
-    let g : length (saved_for top (take count list) mem) ≡ length (saved_for top (take i list) mem) + length (saved_for top (drop i (take count list)) mem) =
+-- the first i writes have no more entries than all
+pub saved-some : (top : ℕ) (list : List Write) (i : ℕ) (mem : List ℕ) → length (saved_for top (take i list) mem) ≤ length (saved_for top list mem)
+saved-some top list i mem =
+    let e : take i list ++ drop i list ≡ list = take-append-drop i list in
+    let g : length (saved_for top list mem) ≡ length (saved_for top (take i list) mem) + length (saved_for top (drop i list) mem) =
     ap (λ (l : List Write). length (saved_for top l mem)) (sym e)
-    ∙ ap length (saved-append top (take i (take count list)) (drop i (take count list)) mem)
-    ∙ length-append (saved_for top (take i (take count list)) mem) (saved_for top (drop i (take count list)) mem)
-    ∙ ap (λ (l : List Write). length (saved_for top l mem) + length (saved_for top (drop i (take count list)) mem)) f in
+    ∙ ap length (saved-append top (take i list) (drop i list) mem)
+    ∙ length-append (saved_for top (take i list) mem) (saved_for top (drop i list) mem) in
     omega arith
-  where
-    first : (i count : ℕ) (list : List Write) → i ≤ count → take i (take count list) ≡ take i list
-    first zero count list h = refl
-    first (suc i) zero list h = absurd (omega arith)
-    first (suc i) (suc count) [] h = refl
-    first (suc i) (suc count) (w ∷ ws) h = ap (λ (l : List Write). w ∷ l) (first i count ws (omega arith))
 
 -- a turn of a loop: the entry of the write at i, after those of the first i
-module _ (top : ℕ) (list : List Write) (i : ℕ) (none : Write) (full : length list ≡ most_stored) (h : i < most_stored) (mem : List ℕ) where
+module _ (top : ℕ) (list : List Write) (i : ℕ) (none : Write) (h : i < length list) (mem : List ℕ) where
   saved-next : saved_for top (take (i + 1) list) mem ≡ saved_for top (take i list) mem ++ saved_at mem (landing_of (get_or list i none).at top (get_or list i none).system)
   saved-next =
-      rw (add-one, take-suc list i none (omega arith), saved-append top (take i list) (get_or list i none ∷ []) mem, saved-one top (get_or list i none) mem)
+      rw (add-one, take-suc list i none h, saved-append top (take i list) (get_or list i none ∷ []) mem, saved-one top (get_or list i none) mem)
 
   pub turn-count : (n : ℕ) → n ≡ length (saved_for top (take i list) mem)
       → n + length (saved_at mem (landing_of (get_or list i none).at top (get_or list i none).system)) ≡ length (saved_for top (take (i + 1) list) mem)
   turn-count n e = rw (saved-next, length-append, e)
 
-  pub save-fits : (n count size : ℕ) → n ≡ length (saved_for top (take i list) mem) → i + 1 ≤ count → entries_at + length (saved_for top (take count list) mem) * entry_length ≤ size
+  pub save-fits : (n size : ℕ) → n ≡ length (saved_for top (take i list) mem) → entries_at + length (saved_for top list mem) * entry_length ≤ size
       → entries_at + (n + length (saved_at mem (landing_of (get_or list i none).at top (get_or list i none).system))) * entry_length ≤ size
-  save-fits n count size e k l = omega (arith, turn-count n e, saved-some top list (i + 1) count mem k)
+  save-fits n size e l = omega (arith, turn-count n e, saved-some top list (i + 1) mem)
 
   pub turn-laid : (n : ℕ) (d : List ℕ) → n ≡ length (saved_for top (take i list) mem)
       → sets (sets d entries_at (entries (saved_for top (take i list) mem))) (entries_at + n * entry_length) (entries (saved_at mem (landing_of (get_or list i none).at top (get_or list i none).system)))
@@ -107,8 +103,8 @@ unfolding saved_for
 saved-few top [] mem = omega arith
 saved-few top (w ∷ ws) mem = simp length-append (omega (arith, saved-few top ws mem, one_at_most mem (landing_of w.at top w.system)))
 
-pub saved-twelve : (top : ℕ) (list : List Write) (i : ℕ) (mem : List ℕ) → length list ≡ most_stored → i ≤ most_stored → length (saved_for top (take i list) mem) ≤ i
-saved-twelve top list i mem full h = omega (arith, saved-few top (take i list) mem, length-take-le i list (omega arith))
+pub saved-first : (top : ℕ) (list : List Write) (i : ℕ) (mem : List ℕ) → length (saved_for top (take i list) mem) ≤ i
+saved-first top list i mem = omega (arith, saved-few top (take i list) mem, length-take i list)
 
 -- ---- the whole record: header, count, entries, length
 

@@ -1,5 +1,6 @@
 -- The entries of what is told, where it is plain.
 -- Assumes nothing.
+use Rattle.std.specs.Prelude.{Err, Ok}
 use Prim.Native.Nat.{ℕ, zero, suc, ◌+◌, ◌-◌, ◌*◌, ◌/◌, ◌%◌, ◌^◌, ◌≤◌, ◌<◌}
 use mathlib.Core.Bool.{Bool, true, false, cond}
 use mathlib.Core.List.{List, [], ◌∷◌, ◌++◌, append_assoc, append-nil}
@@ -8,7 +9,6 @@ use native.Mathlib.Omega.{arith}
 use lib.Dec.{eqb}
 use lib.ListN.{length, length-append}
 use lib.Seq.{sets}
-use Rattle.answers.specs.declared.Answer.TheVariants.{Done, Refused as RefusedBy}
 use Rattle.u8oru16.specs.Value.{size_of}
 use Rattle.u8oru16.specs.declared.u8u16.{u8u16}
 use Rattle.u8oru16.specs.declared.u8u16.TheVariants.{u8, u16}
@@ -146,12 +146,12 @@ module _ (top : ℕ) (mem : List ℕ) where
 -- ---- by the kind: what a plain decision writes
 
 pub record Plainly (top : ℕ) (p : Plan) (ws : List Write) : Type 0 where
-  pub answer : p.answer ≡ Done
+  pub answer : p.answer ≡ (Ok tt)
   pub writes : listed p.writes ≡ ws
   pub quiet : reported top ws ≡ []
 
 module _ (m : Machine) (s : Settings) (mem : List ℕ) (d : Decision) where
-  pub told-refused : d.kind ≡ Refused → (plan_told m s mem d).answer ≡ RefusedBy d.refusal
+  pub told-refused : d.kind ≡ Refused → (plan_told m s mem d).answer ≡ Err d.refusal
   unfolding finished
   told-refused e = ap (λ (p : Plan). p.answer) (plan-as m s mem d e)
 

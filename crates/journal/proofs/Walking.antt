@@ -1,5 +1,7 @@
--- Drop: the walk as a loop goes, test by test and without a sum that could wrap, the bytes moved one by one, and what drop answers.
+-- Drop: the walk as a loop goes, test by test and without a sum that could wrap, the bytes moved, and what drop answers.
 -- Assumes nothing.
+use Rattle.std.specs.Prelude.{Err, None, Ok, Some}
+use Rattle.std.specs.List.{copy_within}
 use Prim.Native.Nat.{ℕ, zero, suc, ◌+◌, ◌-◌, ◌*◌, ◌≤◌, ◌<◌}
 use mathlib.Core.Path.{◌≡◌, refl, sym, ap, ◌∙◌}
 use mathlib.Core.Bool.{Bool, true, false, cond, ◌&&◌}
@@ -11,7 +13,6 @@ use lib.Dec.{leb, ltb}
 use lib.ListN.{length, get_or, take, drop, set, length-drop}
 use lib.Seq.{sets, sets-eq, take-suc, length-take-le, get_or-drop, get_or-append-add, set_at, drop-cons, append_snoc}
 use borrow.Author.Tests.{le-leb, lt-leb, lt-ltb, le-ltb, leb-true}
-use Rattle.answers.specs.declared.Answer.TheVariants.{Done, Refused}
 use Rattle.answers.specs.declared.Refusal.{Refusal}
 use Rattle.answers.specs.declared.Refusal.TheVariants.{JournalLength, TooFewRecords}
 use Rattle.memory.specs.Writes.{writes_of}
@@ -20,8 +21,6 @@ use Rattle.journal.specs.Record.{count_at, entries_at, most_stored, record_lengt
 use Rattle.journal.specs.Recorded.{State, turned_down, Leaves}
 use Rattle.journal.specs.Drops.{reach, passable, walks, walk_of, drop_answer, moved, shortened, dropped}
 use Rattle.journal.specs.declared.Outcome.{Outcome}
-use Rattle.journal.specs.declared.drops.Walked.{Walked}
-use Rattle.journal.specs.declared.drops.Walked.TheVariants.{At, Broken}
 use Rattle.journal.proofs.Answers.{and-true, and-false, refused-leaves}
 
 module _ (j : List ℕ) (bytes : ℕ) where
@@ -58,7 +57,7 @@ module _ (j : List ℕ) (bytes : ℕ) where
       let n : suc k + i ≡ suc (k + i) = omega arith in
       rw (n, stays-broken i k e)
 
-  pub broken : (i at k : ℕ) → i < k → at ≡ reach i j → passable j bytes at ≡ false → Broken ≡ walk_of j bytes k
+  pub broken : (i at k : ℕ) → i < k → at ≡ reach i j → passable j bytes at ≡ false → None ≡ walk_of j bytes k
   unfolding walk_of walks
   broken i at k h e w =
       let f : walks (suc i) j bytes ≡ false = rw (← e, w) (and-false (walks i j bytes)) in
@@ -74,17 +73,17 @@ module _ (j : List ℕ) (bytes : ℕ) where
   unfolding walks
   walks_more i at e w m = rw (add-one i, w, ← e, m)
 
-  pub walked : (k at : ℕ) → at ≡ reach k j → walks k j bytes ≡ true → At at ≡ walk_of j bytes k
+  pub walked : (k at : ℕ) → at ≡ reach k j → walks k j bytes ≡ true → Some at ≡ walk_of j bytes k
   unfolding walk_of
   walked k at e w = rw (w, e)
 
 -- ---- where it ended
 
-ended_at : (b : Bool) (x at : ℕ) → At at ≡ cond b (At x) Broken → (b ≡ true) × (at ≡ x)
+ended_at : (b : Bool) (x at : ℕ) → Some at ≡ cond b (Some x) None → (b ≡ true) × (at ≡ x)
 ended_at true x at e = (refl, cc)
 ended_at false x at e = let z : ◌≡◌ {A = ℕ} 0 1 = cc in absurd (omega arith)
 
-broke-off : (b : Bool) (x : ℕ) → Broken ≡ cond b (At x) Broken → b ≡ false
+broke-off : (b : Bool) (x : ℕ) → None ≡ cond b (Some x) None → b ≡ false
 broke-off true x e = let z : ◌≡◌ {A = ℕ} 0 1 = cc in absurd (omega arith)
 broke-off false x e = refl
 
@@ -99,7 +98,7 @@ walks-within (suc k) j bytes e =
     let e3 = and-true (leb (get_or j (at + count_at) 0) most_stored) _ e2.1 in
     leb-true (at + record_length (get_or j (at + count_at) 0)) bytes e3.1
 
-module _ (j : List ℕ) (bytes k at : ℕ) (e : At at ≡ walk_of j bytes k) where
+module _ (j : List ℕ) (bytes k at : ℕ) (e : Some at ≡ walk_of j bytes k) where
   pub walked-true : walks k j bytes ≡ true
   unfolding walk_of
   walked-true = (ended_at (walks k j bytes) (reach k j) at e).0
@@ -111,58 +110,41 @@ module _ (j : List ℕ) (bytes k at : ℕ) (e : At at ≡ walk_of j bytes k) whe
   pub walked-within : at ≤ bytes
   walked-within = rw walked-reach (walks-within k j bytes walked-true)
 
--- ---- the bytes moved one by one: what is read has not been written over
+-- ---- the bytes moved
 
-moved-some : (j : List ℕ) (at i : ℕ) → at + i ≤ length j → sets j 0 (take i (drop at j)) ≡ take i (drop at j) ++ drop i j
-moved-some j at i h =
+pub moved-within : (j : List ℕ) (at n : ℕ) → at + n ≤ length j → copy_within j at (at + n) 0 ≡ sets j 0 (take n (drop at j))
+moved-within j at n h =
     let d = length-drop at j in
-    let l : length (take i (drop at j)) ≡ i = length-take-le i (drop at j) (omega arith) in
-    rw (l, zero-add) at (sets-eq (take i (drop at j)) j 0 (omega arith))
-
-pub move-more : (j : List ℕ) (at i : ℕ) → at + i < length j
-    → set (sets j 0 (take i (drop at j))) i (get_or (sets j 0 (take i (drop at j))) (at + i) 0) ≡ sets j 0 (take (i + 1) (drop at j))
-move-more j at i h =
-    let d = length-drop at j in
-    let p : List ℕ = take i (drop at j) in
-    let b : ℕ = get_or j (at + i) 0 in
-    let l : length p ≡ i = length-take-le i (drop at j) (omega arith) in
-    let m : at + i ≡ length p + at = omega arith in
-    let n : i + at ≡ at + i = omega arith in
-    let x : get_or (p ++ drop i j) (at + i) 0 ≡ b =
-    ap (λ (k : ℕ). get_or (p ++ drop i j) k 0) m ∙ get_or-append-add p (drop i j) at 0 ∙ get_or-drop i j at 0 ∙ ap (λ (k : ℕ). get_or j k 0) n in
-    let y : set (p ++ drop i j) i b ≡ p ++ b ∷ drop (suc i) j =
-    ap (λ (q : List ℕ). set (p ++ q) i b) (drop-cons j i 0 (omega arith)) ∙ set_at p (get_or j i 0) (drop (suc i) j) b i l in
-    let z : sets j 0 (take (i + 1) (drop at j)) ≡ p ++ b ∷ drop (suc i) j =
-    moved-some j at (i + 1) (omega arith)
-    ∙ rw (add-one, take-suc (drop at j) i 0 (omega arith), get_or-drop at j i 0) (append_snoc p b (drop (suc i) j)) in
-    ap (λ (q : List ℕ). set q i (get_or q (at + i) 0)) (moved-some j at i (omega arith)) ∙ ap (set (p ++ drop i j) i) x ∙ y ∙ sym z
+    let e : at + n - at ≡ n = omega arith in
+    let l : length (take n (drop at j)) ≡ n = length-take-le n (drop at j) (omega arith) in
+    rw (e, zero-add) (sym (rw (l, zero-add) at (sets-eq (take n (drop at j)) j 0 (omega arith))))
 
 -- ---- drop
 
 module _ (k : ℕ) (s : State) where
-  pub drop-refused : (x : Refusal) (r : Outcome) → drop_answer k s ≡ Refused x
+  pub drop-refused : (x : Refusal) (r : Outcome) → drop_answer k s ≡ Err x
       → r ≡ turned_down s.twin x → Leaves r s.memory s.journal (dropped k s)
   unfolding dropped
   drop-refused x r e p = refused-leaves (drop_answer k s) s (shortened k s) [] 0 0 x r e p
 
-  pub drop-12 : length s.journal < s.twin.bytes → drop_answer k s ≡ Refused JournalLength
+  pub drop-12 : length s.journal < s.twin.bytes → drop_answer k s ≡ Err JournalLength
   unfolding drop_answer
   drop-12 h = rw (lt-leb s.twin.bytes (length s.journal) h)
 
   module _ (fits : s.twin.bytes ≤ length s.journal) where
-    pub drop-26 : s.twin.records < k → drop_answer k s ≡ Refused TooFewRecords
+    pub drop-26 : s.twin.records < k → drop_answer k s ≡ Err TooFewRecords
     unfolding drop_answer
     drop-26 h = rw (le-leb s.twin.bytes (length s.journal) fits, lt-leb k s.twin.records h)
 
     module _ (held : k ≤ s.twin.records) where
-      pub drop-broken : Broken ≡ walk_of s.journal s.twin.bytes k → drop_answer k s ≡ Refused JournalLength
+      pub drop-broken : None ≡ walk_of s.journal s.twin.bytes k → drop_answer k s ≡ Err JournalLength
       unfolding drop_answer walk_of
       drop-broken e =
           rw (le-leb s.twin.bytes (length s.journal) fits, le-leb k s.twin.records held, broke-off (walks k s.journal s.twin.bytes) (reach k s.journal) e)
 
-      pub drop-done : (at : ℕ) (after : List ℕ) (d : Writes) → At at ≡ walk_of s.journal s.twin.bytes k
+      pub drop-done : (at : ℕ) (after : List ℕ) (d : Writes) → Some at ≡ walk_of s.journal s.twin.bytes k
           → after ≡ sets s.journal 0 (take (s.twin.bytes - at) (drop at s.journal)) → d ≡ writes_of []
-          → Leaves (record { devices = d; twin = record { machine = s.twin.machine; records = s.twin.records - k; bytes = s.twin.bytes - at }; reads = 0; writes = 0; answer = Done }) s.memory after (dropped k s)
+          → Leaves (record { devices = d; twin = record { machine = s.twin.machine; records = s.twin.records - k; bytes = s.twin.bytes - at }; reads = 0; writes = 0; answer = (Ok tt) }) s.memory after (dropped k s)
       unfolding dropped drop_answer shortened moved
       drop-done at after d e m w =
           rw (

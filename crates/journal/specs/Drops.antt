@@ -1,14 +1,11 @@
 -- Drop (document 02, [9]): the oldest k records are forgotten, and the rest is moved to the front.
 -- Assumes nothing.
-use Rattle.std.specs.Prelude.{ℕ, zero, suc, ◌+◌, ◌-◌, Bool, true, cond, ◌&&◌, List, [], leb, ltb, length, get_or, take, drop}
+use Rattle.std.specs.Prelude.{ℕ, zero, suc, ◌+◌, ◌-◌, Bool, true, cond, ◌&&◌, List, [], leb, ltb, length, get_or, take, drop, None, Ok, Option, Result, Some, ⊤}
 use Rattle.std.proofs.lemmas.List.Edits.{sets}
-use Rattle.answers.specs.declared.Answer.{Answer}
-use Rattle.answers.specs.declared.Answer.TheVariants.{Done}
 use Rattle.answers.specs.declared.Refusal.TheVariants.{JournalLength, TooFewRecords}
 use Rattle.journal.specs.Record.{count_at, most_stored, record_length}
 use Rattle.journal.specs.Recorded.{State, Ended, ending, need}
-use Rattle.journal.specs.declared.drops.Walked.{Walked}
-use Rattle.journal.specs.declared.drops.Walked.TheVariants.{At, Broken}
+use Rattle.answers.specs.declared.Refusal.{Refusal}
 
 -- ---- the walk over the k oldest records, from byte 0 on
 
@@ -29,16 +26,16 @@ walks zero j bytes = true
 walks (suc k) j bytes = walks k j bytes && passable j bytes (reach k j)
 
 -- what the code's walk returns
-unfoldable pub walk_of : List ℕ → ℕ → ℕ → Walked
-walk_of j bytes k = cond (walks k j bytes) (At (reach k j)) Broken
+unfoldable pub walk_of : List ℕ → ℕ → ℕ → Option ℕ
+walk_of j bytes k = cond (walks k j bytes) (Some (reach k j)) None
 
 -- ---- drop: 12 by the length, 26 where k exceeds the records held, 12 by the walk
 
-unfoldable pub drop_answer : ℕ → State → Answer
+unfoldable pub drop_answer : ℕ → State → Result ⊤ Refusal
 drop_answer k s =
     need (leb s.twin.bytes (length s.journal)) JournalLength
     (need (leb k s.twin.records) TooFewRecords
-    (need (walks k s.journal s.twin.bytes) JournalLength Done))
+    (need (walks k s.journal s.twin.bytes) JournalLength (Ok tt)))
 
 -- all from a place to the end of the bytes used goes to the front; the bytes past the moved ones stay
 unfoldable pub moved : ℕ → ℕ → List ℕ → List ℕ

@@ -1,9 +1,7 @@
 -- The recorded calls (document 01, sections "Journal" and "Numbers returned"; document 02, [9]).
 -- Assumes nothing.
-use Rattle.std.specs.Prelude.{ℕ, ◌+◌, ◌-◌, ◌^◌, Bool, true, false, List, [], ◌∷◌, ◌++◌, ◌≡◌, leb, ltb, eqb, length, get_or}
+use Rattle.std.specs.Prelude.{ℕ, ◌+◌, ◌-◌, ◌^◌, ◌≤◌, ◌<◌, Bool, true, false, List, [], ◌∷◌, ◌++◌, ◌≡◌, leb, ltb, eqb, length, get_or, Err, Ok, Result, ⊤}
 use Rattle.std.proofs.lemmas.List.Edits.{sets}
-use Rattle.answers.specs.declared.Answer.{Answer}
-use Rattle.answers.specs.declared.Answer.TheVariants.{Done, Refused}
 use Rattle.answers.specs.declared.Refusal.{Refusal}
 use Rattle.answers.specs.declared.Refusal.TheVariants.{MemoryLength, JournalFull, JournalLength}
 use Rattle.memory.specs.Fits.{Bytes}
@@ -46,16 +44,16 @@ pub record Typed (s : State) : Type 0 where
 
 -- How a call ends: its answer, what is in hand afterwards, the device writes that it reports, and how many bytes of memory it read and wrote
 pub record Ended : Type 0 where
-  pub answer : Answer
+  pub answer : Result ⊤ Refusal
   pub state : State
   pub devices : Writes
   pub reads : ℕ
   pub writes : ℕ
 
 -- a refused call leaves what it had in hand, reports nothing and counts nothing
-abbrev pub ending : Answer → State → State → List Write → ℕ → ℕ → Ended
-ending Done now new devices reads writes = record { answer = Done; state = new; devices = writes_of devices; reads = reads; writes = writes }
-ending (Refused x) now new devices reads writes = record { answer = Refused x; state = now; devices = writes_of []; reads = 0; writes = 0 }
+abbrev pub ending : Result ⊤ Refusal → State → State → List Write → ℕ → ℕ → Ended
+ending (Ok u) now new devices reads writes = record { answer = (Ok tt); state = new; devices = writes_of devices; reads = reads; writes = writes }
+ending (Err x) now new devices reads writes = record { answer = Err x; state = now; devices = writes_of []; reads = 0; writes = 0 }
 
 -- what the code returns of an end; `Leaves` says that a result, a memory and a journal are those of the end e
 abbrev pub returned : Ended → Outcome
@@ -63,7 +61,7 @@ returned e = record { devices = e.devices; twin = e.state.twin; reads = e.reads;
 
 -- what a refused call returns
 abbrev pub turned_down : Twin → Refusal → Outcome
-turned_down t x = record { devices = writes_of []; twin = t; reads = 0; writes = 0; answer = Refused x }
+turned_down t x = record { devices = writes_of []; twin = t; reads = 0; writes = 0; answer = Err x }
 
 pub record Leaves (r : Outcome) (memory journal : List ℕ) (e : Ended) : Type 0 where
   pub result : r ≡ returned e
@@ -75,13 +73,13 @@ abbrev pub LeavesEach : Outcome → List ℕ → (List ℕ → Ended) → Type 0
 LeavesEach r journal e = (memory : List ℕ) → Leaves r memory journal (e memory)
 
 -- `need test x rest`: refused by x where the test fails; `unless a rest`: refused as a is; else the rest
-abbrev pub need : Bool → Refusal → Answer → Answer
+abbrev pub need : Bool → Refusal → Result ⊤ Refusal → Result ⊤ Refusal
 need true x rest = rest
-need false x rest = Refused x
+need false x rest = Err x
 
-abbrev pub unless : Answer → Answer → Answer
-unless Done rest = rest
-unless (Refused x) rest = Refused x
+abbrev pub unless : Result ⊤ Refusal → Result ⊤ Refusal → Result ⊤ Refusal
+unless (Ok u) rest = rest
+unless (Err x) rest = Err x
 
 -- The entries of a call's writes: one for each that is stored, with the byte from before the whole call
 abbrev pub saved_at : List ℕ → Landing → List Saved
@@ -104,17 +102,21 @@ abbrev pub most_records : ℕ
 most_records = 2 ^ 64 - 1
 
 -- before its plan: 1, then 12, by the bytes used or by a count of records that cannot rise
-unfoldable pub admitted : ℕ → ℕ → ℕ → ℕ → Answer
+unfoldable pub admitted : ℕ → ℕ → ℕ → ℕ → Result ⊤ Refusal
 admitted memory journal records bytes =
     need (eqb memory 65536) MemoryLength
     (need (leb bytes journal) JournalLength
-    (need (ltb records most_records) JournalLength Done))
+    (need (ltb records most_records) JournalLength (Ok tt)))
+
+-- what a call that is admitted has shown of its memory, its journal and its counts
+abbrev pub Admits : List ℕ → List ℕ → Twin → Type 0
+Admits memory journal twin = (length memory ≡ 65536) × ((twin.bytes ≤ length journal) × (twin.records < most_records))
 
 -- then as its plan is refused: 2 and the instruction's own of a step, 8 and 9 of an interrupt; last 10, where its own record does not fit
-abbrev pub plan_answer : Settings → Plan → State → Answer
-plan_answer t p s = unless p.answer (need (leb (s.twin.bytes + length (record_for t p s)) (length s.journal)) JournalFull Done)
+abbrev pub plan_answer : Settings → Plan → State → Result ⊤ Refusal
+plan_answer t p s = unless p.answer (need (leb (s.twin.bytes + length (record_for t p s)) (length s.journal)) JournalFull (Ok tt))
 
-abbrev pub call_answer : Settings → Plan → State → Answer
+abbrev pub call_answer : Settings → Plan → State → Result ⊤ Refusal
 call_answer t p s = unless (admitted (length s.memory) (length s.journal) s.twin.records s.twin.bytes) (plan_answer t p s)
 
 -- ---- how it ends
@@ -129,7 +131,7 @@ recorded t p s =
     }
 
 -- how a call with this plan ends, by its answer; the bytes of the journal are not counted
-abbrev pub concluded : Answer → Settings → Plan → State → Ended
+abbrev pub concluded : Result ⊤ Refusal → Settings → Plan → State → Ended
 concluded a t p s = ending a s (recorded t p s) (reported t.ram_top (listed p.writes)) p.reads (length (listed p.writes))
 
 unfoldable pub called : Settings → Plan → State → Ended

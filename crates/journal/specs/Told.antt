@@ -1,9 +1,8 @@
 -- For the recorded step, whose record is written from what was decided (docs/PERFORMANCE.md): the statements of its private functions. No rule of
 -- the journal is here.
 -- Assumes nothing.
-use Rattle.std.specs.Prelude.{ℕ, zero, suc, ◌+◌, ◌-◌, ◌*◌, ◌≤◌, false, List, [], ◌∷◌, ◌≡◌, length, get_or}
+use Rattle.std.specs.Prelude.{ℕ, zero, suc, ◌+◌, ◌-◌, ◌*◌, ◌≤◌, false, List, [], ◌∷◌, ◌≡◌, length, get_or, Err, Ok, Result}
 use Rattle.std.proofs.lemmas.List.Edits.{sets}
-use Rattle.answers.specs.declared.Answer.TheVariants.{Done, Refused}
 use Rattle.registers.specs.declared.Name.{Name}
 use Rattle.registers.specs.declared.Set.{Set}
 use Rattle.memory.specs.Writes.{listed}
@@ -12,8 +11,7 @@ use Rattle.stack.specs.Pushing.{chosen, pushes}
 use Rattle.calls.specs.declared.Plan.{Plan}
 use Rattle.journal.specs.Record.{Saved, entry_length, entries_at, entries, most_stored}
 use Rattle.journal.specs.Recorded.{State, Ended, saved_for, plan_answer, concluded}
-use Rattle.journal.specs.declared.told.Counted.{Counted}
-use Rattle.journal.specs.declared.told.Counted.TheVariants.{Refused as NoEntries, Entries}
+use Rattle.answers.specs.declared.Refusal.{Refusal}
 
 -- the entries of n places from one on, rising
 unfoldable pub saved_from : ℕ → ℕ → List ℕ → List Saved
@@ -26,9 +24,9 @@ left_to_save top r mem pointer p mask slots rest =
     sets rest (entries_at + (pointer - p) * entry_length) (entries (saved_for top (pushes r false p (chosen mask slots)) mem))
 
 -- a plan is refused so, or has so many entries
-abbrev pub CountsFor : ℕ → List ℕ → Plan → Counted → Type 0
-CountsFor top mem p (NoEntries x) = p.answer ≡ Refused x
-CountsFor top mem p (Entries n) = (p.answer ≡ Done) × (n ≤ most_stored) × (n ≡ length (saved_for top (listed p.writes) mem))
+abbrev pub CountsFor : ℕ → List ℕ → Plan → Result ℕ Refusal → Type 0
+CountsFor top mem p (Err x) = p.answer ≡ Err x
+CountsFor top mem p (Ok n) = (p.answer ≡ (Ok tt)) × (n ≤ most_stored) × (n ≡ length (saved_for top (listed p.writes) mem))
 
 -- how a call that was admitted ends with this plan
 abbrev pub concluded_for : Settings → Plan → State → Ended

@@ -1,12 +1,11 @@
 -- Undo and the newest record (document 01, sections "Journal" and "Numbers returned"; document 02, [9]).
 -- Assumes nothing.
-use Rattle.std.specs.Prelude.{ℕ, ◌-◌, Bool, cond, ◌&&◌, List, [], ◌∷◌, leb, ltb, eqb, length, get_or, take, drop, set}
-use Rattle.answers.specs.declared.Answer.{Answer}
-use Rattle.answers.specs.declared.Answer.TheVariants.{Done}
+use Rattle.std.specs.Prelude.{ℕ, ◌-◌, Bool, cond, ◌&&◌, List, [], ◌∷◌, leb, ltb, eqb, length, get_or, take, drop, set, Ok, Result, ⊤}
 use Rattle.answers.specs.declared.Refusal.TheVariants.{MemoryLength, NoRecord, JournalLength}
 use Rattle.machine.specs.Record.{machine_of}
 use Rattle.journal.specs.Record.{Saved, record_length, entries_of, is_record}
 use Rattle.journal.specs.Recorded.{State, Ended, ending, need}
+use Rattle.answers.specs.declared.Refusal.{Refusal}
 
 -- ---- the newest record
 
@@ -43,12 +42,12 @@ viewed s = newest_of s.journal s.twin.records s.twin.bytes
 abbrev pub newest_in : State → List ℕ
 newest_in s = newest_at s.journal s.twin.bytes
 
-unfoldable pub undo_answer : State → Answer
+unfoldable pub undo_answer : State → Result ⊤ Refusal
 undo_answer s =
     need (eqb (length s.memory) 65536) MemoryLength
     (need (leb s.twin.bytes (length s.journal)) JournalLength
     (need (ltb 0 s.twin.records) NoRecord
-    (need (sound_at s.journal s.twin.bytes) JournalLength Done)))
+    (need (sound_at s.journal s.twin.bytes) JournalLength (Ok tt))))
 
 -- old bytes put back raw, last entry first
 unfoldable pub put_back : List ℕ → List Saved → List ℕ

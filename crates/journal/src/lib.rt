@@ -6,11 +6,11 @@ mod recorded;
 mod told;
 mod undos;
 
-ghost use Rattle.std.specs.Prelude.{◌≤◌, ◌≡◌};
+ghost use Rattle.std.specs.Prelude.{◌+◌, ◌^◌, ◌≤◌, ◌<◌, ◌≡◌};
 ghost use Rattle.journal.specs.Record.{most_stored, record_length};
-ghost use Rattle.journal.specs.Recorded.{fresh_twin};
+ghost use Rattle.journal.specs.Recorded.{fresh_twin, most_records};
 
-use answers::Answer;
+use answers::Refusal;
 use calls::InterruptType;
 pub use drops::drop;
 use machine::{HEADER, Machine};
@@ -28,7 +28,7 @@ const ENTRY: usize = 3;
 
 const MOST: usize = 12;
 
-// The length of a record with n entries.
+// The length of a record with n entries. `n ≤ most_stored` stays a clause: n is a sum or a byte that was read, and is used as a number.
 fn record_length(n: usize) -> usize
     requires { n ≤ most_stored }
     ensures { result ≡ record_length n }
@@ -44,14 +44,16 @@ pub struct Twin {
     pub bytes: usize,
 }
 
-// What a call returns: the device writes that it reports, the machine and the counts after it, how many bytes it read and wrote, its answer.
+// What a call returns: the device writes that it reports, the machine and the counts after it, how many bytes it read and wrote, its
+// answer. The answer stands beside the twin, and not around it: a refused call gives back the twin that it was given (crates/history:
+// `refused-call`).
 #[derive(Clone, Copy)]
 pub struct Outcome {
     pub devices: Writes,
     pub twin: Twin,
     pub reads: u8,
     pub writes: u8,
-    pub answer: Answer,
+    pub answer: Result<(), Refusal>,
 }
 
 // The calls that are recorded.
@@ -71,6 +73,18 @@ impl Twin {
             machine: Machine::fresh(),
             records: 0,
             bytes: 0,
+        }
+    }
+
+    // The twin with this machine and one more record, of this size.
+    fn after(self, machine: Machine, size: usize) -> Twin
+        requires { (self.records < most_records) × (self.bytes + size < 2 ^ 64) }
+        ensures { result ≡ record { machine = machine; records = self.records + 1; bytes = self.bytes + size } }
+    {
+        Twin {
+            machine,
+            records: self.records + 1,
+            bytes: self.bytes + size,
         }
     }
 }

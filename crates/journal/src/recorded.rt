@@ -8,12 +8,12 @@ ghost use Rattle.machine.specs.Record.{header, header_length};
 ghost use Rattle.calls.specs.Calls.{plan_of};
 ghost use Rattle.journal.specs.Record.{most_stored, entry_length, entries_at, record_length, entries, encode};
 ghost use Rattle.memory.specs.declared.Landing.TheVariants.{Stored};
-ghost use Rattle.journal.specs.Recorded.{in_hand, Typed, turned_down, Leaves, most_records, saved_at, saved_for, admitted, plan_answer, concluded, called, call_of};
+ghost use Rattle.journal.specs.Recorded.{in_hand, Typed, turned_down, Leaves, Admits, saved_at, saved_for, admitted, plan_answer, concluded, called, call_of};
 ghost use Rattle.journal.specs.Recorded.{call as call_ends, interrupted, was_reset, outside_of};
 
 use super::told::step;
-use super::{COUNT, CallType, ENTRIES, ENTRY, MOST, Outcome, Twin, record_length};
-use answers::{Answer, Refusal};
+use super::{COUNT, CallType, ENTRIES, ENTRY, Outcome, Twin, record_length};
+use answers::Refusal;
 use calls::{InterruptType, Plan};
 use machine::{CYCLES, INSTRUCTIONS, Machine, Settings};
 use memory::{Landing, Write, Writes};
@@ -26,52 +26,47 @@ pub fn refused(twin: Twin, refusal: Refusal) -> Outcome
         twin,
         reads: 0,
         writes: 0,
-        answer: Answer::Refused(refusal),
+        answer: Err(refusal),
     }
 }
 
-// Stores a part over the bytes from `at` on.
+// Stores a part over the bytes from `at` on. Crate text has the same line, and the journal does not stand on it for that.
 fn lay(rest: &mut [u8], at: usize, part: &[u8])
     requires { at + length part.now ≤ length rest.old }
     ensures { rest.new ≡ sets rest.old at part.now }
 {
-    let mut i = 0;
-    while i < part.len() {
-        rest[at + i] = part[i];
-        i += 1;
-    }
+    rest[at..at + part.len()].copy_from_slice(part);
 }
 
 pub fn write_header(rest: &mut [u8], machine: Machine)
     requires { header_length ≤ length rest.old }
     ensures { rest.new ≡ sets rest.old 0 (header machine) }
 {
-    let front = machine::front_of(machine);
-    let cycles = machine::counter_of(machine.cycles);
-    let instructions = machine::counter_of(machine.instructions);
-    lay(rest, 0, &front);
-    lay(rest, CYCLES, &cycles);
-    lay(rest, INSTRUCTIONS, &instructions);
+    lay(rest, 0, &machine::front_of(machine));
+    lay(rest, CYCLES, &machine::counter_of(machine.cycles));
+    lay(
+        rest,
+        INSTRUCTIONS,
+        &machine::counter_of(machine.instructions),
+    );
 }
 
-// One entry: a place of memory, and the byte that it has.
+// One entry: a place of memory, and the byte that it has. `rest` and `mem` stay two parameters: the one is written, the other only read.
 pub fn entry(rest: &mut [u8], at: usize, mem: &[u8], place: u16)
     requires { (at + entry_length ≤ length rest.old) × (length mem.now ≡ 65536) }
     ensures { rest.new ≡ sets rest.old at (entries (saved_at mem.now (Stored place))) }
 {
-    let p = place as usize;
-    let part = [(place / 256) as u8, (place % 256) as u8, mem[p]];
-    lay(rest, at, &part);
+    let [high, low] = place.to_be_bytes();
+    lay(rest, at, &[high, low, mem[place as usize]]);
 }
 
-// How many entries a write has: 1 if it is stored.
+// How many entries a write has: 1 if it is stored. `save` asks the same again: the entries are counted before any of them is written.
 fn entries_for(ram_top: u16, one: Write) -> usize
     ensures { (mem : List ℕ) → result ≡ length (saved_at mem (landing_of one.at ram_top one.system)) }
 {
     match memory::lands(one.at, ram_top, one.system) {
         Landing::Stored(_) => 1,
-        Landing::Device => 0,
-        Landing::Ignored => 0,
+        Landing::Device | Landing::Ignored => 0,
     }
 }
 
@@ -79,14 +74,9 @@ fn entries_for(ram_top: u16, one: Write) -> usize
 fn count_entries(ram_top: u16, writes: Writes) -> usize
     ensures { (result ≤ most_stored) × ((mem : List ℕ) → result ≡ length (saved_for ram_top (listed writes) mem)) }
 {
-    let count = writes.count;
-    let list = writes.list;
-    let mut n: usize = 0;
-    let mut i = 0;
-    while i < MOST && i < count {
-        let one = list[i];
-        n += entries_for(ram_top, one);
-        i += 1;
+    let mut n = 0;
+    for one in writes.as_slice() {
+        n += entries_for(ram_top, *one);
     }
     n
 }
@@ -96,30 +86,23 @@ fn save(rest: &mut [u8], n: usize, mem: &[u8], ram_top: u16, one: Write) -> usiz
     requires { (n < most_stored) × ((entries_at + (n + length (saved_at mem.now (landing_of one.at ram_top one.system))) * entry_length ≤ length rest.old) × (length mem.now ≡ 65536)) }
     ensures { (result ≡ n + length (saved_at mem.now (landing_of one.at ram_top one.system))) × (rest.new ≡ sets rest.old (entries_at + n * entry_length) (entries (saved_at mem.now (landing_of one.at ram_top one.system)))) }
 {
-    let at = one.at;
-    match memory::lands(at, ram_top, one.system) {
+    match memory::lands(one.at, ram_top, one.system) {
         Landing::Stored(p) => {
             entry(rest, ENTRIES + n * ENTRY, mem, p);
             n + 1
         }
-        Landing::Device => n,
-        Landing::Ignored => n,
+        Landing::Device | Landing::Ignored => n,
     }
 }
 
-// The entries of a call's writes, in order.
+// The entries of a call's writes, in order: the walk of `count_entries` again, once their count is known.
 fn save_all(rest: &mut [u8], mem: &[u8], ram_top: u16, writes: Writes)
     requires { (entries_at + length (saved_for ram_top (listed writes) mem.now) * entry_length ≤ length rest.old) × (length mem.now ≡ 65536) }
     ensures { rest.new ≡ sets rest.old entries_at (entries (saved_for ram_top (listed writes) mem.now)) }
 {
-    let count = writes.count;
-    let list = writes.list;
-    let mut n: usize = 0;
-    let mut i = 0;
-    while i < MOST && i < count {
-        let one = list[i];
-        n = save(rest, n, mem, ram_top, one);
-        i += 1;
+    let mut n = 0;
+    for one in writes.as_slice() {
+        n = save(rest, n, mem, ram_top, *one);
     }
 }
 
@@ -143,23 +126,24 @@ fn write_record(
 }
 
 // What is judged before a call's plan: memory, the journal's length, and that one more record can be counted.
-pub fn admits(memory: usize, journal: usize, records: usize, bytes: usize) -> Answer
+pub fn admits(memory: usize, journal: usize, records: usize, bytes: usize) -> Result<(), Refusal>
     ensures { result ≡ admitted memory journal records bytes }
 {
     if memory != 65536 {
-        return Answer::Refused(Refusal::MemoryLength);
+        return Err(Refusal::MemoryLength);
     }
     if bytes > journal {
-        return Answer::Refused(Refusal::JournalLength);
+        return Err(Refusal::JournalLength);
     }
-    if records == 0xFFFF_FFFF_FFFF_FFFF {
-        return Answer::Refused(Refusal::JournalLength);
+    if records == usize::MAX {
+        return Err(Refusal::JournalLength);
     }
-    Answer::Done
+    Ok(())
 }
 
 // What a recorded call does with its plan. Whether the record fits is known before a byte of it is written, and it is written before the
-// writes are stored.
+// writes are stored. `Admits` names what is known of memory, journal and counts. They stay parameters, as in the public calls: a struct of
+// them would be built by each public call, and taken apart again where the record is written.
 pub fn conclude(
     mem: &mut [u8],
     journal: &mut [u8],
@@ -167,50 +151,38 @@ pub fn conclude(
     settings: Settings,
     plan: Plan,
 ) -> Outcome
-    requires { (length mem.old ≡ 65536) × ((twin.bytes ≤ length journal.old) × (twin.records < most_records)) }
+    requires { Admits mem.old journal.old twin }
     ensures { Leaves result mem.new journal.new (concluded (plan_answer settings plan (in_hand mem.old journal.old twin)) settings plan (in_hand mem.old journal.old twin)) }
 {
-    let answer = plan.answer;
-    match answer {
-        Answer::Refused(refusal) => refused(twin, refusal),
-        Answer::Done => {
-            let writes = plan.writes;
-            let bytes = twin.bytes;
-            let n = count_entries(settings.ram_top, writes);
-            let size = record_length(n);
-            if journal.len() - bytes < size {
-                return refused(twin, Refusal::JournalFull);
-            }
-            let end = bytes + size;
-            let records = twin.records + 1;
-            let before = twin.machine;
-            write_record(
-                &mut journal[bytes..],
-                mem,
-                before,
-                settings.ram_top,
-                writes,
-                n,
-            );
-            let report = calls::carry_out(mem, settings, plan);
-            let devices = report.devices;
-            let machine = report.machine;
-            Outcome {
-                devices,
-                twin: Twin {
-                    machine,
-                    records,
-                    bytes: end,
-                },
-                reads: report.reads,
-                writes: report.writes,
-                answer,
-            }
-        }
+    // An outcome is no Result: a refused call gives back its twin. So no `?` hands a refusal on, here and in each call below.
+    if let Err(refusal) = plan.answer {
+        return refused(twin, refusal);
+    }
+    let n = count_entries(settings.ram_top, plan.writes);
+    let size = record_length(n);
+    if journal.len() - twin.bytes < size {
+        return refused(twin, Refusal::JournalFull);
+    }
+    write_record(
+        &mut journal[twin.bytes..],
+        mem,
+        twin.machine,
+        settings.ram_top,
+        plan.writes,
+        n,
+    );
+    let report = calls::carry_out(mem, settings, plan);
+    Outcome {
+        devices: report.devices,
+        twin: twin.after(report.machine, size),
+        reads: report.reads,
+        writes: report.writes,
+        answer: Ok(()),
     }
 }
 
-// A call with its plan, from the first refusal on. A plan changes nothing, so that it may be made before.
+// A call with its plan, from the first refusal on. A plan changes nothing, so that it may be made before. `typed` stands here and in each
+// public call: the theorems of crates/history take it of any of them.
 pub fn record_plan(
     mem: &mut [u8],
     journal: &mut [u8],
@@ -221,13 +193,14 @@ pub fn record_plan(
     ensures leaves { Leaves result mem.new journal.new (called settings plan (in_hand mem.old journal.old twin)) }
     ensures typed { Typed (in_hand mem.old journal.old twin) }
 {
-    match admits(mem.len(), journal.len(), twin.records, twin.bytes) {
-        Answer::Refused(refusal) => refused(twin, refusal),
-        Answer::Done => conclude(mem, journal, twin, settings, plan),
+    if let Err(refusal) = admits(mem.len(), journal.len(), twin.records, twin.bytes) {
+        return refused(twin, refusal);
     }
+    conclude(mem, journal, twin, settings, plan)
 }
 
 // The calls that come from outside the program. Both are made at one place, which is then not compiled into each loop that makes steps.
+// No Option of an interrupt: a reset is a call as well, and None would not say which.
 #[derive(Clone, Copy)]
 enum Outside {
     Interrupt(InterruptType),

@@ -6,7 +6,7 @@ ghost use Rattle.journal.specs.Undos.{newest_of, newest_from, put_back, undone};
 
 use super::recorded::refused;
 use super::{COUNT, ENTRIES, ENTRY, MOST, Outcome, Twin, record_length};
-use answers::{Answer, Refusal};
+use answers::Refusal;
 use machine::{ARMED, WAIT};
 use memory::Writes;
 
@@ -25,7 +25,7 @@ fn is_record(r: &[u8]) -> bool
     (r.len() == record_length(n)) & ((r[WAIT] <= 2) & (r[ARMED] <= 1))
 }
 
-// The newest record, as a part of the journal; an empty part where no whole record is there.
+// The newest record, as a part of the journal; an empty part where no whole record is there, and no None: `newest_of` promises it so.
 pub fn newest(journal: &[u8], records: usize, bytes: usize) -> &[u8]
     ensures result_value { result.now ≡ newest_of journal.now records bytes }
     ensures ref_ptr_value { result.ref_ptr ≡ (journal.entry.ref_ptr.0, newest_from journal.now records bytes + journal.entry.ref_ptr.1) }
@@ -59,12 +59,10 @@ fn put_back(mem: &mut [u8], r: &[u8], n: usize)
     requires { (length mem.old ≡ 65536) × ((entries_at + n * entry_length ≤ length r.now) × (n ≤ most_stored)) }
     ensures { mem.new ≡ put_back mem.old (read_entries n (drop entries_at r.now)) }
 {
-    let mut k = 0;
-    while k < n {
-        k += 1;
-        let at = ENTRIES + (n - k) * ENTRY;
-        let place = 256 * r[at] as usize + r[at + 1] as usize;
-        mem[place] = r[at + 2];
+    for k in 0..n {
+        let at = ENTRIES + (n - (k + 1)) * ENTRY;
+        let place = u16::from_be_bytes([r[at], r[at + 1]]);
+        mem[place as usize] = r[at + 2];
     }
 }
 
@@ -73,34 +71,29 @@ pub fn undo(mem: &mut [u8], journal: &[u8], twin: Twin) -> Outcome
     ensures leaves { Leaves result mem.new journal.now (undone (in_hand mem.old journal.now twin)) }
     ensures typed { Typed (in_hand mem.old journal.now twin) }
 {
-    let records = twin.records;
-    let bytes = twin.bytes;
     if mem.len() != 65536 {
         return refused(twin, Refusal::MemoryLength);
     }
-    if bytes > journal.len() {
+    if twin.bytes > journal.len() {
         return refused(twin, Refusal::JournalLength);
     }
-    if records == 0 {
+    if twin.records == 0 {
         return refused(twin, Refusal::NoRecord);
     }
-    let r = newest(journal, records, bytes);
-    let size = r.len();
-    if size == 0 {
+    let r = newest(journal, twin.records, twin.bytes);
+    if r.is_empty() {
         return refused(twin, Refusal::JournalLength);
     }
-    let n = r[COUNT] as usize;
-    put_back(mem, r, n);
-    let machine = machine::machine_of(r);
+    put_back(mem, r, r[COUNT] as usize);
     Outcome {
         devices: Writes::none(),
         twin: Twin {
-            machine,
-            records: records - 1,
-            bytes: bytes - size,
+            machine: machine::machine_of(r),
+            records: twin.records - 1,
+            bytes: twin.bytes - r.len(),
         },
         reads: 0,
         writes: 0,
-        answer: Answer::Done,
+        answer: Ok(()),
     }
 }

@@ -12,7 +12,7 @@ ghost use Rattle.journal.specs.Recorded.{in_hand, stepped};
 ghost use Rattle.journal.specs.Undos.{undone};
 ghost use Rattle.lent.specs.Lending.{Returns};
 
-use answers::Answer;
+use answers::Refusal;
 use journal::Twin;
 use lent::Returned;
 use machine::Settings;
@@ -38,6 +38,7 @@ fn step_owned(twin: Twin, mem: &mut [u8], journal: &mut [u8], settings: Settings
     }
 }
 
+// Apart from `step_owned`, as the two calls are: the journal is only read.
 fn undo_owned(twin: Twin, mem: &mut [u8], journal: &[u8]) -> Returned
     ensures { Returns result mem.new journal.now (undone (in_hand mem.old journal.now twin)) }
 {
@@ -55,12 +56,9 @@ fn letter(n: u8) -> u8 {
     if d < 10 { b'0' + d } else { b'A' - 10 + d }
 }
 
-fn show(rt: &HostRuntime, answer: Answer, twin: Twin, byte: u8) -> io::Result<()> {
-    let number = answer.number();
-    let machine = twin.machine;
-    let regs = machine.regs;
-    let high = (regs.pc / 256) as u8;
-    let low = (regs.pc % 256) as u8;
+fn show(rt: &HostRuntime, answer: Result<(), Refusal>, twin: Twin, byte: u8) -> io::Result<()> {
+    let number = answers::number(&answer);
+    let [high, low] = twin.machine.regs.pc.to_be_bytes();
     let out = [
         letter(number / 10),
         letter(number % 10),
@@ -80,11 +78,8 @@ fn show(rt: &HostRuntime, answer: Answer, twin: Twin, byte: u8) -> io::Result<()
 }
 
 fn shown(rt: &HostRuntime, returned: Returned, byte: u8) -> io::Result<Twin> {
-    let reported = returned.reported;
-    let answer = reported.answer;
-    let twin = returned.twin;
-    show(rt, answer, twin, byte)?;
-    Ok(twin)
+    show(rt, returned.reported.answer, returned.twin, byte)?;
+    Ok(returned.twin)
 }
 
 fn forward(
@@ -106,25 +101,21 @@ fn back(rt: &HostRuntime, twin: Twin, mem: &mut Memory, journal: &Journal) -> io
 // A fresh machine at the program, with the byte to store.
 fn start() -> Twin {
     let mut twin = Twin::fresh();
-    let mut machine = twin.machine;
-    let mut regs = machine.regs;
-    regs.pc = 0x0100;
-    regs.a = 0x2A;
-    machine.regs = regs;
-    twin.machine = machine;
+    twin.machine.regs.pc = 0x0100;
+    twin.machine.regs.a = 0x2A;
     twin
 }
 
 fn main(rt: HostRuntime) -> io::Result<()> {
     let mut mem = [0u8; 0x10000];
     let mut journal = [0u8; 71];
-    mem[0x0100] = 0x12;
-    mem[0x0101] = 0xB7;
-    mem[0x0102] = 0x02;
-    let first = forward(&rt, start(), &mut mem, &mut journal)?;
-    let second = forward(&rt, first, &mut mem, &mut journal)?;
-    let third = back(&rt, second, &mut mem, &journal)?;
-    let fourth = back(&rt, third, &mut mem, &journal)?;
-    back(&rt, fourth, &mut mem, &journal)?;
+    mem[0x0100..0x0103].copy_from_slice(&[0x12, 0xB7, 0x02]);
+    let mut twin = start();
+    for _ in 0..2 {
+        twin = forward(&rt, twin, &mut mem, &mut journal)?;
+    }
+    for _ in 0..3 {
+        twin = back(&rt, twin, &mut mem, &journal)?;
+    }
     Ok(())
 }

@@ -2,6 +2,7 @@
 -- a contract is met where the `ensures` holds of some resource, in any model of that logic; and as a fact in it is truncated, so is what is
 -- said here. Interrupt, reset and drop are the journal's, on a twin by value.
 -- Assumes nothing.
+use Rattle.std.specs.Prelude.{Ok}
 use mathlib.Core.Path.{◌≡◌, ◌∙◌}
 use mathlib.Core.Logic.{◌≢◌, ∥∥₁_prop, ∥∥₁_elim, ∥∥₁_map}
 use mathlib.Core.List.{List}
@@ -17,7 +18,6 @@ use prog.Routine.{Routine}
 use types.Logic.{Logic}
 use denote.Triple.Entry.{Args}
 use denote.Triple.Clauses.{at_exit}
-use Rattle.answers.specs.declared.Answer.TheVariants.{Done}
 use Rattle.machine.specs.declared.Settings.{Settings}
 use Rattle.calls.specs.Calls.{Call, step, interrupt, reset}
 use Rattle.journal.specs.Recorded.{State, Ended, Typed, call}
@@ -99,8 +99,8 @@ module _ {M : Type 1} {𝓤 : Ura M} (𝓛 : Logic 𝓤) (mem : Memory → SProp
     pub counted : (s : State) (past : List Snap) → Chain lending s past → ∥ Counted s past ∥₁
     pub undo : (s : State) (past : List Snap) (e : Ended) → Chain lending s past → Undoing s e → ∥ Undone s past e ∥₁
     pub drop : (k : ℕ) (s : State) (past : List Snap) (e : Ended) → Chain lending s past → DropByValue k s e → ∥ Drops k s past e ∥₁
-    pub refused-call : (c : Call) (s : State) (e : Ended) → forwards c s e → e.answer ≢ Done → ∥ Unchanged s e ∥₁
-    pub refused-undo : (s : State) (e : Ended) → Undoing s e → e.answer ≢ Done → ∥ Unchanged s e ∥₁
+    pub refused-call : (c : Call) (s : State) (e : Ended) → forwards c s e → e.answer ≢ (Ok tt) → ∥ Unchanged s e ∥₁
+    pub refused-undo : (s : State) (e : Ended) → Undoing s e → e.answer ≢ (Ok tt) → ∥ Unchanged s e ∥₁
 
   pub demand-3-lent : Demand3Lent
   demand-3-lent = record {

@@ -1,23 +1,26 @@
 // The machine lent by its owner: step and undo on a twin behind a `&mut`, over the recorded calls on values.
-// Each is three lines: every test and every refusal is in the call on values.
+// Each is three lines: every test and every refusal is in the call on values. Step and undo stay apart: the one writes the journal that the
+// other only reads, so that a closure for the call between would be longer than they are.
 #![tactic(auto)]
 
 ghost use Rattle.journal.specs.Recorded.{in_hand, Typed, stepped};
 ghost use Rattle.journal.specs.Undos.{undone};
-ghost use Rattle.lent.specs.Lending.{Returns, LeavesTwin};
+ghost use Rattle.std.specs.Prelude.{◌≡◌};
+ghost use Rattle.lent.specs.Lending.{parts, Returns, LeavesTwin};
 
-use answers::Answer;
-use journal::Twin;
+use answers::Refusal;
+use journal::{Outcome, Twin};
 use machine::Settings;
 use memory::Writes;
 
 // What a call returns once the twin is written back: the device writes that it reports, how many bytes it read and wrote, and its answer.
+// The answer stands beside them, as in an `Outcome`: it tells a refusal of the same report (specs/Lending.antt: `report_of`).
 #[derive(Clone, Copy)]
 pub struct Reported {
     pub devices: Writes,
     pub reads: u8,
     pub writes: u8,
-    pub answer: Answer,
+    pub answer: Result<(), Refusal>,
 }
 
 // The same with the twin, on values.
@@ -27,40 +30,32 @@ pub struct Returned {
     pub twin: Twin,
 }
 
+impl From<Outcome> for Returned {
+    ghost from_gives = { λ o r. r ≡ parts o };
+
+    fn from(outcome: Outcome) -> Returned {
+        Returned {
+            reported: Reported {
+                devices: outcome.devices,
+                reads: outcome.reads,
+                writes: outcome.writes,
+                answer: outcome.answer,
+            },
+            twin: outcome.twin,
+        }
+    }
+}
+
 fn step_value(twin: Twin, mem: &mut [u8], journal: &mut [u8], settings: Settings) -> Returned
     ensures { Returns result mem.new journal.new (stepped settings (in_hand mem.old journal.old twin)) × Typed (in_hand mem.old journal.old twin) }
 {
-    let outcome = journal::step(mem, journal, twin, settings);
-    let devices = outcome.devices;
-    let answer = outcome.answer;
-    let next = outcome.twin;
-    Returned {
-        reported: Reported {
-            devices,
-            reads: outcome.reads,
-            writes: outcome.writes,
-            answer,
-        },
-        twin: next,
-    }
+    Returned::from(journal::step(mem, journal, twin, settings))
 }
 
 fn undo_value(twin: Twin, mem: &mut [u8], journal: &[u8]) -> Returned
     ensures { Returns result mem.new journal.now (undone (in_hand mem.old journal.now twin)) × Typed (in_hand mem.old journal.now twin) }
 {
-    let outcome = journal::undo(mem, journal, twin);
-    let devices = outcome.devices;
-    let answer = outcome.answer;
-    let before = outcome.twin;
-    Returned {
-        reported: Reported {
-            devices,
-            reads: outcome.reads,
-            writes: outcome.writes,
-            answer,
-        },
-        twin: before,
-    }
+    Returned::from(journal::undo(mem, journal, twin))
 }
 
 // The recorded step of a lent twin.

@@ -26,6 +26,7 @@ fn out_buffer() -> [u8; OUT]
 }
 
 // Writes the text, and returns its length, which is at most that of the buffer.
+// Each program has such a function: it makes of its own call's promise the bound by which `main` slices.
 fn list_into(input: &[u8], out: &mut [u8]) -> usize
     ensures { result ≤ 49 * 65536 }
 {

@@ -1,5 +1,6 @@
 -- A file that is loaded, and the head before it.
 -- Assumes nothing.
+use Rattle.std.specs.Prelude.{Result, Ok, Err}
 use Prim.Native.Nat.{ℕ, ◌-◌, ◌≤◌, ◌<◌}
 use mathlib.Core.Path.{◌≡◌}
 use mathlib.Core.Bool.{Bool, true, false, cond}
@@ -9,21 +10,19 @@ use borrow.Author.Tests.{le-leb, lt-leb, le-ltb}
 use lib.ListN.{length, take, drop, length-drop}
 use lib.Seq.{take_all}
 use Rattle.answers.specs.Numbers.{number_of}
-use Rattle.answers.specs.declared.Answer.TheVariants.{Done, Refused}
 use Rattle.answers.specs.declared.Refusal.{Refusal}
 use Rattle.answers.specs.declared.Refusal.TheVariants.{Malformed}
 use Rattle.text.specs.Lines.{alone}
 use Rattle.memory.specs.Map.{word_at}
 use Rattle.srecord.specs.File.{loaded_of, memory_loaded}
-use Rattle.srecord.specs.declared.Loaded.{Loaded}
 use Rattle.listing.specs.Listing.{listing, empty_memory, file_listing, head_word, from_byte, list_printed}
 
-module _ (given : Bool) (at n : ℕ) (file : List ℕ) {blank : List ℕ} (eb : blank ≡ empty_memory) {l : Loaded} (el : l ≡ loaded_of blank file) where
-  pub refused-file : {x : Refusal} → l.answer ≡ Refused x → file_listing given at n file ≡ alone (number_of x)
+module _ (given : Bool) (at n : ℕ) (file : List ℕ) {blank : List ℕ} (eb : blank ≡ empty_memory) {l : Result ℕ Refusal} (el : l ≡ loaded_of blank file) where
+  pub refused-file : {x : Refusal} → l ≡ Err x → file_listing given at n file ≡ alone (number_of x)
   unfolding file_listing
   refused-file ea = rw (← eb, ← el, ea)
 
-  pub sound-file : {mem : List ℕ} → mem ≡ memory_loaded blank file → l.answer ≡ Done → file_listing given at n file ≡ listing n mem (cond given at (word_at mem 0xFFFE))
+  pub sound-file : {mem : List ℕ} → mem ≡ memory_loaded blank file → {a : ℕ} → l ≡ Ok a → file_listing given at n file ≡ listing n mem (cond given at (word_at mem 0xFFFE))
   unfolding file_listing
   sound-file em ea = rw (em, ← eb, ← el, ea)
 

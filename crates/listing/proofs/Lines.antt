@@ -1,5 +1,6 @@
 -- The line of an address: of an instruction, and of a refusal laid over spaces.
 -- Assumes nothing.
+use Rattle.std.specs.Prelude.{Err, Ok, Result}
 use Prim.Native.Nat.{ℕ, ◌+◌, ◌-◌, ◌≤◌, ◌<◌}
 use Prim.Native.Char.{code}
 use mathlib.Core.Path.{◌≡◌, refl, sym, ap, ◌∙◌}
@@ -18,15 +19,13 @@ use Rattle.text.proofs.Stores.{sets-append}
 use Rattle.memory.specs.Fits.{Bytes}
 use Rattle.memory.specs.Map.{byte_at}
 use Rattle.registers.specs.ConditionCodes.{ascii}
-use Rattle.decode.specs.declared.instruction.Decoded.{Decoded}
-use Rattle.decode.specs.declared.instruction.Decoded.TheVariants.{Instruction as Taken, Refused as NotDecoded}
 use Rattle.disassembly.specs.Figures.{byte_text}
 use Rattle.disassembly.specs.Line.{space, columns, line_with, instruction_line}
 use Rattle.disassembly.specs.Disassembly.{legible, answered, disassembled_of, written_to, line_after}
-use Rattle.disassembly.specs.declared.Disassembled.TheVariants.{Line, Refused}
 use Rattle.disassembly.proofs.Columns.{columns-length, laid, line-length}
 use Rattle.disassembly.proofs.Laws.{room, legible-taken, text-of-48}
 use Rattle.listing.specs.Listing.{refused_text, refused_at, line_from, next_from}
+use Rattle.decode.specs.declared.instruction.Instruction.{Instruction}
 
 -- ---- four texts over a blank line
 
@@ -87,32 +86,32 @@ module _ (mem : List ℕ) (at : ℕ) (h : length mem ≡ 65536) where
   unfolding line_after
   line-is = rw (eq-eqb (length mem) 65536 h)
 
-  pub told_line : Bytes mem → at < 65536 → (n : ℕ) → disassembled_of mem at 49 ≡ Line n
+  pub told_line : Bytes mem → at < 65536 → (n : ℕ) → disassembled_of mem at 49 ≡ Ok n
       → (line_after mem at blank_line ≡ line_from mem at (legible mem at) ++ (line_feed ∷ [])) × (at + n ≡ next_from at (legible mem at))
   told_line b l n q = go (legible mem at) refl (sym answer-is ∙ q)
     where
-      go : (d : Decoded) → legible mem at ≡ d → answered at 49 d ≡ Line n
+      go : (d : Result Instruction Refusal) → legible mem at ≡ d → answered at 49 d ≡ Ok n
           → (line_after mem at blank_line ≡ line_from mem at d ++ (line_feed ∷ [])) × (at + n ≡ next_from at d)
-      go (NotDecoded x) e r = let z : ◌≡◌ {A = ℕ} 0 1 = cc in absurd (omega arith)
-      go (Taken i) e r =
+      go (Err x) e r = let z : ◌≡◌ {A = ℕ} 0 1 = cc in absurd (omega arith)
+      go (Ok i) e r =
           let k : n ≡ i.next - at = cc in
           let m = room mem at i b l e in
           (line-is ∙ ap (written_to mem at blank_line) e, omega (arith, k, m.after))
 
-  pub told-refusal : (x : Refusal) → disassembled_of mem at 49 ≡ Refused x → legible mem at ≡ NotDecoded x
+  pub told-refusal : (x : Refusal) → disassembled_of mem at 49 ≡ Err x → legible mem at ≡ Err x
   told-refusal x q = go (legible mem at) (sym answer-is ∙ q)
     where
-      go : (d : Decoded) → answered at 49 d ≡ Refused x → d ≡ NotDecoded x
-      go (NotDecoded y) r = let z : y ≡ x = cc in ap NotDecoded z
-      go (Taken i) r = let z : ◌≡◌ {A = ℕ} 0 1 = cc in absurd (omega arith)
+      go : (d : Result Instruction Refusal) → answered at 49 d ≡ Err x → d ≡ Err x
+      go (Err y) r = let z : y ≡ x = cc in ap Err z
+      go (Ok i) r = let z : ◌≡◌ {A = ℕ} 0 1 = cc in absurd (omega arith)
 
   -- a line has 49 bytes
   pub line-of-49 : Bytes mem → at < 65536 → length (line_from mem at (legible mem at) ++ (line_feed ∷ [])) ≡ 49
   unfolding refused_at
   line-of-49 b l = go (legible mem at) refl
     where
-      go : (d : Decoded) → legible mem at ≡ d → length (line_from mem at d ++ (line_feed ∷ [])) ≡ 49
-      go (Taken i) e = length-append (instruction_line mem at i) (line_feed ∷ []) ∙ omega (arith, text-of-48 mem at i b l (legible-taken mem at i e).0)
-      go (NotDecoded x) e =
+      go : (d : Result Instruction Refusal) → legible mem at ≡ d → length (line_from mem at d ++ (line_feed ∷ [])) ≡ 49
+      go (Ok i) e = length-append (instruction_line mem at i) (line_feed ∷ []) ∙ omega (arith, text-of-48 mem at i b l (legible-taken mem at i e).0)
+      go (Err x) e =
           length-append (refused_at mem at x) (line_feed ∷ [])
           ∙ omega (arith, line-length (hex4 at) (hex2 (byte_at mem at)) (ascii "FCB") (refused_text (byte_at mem at) x) (omega arith) (omega arith) (omega arith) (refused-short (byte_at mem at) x))

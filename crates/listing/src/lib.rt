@@ -9,8 +9,8 @@ ghost use Rattle.disassembly.specs.Line.{space, line_length};
 ghost use Rattle.disassembly.specs.Disassembly.{legible};
 ghost use Rattle.listing.specs.Listing.{refused_at, line_from, next_from, left_after, listing, empty_memory, file_listing, list_printed};
 
-use answers::{Answer, Refusal};
-use disassembly::{Disassembled, LINE};
+use answers::Refusal;
+use disassembly::LINE;
 
 // An address, whether it counts, and a count of lines, before an S-record file.
 const HEAD: usize = 5;
@@ -23,6 +23,7 @@ const RESET: u16 = 0xFFFE;
 
 const MEMORY: usize = 0x10000;
 
+// A function of its own, as in `player`, so that the proof of its caller need not open the array; each says it by its own definition.
 fn zeroed_memory() -> [u8; MEMORY]
     ensures { result ≡ empty_memory }
 {
@@ -30,6 +31,7 @@ fn zeroed_memory() -> [u8; MEMORY]
 }
 
 // Writes the one line of a refused input, and returns its length.
+// Each crate that prints has this line for itself: `text` knows no refusals.
 fn put_refusal(out: &mut [u8], refusal: Refusal) -> usize
     ensures { (result ≡ length (alone (number_of refusal))) × (out.new ≡ sets out.old 0 (alone (number_of refusal))) }
 {
@@ -39,7 +41,7 @@ fn put_refusal(out: &mut [u8], refusal: Refusal) -> usize
 fn word(high: u8, low: u8) -> u16
     ensures { result ≡ 256 * high + low }
 {
-    256 * high as u16 + low as u16
+    u16::from_be_bytes([high, low])
 }
 
 // A line with its line feed, and the address after what it tells, which may be 10000.
@@ -80,11 +82,12 @@ fn line_at(mem: &[u8], at: u16) -> Told
 {
     let mut line = blank();
     match disassembly::disassemble(mem, at, &mut line) {
-        Disassembled::Line(n) => Told {
+        Ok(n) => Told {
             line,
             next: at as u32 + n as u32,
         },
-        Disassembled::Refused(refusal) => Told {
+        // The refusal ends here: its number is told in the line.
+        Err(refusal) => Told {
             line: refused_line(mem, at, refusal),
             next: at as u32 + 1,
         },
@@ -96,10 +99,7 @@ fn left_after(left: u16, next: u32) -> u16
     requires { 0 < left }
     ensures { result ≡ left_after left next }
 {
-    if next > 0xFFFF {
-        return 0;
-    }
-    left - 1
+    if next > 0xFFFF { 0 } else { left - 1 }
 }
 
 // Writes up to `count` lines from an address on, and returns where they end.
@@ -109,11 +109,11 @@ fn put_lines(out: &mut [u8], mem: &[u8], from: u16, count: u16) -> usize
 {
     let mut at = from;
     let mut used = 0;
+    // A line may be the last, so that no range counts the turns.
     let mut left = count;
     while 0 < left {
         let told = line_at(mem, at);
-        let line = told.line;
-        text::put(out, used, &line);
+        text::put(out, used, &told.line);
         used += LINE + 1;
         left = left_after(left, told.next);
         at = (told.next % 0x10000) as u16;
@@ -133,11 +133,10 @@ fn list_text(text: &[u8], out: &mut [u8], given: bool, at: u16, count: u16) -> u
     ensures { (result ≡ length (file_listing given at count text.now)) × ((out.new ≡ sets out.old 0 (file_listing given at count text.now)) × (result ≤ 49 * 65536)) }
 {
     let mut mem = zeroed_memory();
-    let loaded = srecord::read(&mut mem, text);
-    let answer = loaded.answer;
-    match answer {
-        Answer::Refused(refusal) => put_refusal(out, refusal),
-        Answer::Done => {
+    match srecord::read(&mut mem, text) {
+        // The refusal ends here: its number is printed.
+        Err(refusal) => put_refusal(out, refusal),
+        Ok(_) => {
             let from = start(given, at, memory::read_u16(&mem, RESET));
             put_lines(out, &mem, from, count)
         }
@@ -157,6 +156,7 @@ pub fn list(input: &[u8], out: &mut [u8]) -> usize
     let at = word(input[0], input[1]);
     let count = word(input[3], input[4]);
     let text = &input[HEAD..];
+    // The number is the input's.
     match input[2] {
         0 => list_text(text, out, false, at, count),
         1 => list_text(text, out, true, at, count),

@@ -1,16 +1,15 @@
 -- The fence: a list of writes passes exactly where all that it stores lies within the profile; with all allowed none is barred; profiles
 -- that allow the same places judge alike.
 -- Assumes nothing.
-use Prim.Native.Nat.{ℕ, ◌+◌, ◌≤◌, ◌<◌}
+use Prim.Native.Nat.{ℕ, ◌<◌}
 use mathlib.Core.Bool.{Bool, true, false, not, ◌||◌}
 use mathlib.Core.List.{List, [], ◌∷◌}
-use mathlib.Core.Logic.{◌⊎◌, inl, inr}
 use mathlib.Core.Path.{◌≡◌, refl, sym, ap, ◌∙◌}
-use native.Mathlib.Numerals.{add-one}
 use native.Mathlib.Omega.{arith}
 use borrow.Author.Tests.{not-false, le-leb}
-use lib.ListN.{length, get_or, take, drop, length-take, drop_of_length-le}
-use lib.Seq.{drop-cons, get_or-take, get_or-set_other}
+use lib.ListN.{get_or}
+use lib.Seq.{get_or-set_other}
+use Rattle.std.specs.List.{list_any}
 use Rattle.memory.specs.Laws.{InMap}
 use Rattle.memory.specs.Map.{within, landing_of}
 use Rattle.memory.specs.Writes.{put_at, stored}
@@ -30,35 +29,17 @@ right : (a b : Bool) → (a || b) ≡ false → b ≡ false
 right true b e = let z : ◌≡◌ {A = ℕ} 0 1 = cc in absurd (omega arith)
 right false b e = e
 
--- ---- the loops
+-- ---- what `any` finds
 
--- a turn over the ranges, and their end
-pub range-turn : (rs : List Range) (i p : ℕ) (none : Range) (b : Bool) → i < length rs → within (get_or rs i none).first (get_or rs i none).last p ≡ b
-    → allows (drop i rs) p ≡ (b || allows (drop (i + 1) rs) p)
+pub any-allows : (rs : List Range) (p : ℕ) → list_any (λ (r : Range). within r.first r.last p) rs ≡ allows rs p
 unfolding allows
-range-turn rs i p none b h e = rw (add-one, drop-cons rs i none h, e)
+any-allows [] p = refl
+any-allows (r ∷ rs) p = ap (λ (t : Bool). within r.first r.last p || t) (any-allows rs p)
 
-pub range-end : (rs : List Range) (i p : ℕ) → length rs ≤ i → allows (drop i rs) p ≡ false
-unfolding allows
-range-end rs i p h = rw (drop_of_length-le rs h)
-
--- a turn over the writes that count, and their end
-module _ (rs : List Range) (top : ℕ) (list : List Write) (count i : ℕ) (full : length list ≡ 12) where
-  pub write-turn : (none : Write) (b : Bool) → i < 12 → i < count
-      → barred_at rs (landing_of (get_or list i none).at top (get_or list i none).system) ≡ b
-      → barred rs top (drop i (take count list)) ≡ (b || barred rs top (drop (i + 1) (take count list)))
-  unfolding barred
-  write-turn none b h k e =
-      let l : i < length (take count list) = simp length-take (omega arith) in
-      rw (add-one, drop-cons (take count list) i none l, get_or-take count list i none k, e)
-
-  pub write-end : (count ≤ i) ⊎ (12 ≤ i) → barred rs top (drop i (take count list)) ≡ false
-  unfolding barred
-  write-end w = rw (drop_of_length-le (take count list) (short w))
-    where
-      short : (count ≤ i) ⊎ (12 ≤ i) → length (take count list) ≤ i
-      short (inl h) = simp length-take (omega arith)
-      short (inr h) = simp length-take (omega arith)
+pub any-barred : (rs : List Range) (top : ℕ) (ws : List Write) → list_any (λ (w : Write). barred_at rs (landing_of w.at top w.system)) ws ≡ barred rs top ws
+unfolding barred
+any-barred rs top [] = refl
+any-barred rs top (w ∷ ws) = ap (λ (t : Bool). barred_at rs (landing_of w.at top w.system) || t) (any-barred rs top ws)
 
 -- ---- the laws
 

@@ -4,7 +4,7 @@ use mathlib.Core.Path.{◌≡◌, refl, sym, ap, ◌∙◌}
 use mathlib.Core.Bool.{Bool, true, false}
 use mathlib.Core.List.{List, [], ◌∷◌}
 use Prim.Native.Nat.{ℕ, zero, suc, ◌+◌, ◌*◌, ◌/◌, ◌%◌, ◌^◌, ◌≤◌, ◌<◌}
-use native.Mathlib.Nat.{mod-one, mod-eq_of_lt, pow-succ', pow-suc, one-le-pow, pow-le-pow_right}
+use native.Mathlib.Nat.{mod-one, mod-eq_of_lt, pow-succ', one-le-pow}
 use native.Mathlib.Numerals.{add-one}
 use native.Mathlib.Omega.{arith}
 use lib.Arith.{mod-mul}
@@ -26,6 +26,10 @@ two x h =
     let a : x / 256 % 256 ≡ x / 256 = omega arith in
     let b : x / 1 % 256 ≡ x % 256 = omega arith in
     λ i. a i ∷ b i ∷ []
+
+pub two-be : (x : ℕ) → bytes 2 x ≡ x / 256 % 256 ∷ x % 256 ∷ []
+unfolding bytes
+two-be x = let b : x / 1 % 256 ≡ x % 256 = omega arith in λ i. x / 256 % 256 ∷ b i ∷ []
 
 pub one : (x : ℕ) → x < 256 → bytes 1 x ≡ x ∷ []
 unfolding bytes
@@ -56,20 +60,28 @@ number-bytes (suc n) x = rw (length-bytes n x, number-bytes n x, pow-succ') (sym
 number-back : (n x : ℕ) → x < 256 ^ n → number (bytes n x) ≡ x
 number-back n x h = number-bytes n x ∙ mod-eq_of_lt h
 
+-- the number of two bytes, and of eight
+pub number_two : (r : List ℕ) (at : ℕ) → number_at r at 2 ≡ get_or r at 0 * 256 + get_or r (at + 1) 0
+unfolding number_at
+number_two r at = rw (add-one) (omega arith)
+
+pub number_eight : (r : List ℕ) (at : ℕ)
+    → number_at r at 8
+    ≡ get_or r at 0 * 0x100_0000_0000_0000 + get_or r (at + 1) 0 * 0x1_0000_0000_0000 + get_or r (at + 2) 0 * 0x100_0000_0000 + get_or r (at + 3) 0 * 0x1_0000_0000 + get_or r (at + 4) 0 * 0x100_0000 + get_or r (at + 5) 0 * 0x1_0000 + get_or r (at + 6) 0 * 0x100 + get_or r (at + 7) 0
+unfolding number_at
+number_eight r at =
+    let one : at + 1 ≡ suc at = omega arith in
+    let two : at + 2 ≡ suc (suc at) = omega arith in
+    let three : at + 3 ≡ suc (suc (suc at)) = omega arith in
+    let four : at + 4 ≡ suc (suc (suc (suc at))) = omega arith in
+    let five : at + 5 ≡ suc (suc (suc (suc (suc at)))) = omega arith in
+    let six : at + 6 ≡ suc (suc (suc (suc (suc (suc at))))) = omega arith in
+    let seven : at + 7 ≡ suc (suc (suc (suc (suc (suc (suc at)))))) = omega arith in
+    rw (one, two, three, four, five, six, seven) (omega arith)
+
 -- two bytes, read back
 pub two_back : (x : ℕ) → x < 65536 → x / 256 % 256 * 256 + (x / 1 % 256 * 1 + 0) ≡ x
 two_back x h = omega arith
-
--- one byte more
-pub number_more : (r : List ℕ) (at i : ℕ) → number_at r at (i + 1) ≡ number_at r at i * 256 + get_or r (at + i) 0
-unfolding number_at
-number_more r at i = rw add-one (more at i)
-  where
-    more : (at i : ℕ) → number_at r at (suc i) ≡ number_at r at i * 256 + get_or r (at + i) 0
-    more at zero = let e : at + 0 ≡ at = omega arith in rw e (omega arith)
-    more at (suc i) =
-        let e : suc at + i ≡ at + suc i = omega arith in
-        rw (more (suc at) i, e, pow-suc) (omega arith)
 
 -- in a part from a place on, and past the end
 pub number-drop : (r : List ℕ) (at i n : ℕ) → number_at (drop at r) i n ≡ number_at r (at + i) n
@@ -88,12 +100,6 @@ number_past r at (suc n) h = rw (get_or-eq_default r 0 {n = at} h, number_past r
 pub single : (r : List ℕ) (at : ℕ) → number_at r at 1 ≡ get_or r at 0
 unfolding number_at
 single r at = omega arith
-
-pub below_more : (i v b : ℕ) → v < 256 ^ i → b < 256 → v * 256 + b < 256 ^ (i + 1)
-below_more i v b h k = rw (add-one, pow-suc) (omega arith)
-
-pub below-8 : (i : ℕ) → i ≤ 8 → 256 ^ i ≤ 256 ^ 8
-below-8 i h = pow-le-pow_right (lit< tt) h
 
 -- ---- the wait state
 
@@ -131,18 +137,18 @@ mark-small false = lit≤ tt
 pub spelled : (m : Machine) → Fits m.regs
     → front m
     ≡ let r = m.regs in
-    r.a ∷ r.b ∷ r.x / 256 ∷ r.x % 256 ∷ r.y / 256 ∷ r.y % 256 ∷ r.u / 256 ∷ r.u % 256 ∷ r.s / 256 ∷ r.s % 256 ∷ r.pc / 256 ∷ r.pc % 256 ∷ r.dp ∷ r.cc.reg ∷ wait_byte m.wait ∷ mark_byte m.armed ∷ []
+    r.a ∷ r.b ∷ r.x / 256 % 256 ∷ r.x % 256 ∷ r.y / 256 % 256 ∷ r.y % 256 ∷ r.u / 256 % 256 ∷ r.u % 256 ∷ r.s / 256 % 256 ∷ r.s % 256 ∷ r.pc / 256 % 256 ∷ r.pc % 256 ∷ r.dp ∷ r.cc.reg ∷ wait_byte m.wait ∷ mark_byte m.armed ∷ []
 unfolding front
 spelled m f =
     let r = m.regs in
     rw (
       one r.a f.a,
       one r.b f.b,
-      two r.x f.x,
-      two r.y f.y,
-      two r.u f.u,
-      two r.s f.s,
-      two r.pc f.pc,
+      two-be r.x,
+      two-be r.y,
+      two-be r.u,
+      two-be r.s,
+      two-be r.pc,
       one r.dp f.dp,
       one r.cc.reg f.cc,
       one (wait_byte m.wait) (omega (arith, wait-small m.wait)),

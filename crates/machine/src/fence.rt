@@ -8,7 +8,7 @@ use crate::Settings;
 use memory::{Landing, Writes};
 
 // A range of a profile: first to last, both included. It is empty where first is above last.
-#[derive(Clone, Copy)]
+#[derive(Clone, Copy, PartialEq, Eq)]
 pub struct Range {
     pub first: u16,
     pub last: u16,
@@ -33,28 +33,19 @@ fn holds(range: Range, place: u16) -> bool
 }
 
 // Whether one of the ranges has the place.
-fn allows(profile: [Range; 8], place: u16) -> bool
-    ensures { result ≡ allows profile place }
+fn allows(profile: &[Range], place: u16) -> bool
+    ensures { result ≡ allows profile.now place }
 {
-    let mut i = 0;
-    while i < 8 {
-        let range = profile[i];
-        if holds(range, place) {
-            return true;
-        }
-        i += 1;
-    }
-    false
+    profile.iter().any(|range| holds(*range, place))
 }
 
 // Judged where the write lands, after mapping. A write that is ignored or goes to a device stores nothing.
-fn is_barred(profile: [Range; 8], landing: Landing) -> bool
-    ensures { result ≡ barred_at profile landing }
+fn is_barred(profile: &[Range], landing: Landing) -> bool
+    ensures { result ≡ barred_at profile.now landing }
 {
     match landing {
         Landing::Stored(place) => !allows(profile, place),
-        Landing::Device => false,
-        Landing::Ignored => false,
+        Landing::Device | Landing::Ignored => false,
     }
 }
 
@@ -62,17 +53,8 @@ fn is_barred(profile: [Range; 8], landing: Landing) -> bool
 pub fn bars(settings: Settings, writes: Writes) -> bool
     ensures { result ≡ bars settings (listed writes) }
 {
-    let ram_top = settings.ram_top;
-    let profile = settings.profile;
-    let count = writes.count;
-    let list = writes.list;
-    let mut i = 0;
-    while i < 12 && i < count {
-        let one = list[i];
-        if is_barred(profile, memory::lands(one.at, ram_top, one.system)) {
-            return true;
-        }
-        i += 1;
-    }
-    false
+    writes.as_slice().iter().any(|one| {
+        let landing = memory::lands(one.at, settings.ram_top, one.system);
+        is_barred(&settings.profile, landing)
+    })
 }

@@ -8,7 +8,7 @@ ghost use Rattle.std.specs.Prelude.{◌≡◌};
 ghost use Rattle.machine.specs.Machine.{fresh, with_registers, marked, settings_of, settings_with};
 ghost use Rattle.machine.specs.Effect.{changes, stores, refuses};
 
-use answers::{Answer, Refusal};
+use answers::Refusal;
 pub use fence::{Range, bars};
 use memory::Writes;
 pub use record::{
@@ -18,14 +18,14 @@ pub use record::{
 use registers::{Flags, Set};
 
 // Running, or waiting for an interrupt.
-#[derive(Clone, Copy)]
+#[derive(Clone, Copy, PartialEq, Eq)]
 pub enum Wait {
     Running,
     Cwai,
     Sync,
 }
 
-#[derive(Clone, Copy)]
+#[derive(Clone, Copy, PartialEq, Eq)]
 pub struct Machine {
     pub cycles: u64,
     pub instructions: u64,
@@ -44,12 +44,13 @@ pub struct Settings {
 }
 
 // What an instruction does: the bytes to write, the registers and wait state after it, or its refusal.
+// The answer stands beside the registers: a refused instruction gives back those that it was given.
 #[derive(Clone, Copy)]
 pub struct Effect {
     pub writes: Writes,
     pub regs: Set,
     pub wait: Wait,
-    pub answer: Answer,
+    pub answer: Result<(), Refusal>,
 }
 
 impl Machine {
@@ -71,21 +72,14 @@ impl Machine {
     pub fn with_registers(self, regs: Set, wait: Wait) -> Machine
         ensures { result ≡ with_registers self regs wait }
     {
-        Machine {
-            cycles: self.cycles,
-            instructions: self.instructions,
-            regs,
-            wait,
-            armed: self.armed,
-        }
+        Machine { regs, wait, ..self }
     }
 
     // The mark alone changes.
-    pub fn marked(mut self, armed: bool) -> Machine
+    pub fn marked(self, armed: bool) -> Machine
         ensures { result ≡ marked self armed }
     {
-        self.armed = armed;
-        self
+        Machine { armed, ..self }
     }
 }
 
@@ -112,12 +106,7 @@ impl Effect {
     pub fn changes(regs: Set) -> Effect
         ensures { result ≡ changes regs }
     {
-        Effect {
-            writes: Writes::none(),
-            regs,
-            wait: Wait::Running,
-            answer: Answer::Done,
-        }
+        Effect::stores(regs, Writes::none())
     }
 
     pub fn stores(regs: Set, writes: Writes) -> Effect
@@ -127,7 +116,7 @@ impl Effect {
             writes,
             regs,
             wait: Wait::Running,
-            answer: Answer::Done,
+            answer: Ok(()),
         }
     }
 
@@ -135,10 +124,8 @@ impl Effect {
         ensures { result ≡ refuses regs refusal }
     {
         Effect {
-            writes: Writes::none(),
-            regs,
-            wait: Wait::Running,
-            answer: Answer::Refused(refusal),
+            answer: Err(refusal),
+            ..Effect::changes(regs)
         }
     }
 }

@@ -38,20 +38,17 @@ pub const INSTRUCTIONS: usize = CYCLES + COUNTER;
 // How many bytes the fields take.
 pub const HEADER: usize = INSTRUCTIONS + COUNTER;
 
+// Functions and no `From`: the names of this one and the next say that the bytes are the record's.
 pub fn wait_byte(wait: Wait) -> u8
     ensures { result ≡ wait_byte wait }
 {
-    match wait {
-        Wait::Running => 0,
-        Wait::Cwai => 1,
-        Wait::Sync => 2,
-    }
+    wait as u8
 }
 
 pub fn mark_byte(armed: bool) -> u8
     ensures { result ≡ mark_byte armed }
 {
-    if armed { 1 } else { 0 }
+    armed as u8
 }
 
 // The fields before the counters. The counters are apart from them, since the compiler stores an array of eight shifted bytes as one
@@ -59,65 +56,60 @@ pub fn mark_byte(armed: bool) -> u8
 pub fn front_of(machine: Machine) -> [u8; CYCLES]
     ensures { result ≡ front machine }
 {
-    let wait = machine.wait;
-    let w = wait_byte(wait);
-    let mark = mark_byte(machine.armed);
+    // Named, since all bytes but two are its own.
     let regs = machine.regs;
+    let x = regs.x.to_be_bytes();
+    let y = regs.y.to_be_bytes();
+    let u = regs.u.to_be_bytes();
+    let s = regs.s.to_be_bytes();
+    let pc = regs.pc.to_be_bytes();
     let cc = regs.cc.get_as_byte();
+    let wait = wait_byte(machine.wait);
+    let mark = mark_byte(machine.armed);
     [
-        regs.a,
-        regs.b,
-        (regs.x / 256) as u8,
-        (regs.x % 256) as u8,
-        (regs.y / 256) as u8,
-        (regs.y % 256) as u8,
-        (regs.u / 256) as u8,
-        (regs.u % 256) as u8,
-        (regs.s / 256) as u8,
-        (regs.s % 256) as u8,
-        (regs.pc / 256) as u8,
-        (regs.pc % 256) as u8,
-        regs.dp,
-        cc,
-        w,
-        mark,
+        regs.a, regs.b, x[0], x[1], y[0], y[1], u[0], u[1], s[0], s[1], pc[0], pc[1], regs.dp, cc,
+        wait, mark,
     ]
 }
 
+// A function for one call: its name and `counter_at` say what the eight bytes are in a record.
 pub fn counter_of(n: u64) -> [u8; COUNTER]
     ensures { result ≡ counter n }
 {
-    [
-        (n / 0x100_0000_0000_0000 % 256) as u8,
-        (n / 0x1_0000_0000_0000 % 256) as u8,
-        (n / 0x100_0000_0000 % 256) as u8,
-        (n / 0x1_0000_0000 % 256) as u8,
-        (n / 0x100_0000 % 256) as u8,
-        (n / 0x1_0000 % 256) as u8,
-        (n / 0x100 % 256) as u8,
-        (n % 256) as u8,
-    ]
+    n.to_be_bytes()
 }
 
 // A byte past the end reads as 0.
+// No `Option`: `number_at` of specs/Record gives each place a byte.
 fn byte_at(r: &[u8], at: usize) -> u8
     ensures { result ≡ get_or r.now at 0 }
 {
-    if at < r.len() { r[at] } else { 0 }
+    r.get(at).copied().unwrap_or(0)
 }
 
-// The number that n bytes stand for.
-fn number_at(r: &[u8], at: usize, n: usize) -> u64
-    requires { (at ≤ 0x100) × (n ≤ 8) }
-    ensures { (result ≡ number_at r.now at n) × (result < 256 ^ n) }
+fn word_at(r: &[u8], at: usize) -> u16
+    requires { at ≤ 0x100 }
+    ensures { result ≡ number_at r.now at 2 }
 {
-    let mut v: u64 = 0;
-    let mut i: usize = 0;
-    while i < n {
-        v = v * 256 + byte_at(r, at + i) as u64;
-        i += 1;
-    }
-    v
+    u16::from_be_bytes([byte_at(r, at), byte_at(r, at + 1)])
+}
+
+// The number that a counter's bytes stand for.
+// Eight calls and no `array::from_fn`: with it the proof did not close.
+fn number_at(r: &[u8], at: usize) -> u64
+    requires { at ≤ 0x100 }
+    ensures { result ≡ number_at r.now at (width Cycles) }
+{
+    u64::from_be_bytes([
+        byte_at(r, at),
+        byte_at(r, at + 1),
+        byte_at(r, at + 2),
+        byte_at(r, at + 3),
+        byte_at(r, at + 4),
+        byte_at(r, at + 5),
+        byte_at(r, at + 6),
+        byte_at(r, at + 7),
+    ])
 }
 
 // The number of a counter's bytes from a place on.
@@ -127,19 +119,18 @@ pub fn counter_at(r: &[u8], at: usize) -> u64
     if r.len() < at {
         return 0;
     }
-    number_at(&r[at..], 0, COUNTER)
+    number_at(&r[at..], 0)
 }
 
+// No `TryFrom`: `wait_of` and `mark_of` of specs/Record give each byte a meaning.
 fn wait_of(b: u8) -> Wait
     ensures { result ≡ wait_of b }
 {
-    if b == 0 {
-        return Wait::Running;
+    match b {
+        0 => Wait::Running,
+        1 => Wait::Cwai,
+        _ => Wait::Sync,
     }
-    if b == 1 {
-        return Wait::Cwai;
-    }
-    Wait::Sync
 }
 
 fn mark_of(b: u8) -> bool
@@ -152,23 +143,16 @@ fn mark_of(b: u8) -> bool
 fn registers_of(r: &[u8]) -> Set
     ensures { result ≡ registers_of r.now }
 {
-    let x = number_at(r, X, 2) as u16;
-    let y = number_at(r, Y, 2) as u16;
-    let u = number_at(r, U, 2) as u16;
-    let s = number_at(r, S, 2) as u16;
-    let pc = number_at(r, PC, 2) as u16;
     Set {
-        x,
-        y,
-        u,
-        s,
-        pc,
+        x: word_at(r, X),
+        y: word_at(r, Y),
+        u: word_at(r, U),
+        s: word_at(r, S),
+        pc: word_at(r, PC),
         a: byte_at(r, A),
         b: byte_at(r, B),
         dp: byte_at(r, DP),
-        cc: CCBits {
-            reg: byte_at(r, CC),
-        },
+        cc: CCBits::set_from_byte(byte_at(r, CC)),
     }
 }
 
@@ -176,14 +160,11 @@ fn registers_of(r: &[u8]) -> Set
 pub fn machine_of(r: &[u8]) -> Machine
     ensures { result ≡ machine_of r.now }
 {
-    let regs = registers_of(r);
-    let wait = wait_of(byte_at(r, WAIT));
-    let armed = mark_of(byte_at(r, ARMED));
     Machine {
-        cycles: number_at(r, CYCLES, COUNTER),
-        instructions: number_at(r, INSTRUCTIONS, COUNTER),
-        regs,
-        wait,
-        armed,
+        cycles: number_at(r, CYCLES),
+        instructions: number_at(r, INSTRUCTIONS),
+        regs: registers_of(r),
+        wait: wait_of(byte_at(r, WAIT)),
+        armed: mark_of(byte_at(r, ARMED)),
     }
 }

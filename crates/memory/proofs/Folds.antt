@@ -66,9 +66,9 @@ unfolding added
 added_more l w h = rw (lt-ltb (length l) 12 h, place-more l w h, length-append l (w ∷ []))
 
 -- a turn of the loop: the write at i, after the first i
-module _ (top : ℕ) (list : List Write) (i : ℕ) (none : Write) (full : length list ≡ 12) (h : i < 12) where
+module _ (top : ℕ) (list : List Write) (i : ℕ) (none : Write) (h : i < length list) where
   first : take (i + 1) list ≡ take i list ++ (get_or list i none ∷ [])
-  first = rw add-one (take-suc list i none (omega arith))
+  first = rw add-one (take-suc list i none h)
 
   abbrev lands-at : Landing
   lands-at = landing_of (get_or list i none).at top (get_or list i none).system
@@ -77,9 +77,9 @@ module _ (top : ℕ) (list : List Write) (i : ℕ) (none : Write) (full : length
       → put_at lands-at (get_or list i none).byte mem ≡ stored top (take (i + 1) list) mem₀
   turn-mem mem₀ mem e = rw (first, stored_more top (take i list) (get_or list i none) mem₀, e)
 
-  pub turn-device : (d : Writes) → d ≡ writes_of (reported top (take i list)) → device_at lands-at (get_or list i none) ≡ get_or list i none ∷ []
+  pub turn-device : (d : Writes) → length list ≤ 12 → d ≡ writes_of (reported top (take i list)) → device_at lands-at (get_or list i none) ≡ get_or list i none ∷ []
       → added d (get_or list i none) ≡ writes_of (reported top (take (i + 1) list))
-  turn-device d e y =
+  turn-device d few e y =
       let short : length (reported top (take i list)) < 12 =
       omega (arith, reported-length top (take i list), length-take-le i list (omega arith)) in
       rw (first, reported-more top (take i list) (get_or list i none), e, y) (added_more (reported top (take i list)) (get_or list i none) short)
@@ -130,14 +130,14 @@ read-put (Stored q) v mem at size e = rw (← e) (over-set mem q (place_of at) v
 read-put Device v mem at size e = refl
 read-put Ignored v mem at size e = refl
 
-module _ (top : ℕ) (list : List Write) (i : ℕ) (none : Write) (full : length list ≡ 12) (h : i < 12) where
+module _ (top : ℕ) (list : List Write) (i : ℕ) (none : Write) (h : i < length list) where
   pub turn-read : (mem : List ℕ) (at b r : ℕ) → b ≡ byte_at (stored top (take i list) mem) at
       → ((old : List ℕ) → length old ≡ length mem → b ≡ get_or old (place_of at) 0
       → r ≡ get_or (put_at (landing_of (get_or list i none).at top (get_or list i none).system) (get_or list i none).byte old) (place_of at) 0)
       → r ≡ byte_at (stored top (take (i + 1) list) mem) at
   unfolding byte_at
   turn-read mem at b r e f =
-      rw (first top list i none full h, stored_more top (take i list) (get_or list i none) mem)
+      rw (first top list i none h, stored_more top (take i list) (get_or list i none) mem)
       (f (stored top (take i list) mem) (length-stored top (take i list) mem) e)
 
 -- a byte read after a list of writes: each that lands on its place is over it

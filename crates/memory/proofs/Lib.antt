@@ -1,6 +1,5 @@
 pub mod Ranges
 pub mod Folds
-pub mod Calling
 pub mod Unique
 pub mod Places
 pub mod Twelve

@@ -1,7 +1,7 @@
 -- No second answer, and no second memory, fits a public function's contract.
 -- Assumes nothing.
 use Rattle.std.proofs.Common.{ℕ, List, sym, refl, ap, ◌∙◌}
-use Rattle.answers.proofs.Determined.{Determines}
+use Rattle.answers.proofs.Determined.{Determines, TellsOne}
 use Rattle.memory.proofs.AccessType
 use Rattle.memory.proofs.access
 use Rattle.memory.proofs.map
@@ -13,6 +13,9 @@ is-system κs a x y ws vs p q = (p ∙ sym q, refl)
 
 pub none : Determines 0 Writes.none.Kinds.ps Writes.none.Kinds.r Writes.none.Reads.Post
 none κs a x y ws vs p q = (p ∙ sym q, refl)
+
+pub as-slice : TellsOne 1 Writes.as_slice.Kinds.ps Writes.as_slice.Kinds.r (λ κs s. s.now) Writes.as_slice.Reads.Post
+as-slice κs a x y ws vs p q = (p.0 ∙ sym q.0, refl)
 
 pub add : Determines 0 Writes.add.Kinds.ps Writes.add.Kinds.r Writes.add.Reads.Post
 add κs a x y ws vs p q = (p ∙ sym q, refl)

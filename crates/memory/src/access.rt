@@ -3,8 +3,8 @@ ghost use Rattle.std.specs.Prelude.{◌≡◌};
 ghost use Rattle.memory.specs.Writes.{writes_of, value_writes};
 ghost use Rattle.memory.specs.Access.{byte, write_answer, wrote_of, memory_after};
 
-use crate::{AccessType, Write, Writes, Wrote, writes};
-use answers::{Answer, Refusal};
+use crate::{AccessType, Write, Writes, writes};
+use answers::Refusal;
 use u8oru16::u8u16;
 
 // The writes of one value: a byte, or a word's two.
@@ -18,37 +18,39 @@ fn value_writes(at: u16, value: u8u16, system: bool) -> Writes
 }
 
 // Whether a write is refused: by the memory's length alone.
-fn write_answer(length: usize) -> Answer
+fn write_answer(length: usize) -> Result<(), Refusal>
     ensures { result ≡ write_answer length }
 {
     if length == 65536 {
-        Answer::Done
+        Ok(())
     } else {
-        Answer::Refused(Refusal::MemoryLength)
+        Err(Refusal::MemoryLength)
     }
 }
 
-pub fn write_u8u16(mem: &mut [u8], ram_top: u16, atype: AccessType, at: u16, value: u8u16) -> Wrote
+// The device writes. A refused call writes nothing.
+pub fn write_u8u16(
+    mem: &mut [u8],
+    ram_top: u16,
+    atype: AccessType,
+    at: u16,
+    value: u8u16,
+) -> Result<Writes, Refusal>
     ensures { (result ≡ wrote_of ram_top atype at value mem.old) × (mem.new ≡ memory_after ram_top atype at value mem.old) }
 {
-    let answer = write_answer(mem.len());
-    match answer {
-        Answer::Done => {
-            let devices = writes::store_all(
-                mem,
-                ram_top,
-                value_writes(at, value, atype.is_system()),
-            );
-            Wrote { devices, answer }
-        }
-        Answer::Refused(_) => Wrote {
-            devices: Writes::none(),
-            answer,
-        },
-    }
+    write_answer(mem.len())?;
+    let listed = value_writes(at, value, atype.is_system());
+    Ok(writes::store_all(mem, ram_top, listed))
 }
 
-pub fn write_u8(mem: &mut [u8], ram_top: u16, atype: AccessType, at: u16, value: u8) -> Wrote
+// A name of memory.rs over the function above.
+pub fn write_u8(
+    mem: &mut [u8],
+    ram_top: u16,
+    atype: AccessType,
+    at: u16,
+    value: u8,
+) -> Result<Writes, Refusal>
     ensures { (result ≡ wrote_of ram_top atype at (byte value) mem.old) × (mem.new ≡ memory_after ram_top atype at (byte value) mem.old) }
 {
     write_u8u16(mem, ram_top, atype, at, u8u16::u8(value))

@@ -6,11 +6,10 @@ mod map;
 mod writes;
 
 pub use access::{write_u8, write_u8u16};
-use answers::Answer;
 pub use map::{lands, place, read_u8, read_u8u16, read_u16};
 pub use writes::{Write, Writes, read_u8_after, read_u16_after, store_all};
 
-#[derive(Clone, Copy)]
+#[derive(Clone, Copy, PartialEq, Eq)]
 pub enum AccessType {
     Program,
     UserStack,
@@ -20,16 +19,9 @@ pub enum AccessType {
 }
 
 // What becomes of a write.
-#[derive(Clone, Copy)]
+#[derive(Clone, Copy, PartialEq, Eq)]
 pub enum Landing {
     Stored(u16),
     Device,
     Ignored,
-}
-
-// The device writes that a call reports, and its answer.
-#[derive(Clone, Copy)]
-pub struct Wrote {
-    pub devices: Writes,
-    pub answer: Answer,
 }

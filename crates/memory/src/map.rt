@@ -1,5 +1,5 @@
 // The map: where a byte lies, what a read gives, what becomes of a write.
-ghost use Rattle.std.specs.Prelude.{◌≡◌, ◌+◌, ◌*◌};
+ghost use Rattle.std.specs.Prelude.{◌≡◌};
 ghost use Rattle.memory.specs.Map.{is_system, place_of, byte_at, word_at, value_at, landing_of};
 
 use crate::{AccessType, Landing};
@@ -10,13 +10,7 @@ impl AccessType {
     pub fn is_system(self) -> bool
         ensures { result ≡ is_system self }
     {
-        match self {
-            AccessType::Program => false,
-            AccessType::UserStack => false,
-            AccessType::SystemStack => false,
-            AccessType::Generic => false,
-            AccessType::System => true,
-        }
+        self == AccessType::System
     }
 }
 
@@ -31,26 +25,19 @@ pub fn place(at: u16) -> u16
 }
 
 // A place past a short memory reads as 0.
+// No `Option`: `byte_at` of specs/Map gives each address a byte.
 pub fn read_u8(mem: &[u8], at: u16) -> u8
     ensures { result ≡ byte_at mem.now at }
 {
-    let p = place(at) as usize;
-    if p < mem.len() { mem[p] } else { 0 }
-}
-
-pub fn word_of(high: u8, low: u8) -> u16
-    ensures { result ≡ 256 * high + low }
-{
-    256 * high as u16 + low as u16
+    mem.get(place(at) as usize).copied().unwrap_or(0)
 }
 
 // High byte first. The low byte of a word at FFFF is at 0000, where the Rust panics.
+// The names are of memory.rs; a word is two reads of a byte, since its bytes may lie apart.
 pub fn read_u16(mem: &[u8], at: u16) -> u16
     ensures { result ≡ word_at mem.now at }
 {
-    let high = read_u8(mem, at);
-    let low = read_u8(mem, std::num::wrapping_add_u16(at, 1));
-    word_of(high, low)
+    u16::from_be_bytes([read_u8(mem, at), read_u8(mem, at.wrapping_add(1))])
 }
 
 pub fn read_u8u16(mem: &[u8], at: u16, wide: bool) -> u8u16

@@ -36,6 +36,7 @@ fn report_buffer() -> [u8; REPORT]
 }
 
 // Writes text and report, and returns their lengths, which are at most those of the buffers (`mend-fits`).
+// Each program has such a function: it makes of its own call's promise the bound by which `main` slices.
 fn mend_into(input: &[u8], out: &mut [u8], report: &mut [u8]) -> Printed
     ensures { (result.text ≤ length out.old) × (result.report ≤ 50 * 0x8000 + 17) }
 {

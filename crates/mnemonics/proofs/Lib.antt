@@ -1,3 +1,2 @@
-pub mod Stems
 pub mod Laws
 pub mod Unique

@@ -1,185 +1,130 @@
-// A mnemonic, and the letters of its parts.
-ghost use Rattle.std.specs.Prelude.{◌≡◌, [], ◌∷◌};
+// The letters of the operations that have a part of their own, each text whole.
+ghost use Rattle.std.specs.Prelude.{◌≡◌};
 ghost use Rattle.registers.specs.ConditionCodes.{ascii};
-ghost use Rattle.mnemonics.specs.Mnemonics.{mnemonic_with, lettered, in_letters, stem_with, branching, acc_letter, word_letter, alu_text, unary_text, cond_text, software_text};
+ghost use Rattle.mnemonics.specs.Mnemonics.{stem_with, branching, acc_letter, word_letter, alu_text, unary_text, cond_text, software_text};
 
 use opcodes::{Acc, Alu, Cond, Software, Unary};
-use registers::Word;
 
-// A mnemonic, of which the first `len` bytes count.
-#[derive(Clone, Copy)]
-pub struct Mnemonic {
-    pub bytes: [u8; 5],
-    pub len: usize,
+// A stem, and the letter of an accumulator.
+// Macros, since `concat!` takes literals alone: text put together at run time needs a buffer and a length, or a heap.
+macro_rules! with_acc {
+    ($stem:literal, $acc:expr) => {
+        match $acc {
+            Acc::A => concat!($stem, "A"),
+            Acc::B => concat!($stem, "B"),
+        }
+    };
 }
 
-fn with(bytes: [u8; 5], len: usize) -> Mnemonic
-    ensures { result ≡ mnemonic_with bytes len }
-{
-    Mnemonic { bytes, len }
+// A stem, and the letter of a register of 16 bits.
+macro_rules! with_word {
+    ($stem:literal, $word:expr) => {
+        match $word {
+            Word::D => concat!($stem, "D"),
+            Word::X => concat!($stem, "X"),
+            Word::Y => concat!($stem, "Y"),
+            Word::U => concat!($stem, "U"),
+            Word::S => concat!($stem, "S"),
+        }
+    };
 }
 
-// Letters go one by one: a byte string is stored where its function starts, and the proof of each place then carries it along.
-pub fn three(a: u8, b: u8, c: u8) -> Mnemonic
-    ensures { result ≡ lettered (a ∷ b ∷ c ∷ []) }
-{
-    with([a, b, c, 0, 0], 3)
+// LB and a condition, or B and the condition.
+macro_rules! branch {
+    ($to:literal, $long:expr) => {
+        if $long {
+            concat!("LB", $to)
+        } else {
+            concat!("B", $to)
+        }
+    };
 }
 
-pub fn four(a: u8, b: u8, c: u8, d: u8) -> Mnemonic
-    ensures { result ≡ lettered (a ∷ b ∷ c ∷ d ∷ []) }
-{
-    with([a, b, c, d, 0], 4)
-}
+pub(crate) use branch;
+pub(crate) use with_acc;
+pub(crate) use with_word;
 
-pub fn five(a: u8, b: u8, c: u8, d: u8, e: u8) -> Mnemonic
-    ensures { result ≡ lettered (a ∷ b ∷ c ∷ d ∷ e ∷ []) }
-{
-    with([a, b, c, d, e], 5)
-}
-
-fn acc_letter(acc: Acc) -> u8
-    ensures { result ≡ acc_letter acc }
-{
-    match acc {
-        Acc::A => b'A',
-        Acc::B => b'B',
-    }
-}
-
-fn word_letter(word: Word) -> u8
-    ensures { result ≡ word_letter word }
-{
-    let text = word.name().to_str();
-    let bytes = text.bytes;
-    bytes[0]
-}
-
-// A stem of two letters or of three, and an accumulator or a register of 16 bits.
-pub fn two_and_acc(a: u8, b: u8, acc: Acc) -> Mnemonic
-    ensures { result ≡ lettered (a ∷ b ∷ acc_letter acc ∷ []) }
-{
-    three(a, b, acc_letter(acc))
-}
-
-pub fn three_and_acc(a: u8, b: u8, c: u8, acc: Acc) -> Mnemonic
-    ensures { result ≡ lettered (a ∷ b ∷ c ∷ acc_letter acc ∷ []) }
-{
-    four(a, b, c, acc_letter(acc))
-}
-
-pub fn two_and_word(a: u8, b: u8, word: Word) -> Mnemonic
-    ensures { result ≡ lettered (a ∷ b ∷ word_letter word ∷ []) }
-{
-    three(a, b, word_letter(word))
-}
-
-pub fn three_and_word(a: u8, b: u8, c: u8, word: Word) -> Mnemonic
-    ensures { result ≡ lettered (a ∷ b ∷ c ∷ word_letter word ∷ []) }
-{
-    four(a, b, c, word_letter(word))
-}
-
-pub fn of_alu(alu: Alu, acc: Acc) -> Mnemonic
-    ensures { result ≡ stem_with (alu_text alu) (acc_letter acc) }
+pub fn of_alu(alu: Alu, acc: Acc) -> &'static str
+    ensures { result.now ≡ stem_with (alu_text alu) (acc_letter acc) }
 {
     match alu {
-        Alu::Add => three_and_acc(b'A', b'D', b'D', acc),
-        Alu::Adc => three_and_acc(b'A', b'D', b'C', acc),
-        Alu::Sub => three_and_acc(b'S', b'U', b'B', acc),
-        Alu::Sbc => three_and_acc(b'S', b'B', b'C', acc),
-        Alu::Cmp => three_and_acc(b'C', b'M', b'P', acc),
-        Alu::And => three_and_acc(b'A', b'N', b'D', acc),
-        Alu::Bit => three_and_acc(b'B', b'I', b'T', acc),
-        Alu::Or => two_and_acc(b'O', b'R', acc),
-        Alu::Eor => three_and_acc(b'E', b'O', b'R', acc),
-        Alu::Ld => two_and_acc(b'L', b'D', acc),
+        Alu::Add => with_acc!("ADD", acc),
+        Alu::Adc => with_acc!("ADC", acc),
+        Alu::Sub => with_acc!("SUB", acc),
+        Alu::Sbc => with_acc!("SBC", acc),
+        Alu::Cmp => with_acc!("CMP", acc),
+        Alu::And => with_acc!("AND", acc),
+        Alu::Bit => with_acc!("BIT", acc),
+        Alu::Or => with_acc!("OR", acc),
+        Alu::Eor => with_acc!("EOR", acc),
+        Alu::Ld => with_acc!("LD", acc),
     }
 }
 
-fn unary_stem(unary: Unary) -> [u8; 3]
-    ensures { result ≡ ascii (unary_text unary) }
+pub fn on_acc(unary: Unary, acc: Acc) -> &'static str
+    ensures { result.now ≡ stem_with (unary_text unary) (acc_letter acc) }
 {
     match unary {
-        Unary::Neg => [b'N', b'E', b'G'],
-        Unary::Com => [b'C', b'O', b'M'],
-        Unary::Lsr => [b'L', b'S', b'R'],
-        Unary::Ror => [b'R', b'O', b'R'],
-        Unary::Asr => [b'A', b'S', b'R'],
-        Unary::Asl => [b'A', b'S', b'L'],
-        Unary::Rol => [b'R', b'O', b'L'],
-        Unary::Dec => [b'D', b'E', b'C'],
-        Unary::Inc => [b'I', b'N', b'C'],
-        Unary::Clr => [b'C', b'L', b'R'],
+        Unary::Neg => with_acc!("NEG", acc),
+        Unary::Com => with_acc!("COM", acc),
+        Unary::Lsr => with_acc!("LSR", acc),
+        Unary::Ror => with_acc!("ROR", acc),
+        Unary::Asr => with_acc!("ASR", acc),
+        Unary::Asl => with_acc!("ASL", acc),
+        Unary::Rol => with_acc!("ROL", acc),
+        Unary::Dec => with_acc!("DEC", acc),
+        Unary::Inc => with_acc!("INC", acc),
+        Unary::Clr => with_acc!("CLR", acc),
     }
 }
 
-pub fn on_acc(unary: Unary, acc: Acc) -> Mnemonic
-    ensures { result ≡ stem_with (unary_text unary) (acc_letter acc) }
+// The stems of `on_acc` once more: a text cannot be cut out of one with its accumulator and stay as plain.
+pub fn on_memory(unary: Unary) -> &'static str
+    ensures { result.now ≡ ascii (unary_text unary) }
 {
-    let stem = unary_stem(unary);
-    three_and_acc(stem[0], stem[1], stem[2], acc)
+    match unary {
+        Unary::Neg => "NEG",
+        Unary::Com => "COM",
+        Unary::Lsr => "LSR",
+        Unary::Ror => "ROR",
+        Unary::Asr => "ASR",
+        Unary::Asl => "ASL",
+        Unary::Rol => "ROL",
+        Unary::Dec => "DEC",
+        Unary::Inc => "INC",
+        Unary::Clr => "CLR",
+    }
 }
 
-pub fn on_memory(unary: Unary) -> Mnemonic
-    ensures { result ≡ in_letters (unary_text unary) }
-{
-    let stem = unary_stem(unary);
-    three(stem[0], stem[1], stem[2])
-}
-
-fn cond_letters(cond: Cond) -> [u8; 2]
-    ensures { result ≡ ascii (cond_text cond) }
+pub fn of_branch(cond: Cond, long: bool) -> &'static str
+    ensures { result.now ≡ branching long (ascii (cond_text cond)) }
 {
     match cond {
-        Cond::Ra => [b'R', b'A'],
-        Cond::Rn => [b'R', b'N'],
-        Cond::Hi => [b'H', b'I'],
-        Cond::Ls => [b'L', b'S'],
-        Cond::Cc => [b'C', b'C'],
-        Cond::Cs => [b'C', b'S'],
-        Cond::Ne => [b'N', b'E'],
-        Cond::Eq => [b'E', b'Q'],
-        Cond::Vc => [b'V', b'C'],
-        Cond::Vs => [b'V', b'S'],
-        Cond::Pl => [b'P', b'L'],
-        Cond::Mi => [b'M', b'I'],
-        Cond::Ge => [b'G', b'E'],
-        Cond::Lt => [b'L', b'T'],
-        Cond::Gt => [b'G', b'T'],
-        Cond::Le => [b'L', b'E'],
+        Cond::Ra => branch!("RA", long),
+        Cond::Rn => branch!("RN", long),
+        Cond::Hi => branch!("HI", long),
+        Cond::Ls => branch!("LS", long),
+        Cond::Cc => branch!("CC", long),
+        Cond::Cs => branch!("CS", long),
+        Cond::Ne => branch!("NE", long),
+        Cond::Eq => branch!("EQ", long),
+        Cond::Vc => branch!("VC", long),
+        Cond::Vs => branch!("VS", long),
+        Cond::Pl => branch!("PL", long),
+        Cond::Mi => branch!("MI", long),
+        Cond::Ge => branch!("GE", long),
+        Cond::Lt => branch!("LT", long),
+        Cond::Gt => branch!("GT", long),
+        Cond::Le => branch!("LE", long),
     }
 }
 
-fn branch_to(a: u8, b: u8, long: bool) -> Mnemonic
-    ensures { result ≡ branching long (a ∷ b ∷ []) }
-{
-    if long {
-        four(b'L', b'B', a, b)
-    } else {
-        three(b'B', a, b)
-    }
-}
-
-pub fn of_branch(cond: Cond, long: bool) -> Mnemonic
-    ensures { result ≡ branching long (ascii (cond_text cond)) }
-{
-    let letters = cond_letters(cond);
-    branch_to(letters[0], letters[1], long)
-}
-
-pub fn of_subroutine(long: bool) -> Mnemonic
-    ensures { result ≡ branching long (ascii "SR") }
-{
-    branch_to(b'S', b'R', long)
-}
-
-pub fn of_software(software: Software) -> Mnemonic
-    ensures { result ≡ in_letters (software_text software) }
+pub fn of_software(software: Software) -> &'static str
+    ensures { result.now ≡ ascii (software_text software) }
 {
     match software {
-        Software::Swi => three(b'S', b'W', b'I'),
-        Software::Swi2 => four(b'S', b'W', b'I', b'2'),
-        Software::Swi3 => four(b'S', b'W', b'I', b'3'),
+        Software::Swi => "SWI",
+        Software::Swi2 => "SWI2",
+        Software::Swi3 => "SWI3",
     }
 }

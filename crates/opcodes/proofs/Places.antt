@@ -1,5 +1,6 @@
 -- Each place of the opcode map is as the manual's rows have it.
 -- Assumes nothing.
+use Rattle.std.specs.Prelude.{None, Option, Some}
 use Prim.Native.Nat.{ℕ, ◌+◌}
 use mathlib.Core.Path.{◌≡◌, refl, sym}
 use mathlib.Core.Bool.{Bool, true, false, cond, true≢false}
@@ -9,24 +10,22 @@ use lib.Dec.{eqb, ltb}
 use Rattle.opcodes.specs.Manual.{Row, Column, rows, among_columns, among_rows, prefix, entry_of}
 use Rattle.opcodes.specs.Places.{entry_said, in_row, named, Stands, documented, undocumented, EachPlace}
 use Rattle.opcodes.specs.declared.Entry.{Entry}
-use Rattle.opcodes.specs.declared.Place.{Place}
-use Rattle.opcodes.specs.declared.Place.TheVariants.{Instruction, None}
 use Rattle.opcodes.specs.declared.Page.{Page}
 use Rattle.opcodes.specs.declared.Page.TheVariants.{Plain, Ten, Eleven}
 use Rattle.opcodes.specs.Rows.{values}
 use Rattle.opcodes.proofs.Rows.{alike}
 
 -- the first of what the rows say, none where they say nothing
-first : List Entry → Place
+first : List Entry → Option Entry
 first [] = None
-first (e ∷ es) = Instruction e
+first (e ∷ es) = Some e
 
-pick : (b : Bool) (e : Entry) (x : Place) (l m : List Entry) → x ≡ first (l ++ m) → cond b (Instruction e) x ≡ first (cond b (e ∷ l) l ++ m)
+pick : (b : Bool) (e : Entry) (x : Option Entry) (l m : List Entry) → x ≡ first (l ++ m) → cond b (Some e) x ≡ first (cond b (e ∷ l) l ++ m)
 unfolding first
 pick true e x l m h = refl
 pick false e x l m h = h
 
-of-columns : (n : ℕ) (r : Row) (cs : List Column) (x : Place) (m : List Entry) → x ≡ first m → among_columns n r.operation cs x ≡ first (in_row n r cs ++ m)
+of-columns : (n : ℕ) (r : Row) (cs : List Column) (x : Option Entry) (m : List Entry) → x ≡ first m → among_columns n r.operation cs x ≡ first (in_row n r cs ++ m)
 unfolding in_row
 of-columns n r [] x m h = h
 of-columns n r (c ∷ cs) x m h =

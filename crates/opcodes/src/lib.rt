@@ -142,13 +142,6 @@ pub struct Entry {
     pub cycles: u8,
 }
 
-// A place of the table: an instruction of the manual, or none.
-#[derive(Clone, Copy)]
-pub enum Place {
-    Instruction(Entry),
-    None,
-}
-
 #[derive(Clone, Copy)]
 pub enum Page {
     Plain,

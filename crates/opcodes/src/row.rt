@@ -1,12 +1,11 @@
 // A row of the opcode table: the sixteen places of a high digit.
 ghost use Rattle.std.specs.Prelude.{◌≡◌, ◌%◌, get_or};
-ghost use Rattle.opcodes.specs.declared.Place.TheVariants.{None};
 
-use super::Place;
+use super::Entry;
 
 // The place of a byte's low digit in a row. A match and not an index: with constant indices the compiler keeps the rows as constants,
 // and no row is built at run time.
-pub fn at_digit(row: [Place; 16], code: u8) -> Place
+pub fn at_digit(row: [Option<Entry>; 16], code: u8) -> Option<Entry>
     ensures { result ≡ get_or row (code % 16) None }
 {
     match code % 16 {

@@ -1,15 +1,14 @@
 -- The two settings part in an operation in V alone, exactly where the law of the arithmetic says.
 -- Assumes nothing.
-use Rattle.std.proofs.Common.{◌≡◌, ℕ, ◌<◌, ◌≢◌, ◌↔◌, refl, ap, arith}
+use Rattle.std.proofs.Common.{◌≡◌, ℕ, ◌<◌, ◌≢◌, ◌↔◌, refl, ap, arith, Err, Ok, Result}
 use Rattle.registers.specs.ConditionCodes.{flag}
-use Rattle.registers.specs.Arithmetic.{Operation, ADD, ADC, SUB, SBC, DEC, INC, top, out8, manual}
+use Rattle.registers.specs.Arithmetic.{Operation, ADD, ADC, SUB, SBC, DEC, INC, top, of_page, manual}
 use Rattle.registers.specs.Bought.{bought}
 use Rattle.registers.specs.Settings.{Parts}
 use Rattle.registers.specs.declared.CCBit.{CCBit}
 use Rattle.registers.specs.declared.CCBit.TheVariants.{«V»}
 use Rattle.registers.specs.declared.CCBits.{CCBits}
 use Rattle.registers.specs.declared.Flags.TheVariants.{Bought, Manual}
-use Rattle.registers.specs.declared.Out8.{Out8}
 use Rattle.registers.specs.declared.Set.{Set}
 use Rattle.registers.proofs.Parting.{settings-part}
 use Rattle.memory.specs.Map.{byte_at}
@@ -23,8 +22,8 @@ use Rattle.opcodes.specs.declared.Unary.{Unary}
 use Rattle.opcodes.specs.declared.Unary.TheVariants.{Neg, Com, Lsr, Ror, Asr, Asl, Rol, Dec, Inc, Clr}
 use Rattle.operations.specs.EightBit.{accumulator, with_accumulator, alu_of, unary_of, one_write, on_memory}
 use Rattle.operations.specs.Parting.{PartInV, ChangedPart, both-after, both-refused, EffectsPart, AluParts, adc, sbc, UnaryParts, dec, inc, OpParts, with-operand, on-accumulator, ChangesPart, OnMemoryParts}
-use Rattle.operations.specs.declared.Changed.{Changed}
-use Rattle.operations.specs.declared.Changed.TheVariants.{After, Refused}
+use Rattle.answers.specs.declared.Refusal.{Refusal}
+use Rattle.registers.specs.declared.Out.{Out}
 
 -- ---- what is the same in both settings
 
@@ -50,23 +49,23 @@ same-effects p n = record {
   registers = same-registers (ap (λ (g : Effect). g.regs) p) n;
 }
 
-same : {Case : Type 0} (c : Changed) → (Case → ⊥) → ChangedPart Case c c
-same (After r) n = both-after (same-registers refl n)
-same (Refused x) n = both-refused n
+same : {Case : Type 0} (c : Result Set Refusal) → (Case → ⊥) → ChangedPart Case c c
+same (Ok r) n = both-after (same-registers refl n)
+same (Err x) n = both-refused n
 
 -- ---- bytes and their condition codes
 
-record OutsPart (o p : Out8) (Case : Type 0) : Type 0 where
+record OutsPart (o p : Out ℕ) (Case : Type 0) : Type 0 where
   value : o.value ≡ p.value
   others : (g : CCBit) → g ≢ «V» → flag g o.cc ≡ flag g p.cc
   exactly : (flag «V» o.cc ≢ flag «V» p.cc) ↔ Case
 
-same_out : {Case : Type 0} (o : Out8) → (Case → ⊥) → OutsPart o o Case
+same_out : {Case : Type 0} (o : Out ℕ) → (Case → ⊥) → OutsPart o o Case
 same_out o n = record { value = refl; others = λ h d. refl; exactly = (λ d. absurd (d refl), λ k. absurd (n k)) }
 
 module _ (cc : CCBits) (a m : ℕ) where
   -- the pages of an operation, where the case is named otherwise
-  pages : (o : Operation) {Case : Type 0} → a < top o → m < top o → (Parts cc a m o → Case) → (Case → Parts cc a m o) → OutsPart (out8 cc (bought o cc a m)) (out8 cc (manual o cc a m)) Case
+  pages : (o : Operation) {Case : Type 0} → a < top o → m < top o → (Parts cc a m o → Case) → (Case → Parts cc a m o) → OutsPart (of_page cc (bought o cc a m)) (of_page cc (manual o cc a m)) Case
   pages o la lm f g =
       let d = settings-part o cc a m la lm in
       record { value = d.value; others = d.others; exactly = (λ h. f (d.exactly.0 h), λ k. d.exactly.1 (g k)) }
@@ -110,7 +109,7 @@ module _ (cc : CCBits) (m : ℕ) where
 
 -- ---- operations
 
-module _ (r : Set) (o p : Out8) {Case Named : Type 0} (d : OutsPart o p Case) (f : Case → Named) (g : Named → Case) where
+module _ (r : Set) (o p : Out ℕ) {Case Named : Type 0} (d : OutsPart o p Case) (f : Case → Named) (g : Named → Case) where
   in-accumulator : (acc : Acc) → PartInV (with_accumulator acc o r) (with_accumulator acc p r) Named
   in-accumulator A = record { a = d.value; b = refl; dp = refl; x = refl; y = refl; u = refl; s = refl; pc = refl; others = d.others; exactly = (λ h. f (d.exactly.0 h), λ k. d.exactly.1 (g k)) }
   in-accumulator B = record { a = refl; b = d.value; dp = refl; x = refl; y = refl; u = refl; s = refl; pc = refl; others = d.others; exactly = (λ h. f (d.exactly.0 h), λ k. d.exactly.1 (g k)) }

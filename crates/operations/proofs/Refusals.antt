@@ -1,15 +1,14 @@
 -- An operation on registers is refused with 7 exactly where it is said, and else done.
 -- Assumes nothing.
-use Rattle.std.proofs.Common.{◌≡◌, Bool, true, false, cond, not, refl}
+use Rattle.std.proofs.Common.{◌≡◌, Bool, true, false, cond, not, refl, Err, Ok}
 use Rattle.answers.specs.declared.Refusal.TheVariants.{TransferCode}
 use Rattle.registers.specs.declared.Set.{Set}
 use Rattle.memory.specs.Map.{byte_at}
 use Rattle.opcodes.specs.declared.RegisterOp.TheVariants.{Alu, OnAcc, TestAcc, TestMemory, Addd, Subd, Load16, Cmp16, Lea, Branch, Jmp, Nop, Daa, Sex, Mul, Abx, Andcc, Orcc, Exg, Tfr}
 use Rattle.operations.specs.Refusals.{number_of_changed, ChangeRefusesExactly}
 use Rattle.operations.specs.Transfers.{transferable, transfer, exchange}
-use Rattle.operations.specs.declared.Changed.TheVariants.{After, Refused}
 
-of_test : (b : Bool) (q : Set) → number_of_changed (cond b (After q) (Refused TransferCode)) ≡ cond (not b) 7 0
+of_test : (b : Bool) (q : Set) → number_of_changed (cond b (Ok q) (Err TransferCode)) ≡ cond (not b) 7 0
 of_test true q = refl
 of_test false q = refl
 

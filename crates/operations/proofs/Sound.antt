@@ -1,7 +1,6 @@
 -- Effects that change registers, store, or refuse are sound; so are the operations that store a byte or a word.
 -- Assumes nothing.
-use Rattle.std.proofs.Common.{◌≡◌, ℕ, Bool, true, false, cond, List, [], sym, refl, ap, ◌∙◌, arith}
-use Rattle.answers.specs.declared.Answer.TheVariants.{Done, Refused}
+use Rattle.std.proofs.Common.{◌≡◌, ℕ, Bool, true, false, cond, List, [], sym, refl, ap, ◌∙◌, arith, Err, Ok}
 use Rattle.answers.specs.declared.Refusal.{Refusal}
 use Rattle.registers.specs.Fits.{Fits}
 use Rattle.registers.specs.Arithmetic.{logical}
@@ -27,11 +26,11 @@ use Rattle.operations.specs.Words.{store16}
 use Rattle.operations.proofs.Widths.{word_in, acc-fits, codes-fits, page-fits, OutFits, unary-out}
 
 module _ {P : Type 0} (r : Set) where
-  pub done-sound : {w : Wait} (e : Effect) → e.answer ≡ Done → e.wait ≡ w → Full e.writes → (P → Fits e.regs) → (P → AllFit e.writes.list) → Sound P r w e
+  pub done-sound : {w : Wait} (e : Effect) → e.answer ≡ (Ok tt) → e.wait ≡ w → Full e.writes → (P → Fits e.regs) → (P → AllFit e.writes.list) → Sound P r w e
   done-sound e d v f h k = record {
     few = f.places;
     waits = λ a. v;
-    refused = λ x n. let t : Refused x ≡ Done = sym n ∙ d in let z : ◌≡◌ {A = ℕ} 0 1 = cc in absurd (omega arith);
+    refused = λ x n. let t : Err x ≡ (Ok tt) = sym n ∙ d in let z : ◌≡◌ {A = ℕ} 0 1 = cc in absurd (omega arith);
     registers = h;
     widths = k;
   }

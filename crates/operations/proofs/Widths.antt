@@ -1,6 +1,6 @@
 -- Registers that fit their widths fit them after every operation that changes registers alone.
 -- Assumes nothing.
-use Rattle.std.proofs.Common.{ℕ, ◌+◌, ◌/◌, ◌%◌, ◌<◌, Bool, true, false, cond, eqb, ltb, List, [], ◌∷◌, mod-lt, arith, lit<}
+use Rattle.std.proofs.Common.{ℕ, ◌+◌, ◌/◌, ◌%◌, ◌<◌, Bool, true, false, cond, eqb, ltb, List, [], ◌∷◌, mod-lt, arith, lit<, Err, Ok}
 use lib.Bits.{and_lt, or_lt}
 use Rattle.answers.specs.declared.Refusal.{Refusal}
 use Rattle.answers.specs.declared.Refusal.TheVariants.{TransferCode}
@@ -9,7 +9,7 @@ use Rattle.u8oru16.specs.Value.{value_of}
 use Rattle.u8oru16.specs.declared.u8u16.{u8u16}
 use Rattle.u8oru16.specs.declared.u8u16.TheVariants.{u8, u16}
 use Rattle.registers.specs.Fits.{Fits, InWidth}
-use Rattle.registers.specs.Arithmetic.{manual, logical, Operation, ADD, ADC, ADDD, SUB, SBC, SUBD, DEC, INC, AND, OR, EOR, COM, NEG, ASL, LSR, ASR, ROL, ROR, MUL, Line, ◌:=◌, Page, out8, codes}
+use Rattle.registers.specs.Arithmetic.{manual, logical, Operation, ADD, ADC, ADDD, SUB, SBC, SUBD, DEC, INC, AND, OR, EOR, COM, NEG, ASL, LSR, ASR, ROL, ROR, MUL, Line, ◌:=◌, Page, of_page, codes}
 use Rattle.registers.specs.Names.{word_name}
 use Rattle.registers.specs.RegisterSet.{read, word_of, with_word}
 use Rattle.registers.specs.Settings.{by}
@@ -20,7 +20,6 @@ use Rattle.registers.specs.declared.Flags.TheVariants.{Manual}
 use Rattle.registers.specs.declared.Index.{Index}
 use Rattle.registers.specs.declared.Index.TheVariants.{X as LEAX, Y as LEAY, U as LEAU, S as LEAS}
 use Rattle.registers.specs.declared.Name.TheVariants.{PC}
-use Rattle.registers.specs.declared.Out8.{Out8}
 use Rattle.registers.specs.declared.Set.{Set}
 use Rattle.registers.specs.declared.Word.{Word}
 use Rattle.registers.specs.declared.Word.TheVariants.{D, X, Y, U, S}
@@ -41,7 +40,7 @@ use Rattle.operations.specs.Inherent.{corrected, daa_flags, sex_flags}
 use Rattle.operations.specs.Sound.{Given, ChangedFits, ChangesFit}
 use Rattle.operations.specs.Transfers.{transferable, transfer_name, transfer, exchange}
 use Rattle.operations.specs.Words.{load16, compare16, add_d, subtract_d, load_address, with_zero}
-use Rattle.operations.specs.declared.Changed.TheVariants.{After, Refused}
+use Rattle.registers.specs.declared.Out.{Out}
 
 value_in : (v : u8u16) → InWidth v → value_of v < 65536
 value_in (u8 b) h = omega arith
@@ -76,12 +75,12 @@ module _ (r : Set) (f : Fits r) where
 
 -- ---- results of bytes
 
-pub record OutFits (o : Out8) : Type 0 where
+pub record OutFits (o : Out ℕ) : Type 0 where
   pub value : o.value < 256
   pub codes : o.cc.reg < 256
 
 module _ (s : Flags) (cc : CCBits) (h : cc.reg < 256) (a : ℕ) (la : a < 256) where
-  page-out : (p : Page) → p.value < 256 → OutFits (out8 cc p)
+  page-out : (p : Page) → p.value < 256 → OutFits (of_page cc p)
   page-out p l = record { value = l; codes = codes-fit cc p.flags h }
 
   -- a page whose result is not kept
@@ -100,7 +99,7 @@ module _ (s : Flags) (cc : CCBits) (h : cc.reg < 256) (a : ℕ) (la : a < 256) w
   alu-out Eor m lm = page-out (manual EOR cc a m) (result_fits Manual EOR cc a m la lm)
   alu-out Ld m lm = page-out (logical 0x80 m) lm
 
-  alone : (o : Operation) → (by Manual o cc a 0).value < 256 → OutFits (out8 cc (manual o cc a 0))
+  alone : (o : Operation) → (by Manual o cc a 0).value < 256 → OutFits (of_page cc (manual o cc a 0))
   alone o l = page-out (manual o cc a 0) l
 
   pub unary-out : (op : Unary) → OutFits (unary_of op s cc a)
@@ -115,7 +114,7 @@ module _ (s : Flags) (cc : CCBits) (h : cc.reg < 256) (a : ℕ) (la : a < 256) w
   unary-out Inc = page-out (by s INC cc a 0) (result_fits s INC cc a 0 la (lit< tt))
   unary-out Clr = record { value = lit< tt; codes = codes-fit cc ((N := false) ∷ (Z := true) ∷ («V» := false) ∷ (C := false) ∷ []) h }
 
-with-fits : (acc : Acc) (r : Set) (o : Out8) → Fits r → OutFits o → Fits (with_accumulator acc o r)
+with-fits : (acc : Acc) (r : Set) (o : Out ℕ) → Fits r → OutFits o → Fits (with_accumulator acc o r)
 with-fits A r o f k = record { x = f.x; y = f.y; u = f.u; s = f.s; pc = f.pc; a = k.value; b = f.b; dp = f.dp; cc = k.codes }
 with-fits B r o f k = record { x = f.x; y = f.y; u = f.u; s = f.s; pc = f.pc; a = f.a; b = k.value; dp = f.dp; cc = k.codes }
 
@@ -132,7 +131,7 @@ signed-fits b h = go (ltb b 0x80)
 on-d : (r : Set) → Fits r → (l : List Line) (w : ℕ) → w < 65536 → Fits (with_word (with_codes r (codes r.cc l)) D w)
 on-d r f l w h = word-written _ (page-fits r f l) D w h
 
-of_test : (t : Bool) (q : Set) (x : Refusal) → Fits q → ChangedFits (cond t (After q) (Refused x))
+of_test : (t : Bool) (q : Set) (x : Refusal) → Fits q → ChangedFits (cond t (Ok q) (Err x))
 of_test true q x f = f
 of_test false q x f = tt
 

@@ -1,12 +1,11 @@
 -- 8-bit operations: an accumulator with a byte, one byte alone, TST, and the stores of bytes. A clause for each page of the manual.
 -- Assumes nothing.
 use Rattle.std.specs.Prelude.{ℕ, true, false, List, [], ◌∷◌}
-use Rattle.registers.specs.Arithmetic.{ADD, ADC, SUB, SBC, DEC, INC, AND, OR, EOR, COM, NEG, ASL, LSR, ASR, ROL, ROR, ◌:=◌, out8, codes, logical, manual}
+use Rattle.registers.specs.Arithmetic.{ADD, ADC, SUB, SBC, DEC, INC, AND, OR, EOR, COM, NEG, ASL, LSR, ASR, ROL, ROR, ◌:=◌, of_page, codes, logical, manual}
 use Rattle.registers.specs.Settings.{by}
 use Rattle.registers.specs.declared.CCBit.TheVariants.{C, «V», Z, N}
 use Rattle.registers.specs.declared.CCBits.{CCBits}
 use Rattle.registers.specs.declared.Flags.{Flags}
-use Rattle.registers.specs.declared.Out8.{Out8}
 use Rattle.registers.specs.declared.Set.{Set}
 use Rattle.memory.specs.Map.{byte_at}
 use Rattle.memory.specs.Writes.{writes_of, added}
@@ -20,43 +19,44 @@ use Rattle.opcodes.specs.declared.Unary.TheVariants.{Neg, Com, Lsr, Ror, Asr, As
 use Rattle.machine.specs.Effect.{stores}
 use Rattle.machine.specs.declared.Effect.{Effect}
 use Rattle.operations.specs.Codes.{with_codes}
+use Rattle.registers.specs.declared.Out.{Out}
 
 abbrev pub accumulator : Acc → Set → ℕ
 accumulator A r = r.a
 accumulator B r = r.b
 
 -- the accumulator and the condition codes after an operation
-abbrev pub with_accumulator : Acc → Out8 → Set → Set
+abbrev pub with_accumulator : Acc → Out ℕ → Set → Set
 with_accumulator A out r = record { x = r.x; y = r.y; u = r.u; s = r.s; pc = r.pc; a = out.value; b = r.b; dp = r.dp; cc = out.cc }
 with_accumulator B out r = record { x = r.x; y = r.y; u = r.u; s = r.s; pc = r.pc; a = r.a; b = out.value; dp = r.dp; cc = out.cc }
 
 -- the accumulator a and the byte m: the accumulator and the condition codes after it
-abbrev pub alu_of : Alu → Flags → CCBits → ℕ → ℕ → Out8
-alu_of Add s cc a m = out8 cc (by s ADD cc a m)
-alu_of Adc s cc a m = out8 cc (by s ADC cc a m)
-alu_of Sub s cc a m = out8 cc (by s SUB cc a m)
-alu_of Sbc s cc a m = out8 cc (by s SBC cc a m)
+abbrev pub alu_of : Alu → Flags → CCBits → ℕ → ℕ → Out ℕ
+alu_of Add s cc a m = of_page cc (by s ADD cc a m)
+alu_of Adc s cc a m = of_page cc (by s ADC cc a m)
+alu_of Sub s cc a m = of_page cc (by s SUB cc a m)
+alu_of Sbc s cc a m = of_page cc (by s SBC cc a m)
 -- CMP: SUB whose result is not kept
 alu_of Cmp s cc a m = record { cc = codes cc (manual SUB cc a m).flags; value = a }
-alu_of And s cc a m = out8 cc (manual AND cc a m)
+alu_of And s cc a m = of_page cc (manual AND cc a m)
 -- BIT: AND whose result is not kept
 alu_of Bit s cc a m = record { cc = codes cc (manual AND cc a m).flags; value = a }
-alu_of Or s cc a m = out8 cc (manual OR cc a m)
-alu_of Eor s cc a m = out8 cc (manual EOR cc a m)
+alu_of Or s cc a m = of_page cc (manual OR cc a m)
+alu_of Eor s cc a m = of_page cc (manual EOR cc a m)
 -- LD: N and Z by the byte, V always cleared
-alu_of Ld s cc a m = out8 cc (logical 0x80 m)
+alu_of Ld s cc a m = of_page cc (logical 0x80 m)
 
 -- one byte m: what it becomes, and the condition codes
-abbrev pub unary_of : Unary → Flags → CCBits → ℕ → Out8
-unary_of Neg s cc m = out8 cc (manual NEG cc m 0)
-unary_of Com s cc m = out8 cc (manual COM cc m 0)
-unary_of Lsr s cc m = out8 cc (manual LSR cc m 0)
-unary_of Ror s cc m = out8 cc (manual ROR cc m 0)
-unary_of Asr s cc m = out8 cc (manual ASR cc m 0)
-unary_of Asl s cc m = out8 cc (manual ASL cc m 0)
-unary_of Rol s cc m = out8 cc (manual ROL cc m 0)
-unary_of Dec s cc m = out8 cc (by s DEC cc m 0)
-unary_of Inc s cc m = out8 cc (by s INC cc m 0)
+abbrev pub unary_of : Unary → Flags → CCBits → ℕ → Out ℕ
+unary_of Neg s cc m = of_page cc (manual NEG cc m 0)
+unary_of Com s cc m = of_page cc (manual COM cc m 0)
+unary_of Lsr s cc m = of_page cc (manual LSR cc m 0)
+unary_of Ror s cc m = of_page cc (manual ROR cc m 0)
+unary_of Asr s cc m = of_page cc (manual ASR cc m 0)
+unary_of Asl s cc m = of_page cc (manual ASL cc m 0)
+unary_of Rol s cc m = of_page cc (manual ROL cc m 0)
+unary_of Dec s cc m = of_page cc (by s DEC cc m 0)
+unary_of Inc s cc m = of_page cc (by s INC cc m 0)
 -- CLR: N, V, C always cleared, Z always set
 unary_of Clr s cc m = record { cc = codes cc ((N := false) ∷ (Z := true) ∷ («V» := false) ∷ (C := false) ∷ []); value = 0 }
 

@@ -1,6 +1,6 @@
 -- Where the two flag settings part in an operation: in V alone, at the inputs that registers/specs/Settings.antt lists.
 -- Assumes nothing.
-use Rattle.std.specs.Prelude.{◌≡◌, ℕ, ◌<◌, ◌≢◌, ◌↔◌, List}
+use Rattle.std.specs.Prelude.{◌≡◌, ℕ, ◌<◌, ◌≢◌, ◌↔◌, List, Err, Ok, Result}
 use Rattle.answers.specs.declared.Refusal.{Refusal}
 use Rattle.registers.specs.ConditionCodes.{flag}
 use Rattle.registers.specs.Arithmetic.{ADC, SBC, DEC, INC}
@@ -21,8 +21,6 @@ use Rattle.opcodes.specs.declared.Unary.{Unary}
 use Rattle.opcodes.specs.declared.Unary.TheVariants.{Dec, Inc}
 use Rattle.operations.specs.EightBit.{accumulator, on_memory}
 use Rattle.operations.specs.Change.{changed_of}
-use Rattle.operations.specs.declared.Changed.{Changed}
-use Rattle.operations.specs.declared.Changed.TheVariants.{After, Refused}
 
 -- the same registers but for V, which differs exactly in the case named
 pub record PartInV (r q : Set) (Case : Type 0) : Type 0 where
@@ -38,9 +36,9 @@ pub record PartInV (r q : Set) (Case : Type 0) : Type 0 where
   pub exactly : (flag «V» r.cc ≢ flag «V» q.cc) ↔ Case
 
 -- two results of an operation on registers: both done, or both refused for one reason
-pub data ChangedPart (Case : Type 0) : Changed → Changed → Type 0 where
-  both-after : {r q : Set} → PartInV r q Case → ChangedPart Case (After r) (After q)
-  both-refused : {x : Refusal} → (Case → ⊥) → ChangedPart Case (Refused x) (Refused x)
+pub data ChangedPart (Case : Type 0) : Result Set Refusal → Result Set Refusal → Type 0 where
+  both-after : {r q : Set} → PartInV r q Case → ChangedPart Case (Ok r) (Ok q)
+  both-refused : {x : Refusal} → (Case → ⊥) → ChangedPart Case (Err x) (Err x)
 
 -- two effects that write the same bytes, answer and wait alike, and leave the same registers but for V
 pub record EffectsPart (e f : Effect) (Case : Type 0) : Type 0 where

@@ -1,6 +1,6 @@
 -- What an operation on registers refuses: 7 where the post-byte of TFR or EXG names no two registers of one size, and nothing else.
 -- Assumes nothing.
-use Rattle.std.specs.Prelude.{◌≡◌, ℕ, Bool, true, false, cond, not, ◌&&◌, List}
+use Rattle.std.specs.Prelude.{◌≡◌, ℕ, Bool, true, false, cond, not, ◌&&◌, List, Err, Ok, Result}
 use Rattle.answers.specs.Numbers.{number_of}
 use Rattle.registers.specs.declared.Flags.{Flags}
 use Rattle.registers.specs.declared.Set.{Set}
@@ -11,12 +11,11 @@ use Rattle.opcodes.specs.declared.RegisterOp.{RegisterOp}
 use Rattle.opcodes.specs.declared.RegisterOp.TheVariants.{Alu, OnAcc, TestAcc, TestMemory, Addd, Subd, Load16, Cmp16, Lea, Branch, Jmp, Nop, Daa, Sex, Mul, Abx, Andcc, Orcc, Exg, Tfr}
 use Rattle.operations.specs.Change.{changed_of}
 use Rattle.operations.specs.Transfers.{transferable}
-use Rattle.operations.specs.declared.Changed.{Changed}
-use Rattle.operations.specs.declared.Changed.TheVariants.{After, Refused}
+use Rattle.answers.specs.declared.Refusal.{Refusal}
 
-abbrev pub number_of_changed : Changed → ℕ
-number_of_changed (After r) = 0
-number_of_changed (Refused x) = number_of x
+abbrev pub number_of_changed : Result Set Refusal → ℕ
+number_of_changed (Ok r) = 0
+number_of_changed (Err x) = number_of x
 
 abbrev pub names_two : RegisterOp → Bool
 names_two (Alu op acc) = false

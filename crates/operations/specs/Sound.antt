@@ -1,8 +1,7 @@
 -- What is known of every operation: registers and writes fit their widths. A sound effect lists at most twelve writes and leaves the wait
 -- state that is named, and a refusal changes nothing.
 -- Assumes nothing.
-use Rattle.std.specs.Prelude.{◌≡◌, ℕ, ◌<◌, List, length}
-use Rattle.answers.specs.declared.Answer.TheVariants.{Done, Refused}
+use Rattle.std.specs.Prelude.{◌≡◌, ℕ, ◌<◌, List, length, Err, Ok, Result}
 use Rattle.answers.specs.declared.Refusal.{Refusal}
 use Rattle.registers.specs.Fits.{Fits}
 use Rattle.registers.specs.declared.Flags.{Flags}
@@ -13,14 +12,12 @@ use Rattle.machine.specs.declared.Effect.{Effect}
 use Rattle.machine.specs.declared.Wait.{Wait}
 use Rattle.opcodes.specs.declared.RegisterOp.{RegisterOp}
 use Rattle.operations.specs.Change.{changed_of}
-use Rattle.operations.specs.declared.Changed.{Changed}
-use Rattle.operations.specs.declared.Changed.TheVariants.{After, Refused as NotDone}
 
 -- the effect e on registers r, which leaves the wait state w; P is what the widths rest on
 pub record Sound (P : Type 0) (r : Set) (w : Wait) (e : Effect) : Type 0 where
   pub few : length e.writes.list ≡ 12
-  pub waits : e.answer ≡ Done → e.wait ≡ w
-  pub refused : (x : Refusal) → e.answer ≡ Refused x → e ≡ refuses r x
+  pub waits : e.answer ≡ (Ok tt) → e.wait ≡ w
+  pub refused : (x : Refusal) → e.answer ≡ Err x → e ≡ refuses r x
   pub registers : P → Fits e.regs
   pub widths : P → AllFit e.writes.list
 
@@ -31,9 +28,9 @@ pub record Given (mem : List ℕ) (r : Set) (ea : ℕ) : Type 0 where
   pub address : ea < 65536
 
 -- the registers after a change fit; a refusal has none
-abbrev pub ChangedFits : Changed → Type 0
-ChangedFits (After r) = Fits r
-ChangedFits (NotDone x) = Unit {0}
+abbrev pub ChangedFits : Result Set Refusal → Type 0
+ChangedFits (Ok r) = Fits r
+ChangedFits (Err x) = Unit {0}
 
 -- the law: whatever an operation that changes registers alone leaves in them fits
 abbrev pub ChangesFit : Type 0

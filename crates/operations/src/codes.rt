@@ -14,13 +14,12 @@ pub fn with_codes(mut regs: Set, cc: CCBits) -> Set
 pub fn and_codes(regs: Set, m: u8) -> Set
     ensures { result ≡ and_codes regs m }
 {
-    let cc = regs.cc;
-    with_codes(regs, CCBits::set_from_byte(cc.get_as_byte() & m))
+    with_codes(regs, CCBits::set_from_byte(regs.cc.get_as_byte() & m))
 }
 
+// Beside `and_codes`: the operator is all that each says.
 pub fn or_codes(regs: Set, m: u8) -> Set
     ensures { result ≡ or_codes regs m }
 {
-    let cc = regs.cc;
-    with_codes(regs, cc.or_with_byte(m))
+    with_codes(regs, regs.cc.or_with_byte(m))
 }

@@ -8,7 +8,7 @@ use super::codes::with_codes;
 use machine::Effect;
 use memory::{Write, Writes};
 use opcodes::{Acc, Alu, Unary};
-use registers::{CCBit, CCBits, Flags, Out8, Set};
+use registers::{CCBit, CCBits, Flags, Out, Set};
 
 pub fn accumulator(regs: Set, acc: Acc) -> u8
     ensures { result ≡ accumulator acc regs }
@@ -19,24 +19,18 @@ pub fn accumulator(regs: Set, acc: Acc) -> u8
     }
 }
 
-pub fn with_accumulator(mut regs: Set, acc: Acc, out: Out8) -> Set
+pub fn with_accumulator(mut regs: Set, acc: Acc, out: Out<u8>) -> Set
     ensures { result ≡ with_accumulator acc out regs }
 {
-    let cc = out.cc;
-    regs.cc = cc;
+    regs.cc = out.cc;
     match acc {
-        Acc::A => {
-            regs.a = out.value;
-            regs
-        }
-        Acc::B => {
-            regs.b = out.value;
-            regs
-        }
+        Acc::A => regs.a = out.value,
+        Acc::B => regs.b = out.value,
     }
+    regs
 }
 
-fn alu(flags: Flags, op: Alu, cc: CCBits, a: u8, m: u8) -> Out8
+fn alu(flags: Flags, op: Alu, cc: CCBits, a: u8, m: u8) -> Out<u8>
     ensures { result ≡ alu_of op flags cc a m }
 {
     match op {
@@ -44,39 +38,35 @@ fn alu(flags: Flags, op: Alu, cc: CCBits, a: u8, m: u8) -> Out8
         Alu::Adc => cc.add_u8(a, m, true, flags),
         Alu::Sub => cc.sub_u8(a, m, false, flags),
         Alu::Sbc => cc.sub_u8(a, m, true, flags),
-        Alu::Cmp => Out8 {
+        Alu::Cmp => Out {
             cc: cc.cmp_u8(a, m),
             value: a,
         },
         Alu::And => cc.and_u8(a, m),
-        Alu::Bit => {
-            let tested = cc.and_u8(a, m);
-            let codes = tested.cc;
-            Out8 {
-                cc: codes,
-                value: a,
-            }
-        }
+        Alu::Bit => Out {
+            value: a,
+            ..cc.and_u8(a, m)
+        },
         Alu::Or => cc.or_u8(a, m),
         Alu::Eor => cc.xor_u8(a, m),
-        Alu::Ld => Out8 {
+        Alu::Ld => Out {
             cc: cc.tst_u8(m),
             value: m,
         },
     }
 }
 
-fn clear(cc: CCBits) -> Out8
+fn clear(cc: CCBits) -> Out<u8>
     ensures { result ≡ unary_of Clr Manual cc 0 }
 {
     let cv = cc.set(CCBit::C, false).set(CCBit::V, false);
-    Out8 {
+    Out {
         cc: cv.set(CCBit::Z, true).set(CCBit::N, false),
         value: 0,
     }
 }
 
-pub fn unary(flags: Flags, op: Unary, cc: CCBits, m: u8) -> Out8
+pub fn unary(flags: Flags, op: Unary, cc: CCBits, m: u8) -> Out<u8>
     ensures { result ≡ unary_of op flags cc m }
 {
     match op {
@@ -96,15 +86,15 @@ pub fn unary(flags: Flags, op: Unary, cc: CCBits, m: u8) -> Out8
 pub fn with_operand(flags: Flags, op: Alu, acc: Acc, regs: Set, m: u8) -> Set
     ensures { result ≡ on_operand op acc flags regs m }
 {
-    let cc = regs.cc;
-    with_accumulator(regs, acc, alu(flags, op, cc, accumulator(regs, acc), m))
+    let a = accumulator(regs, acc);
+    with_accumulator(regs, acc, alu(flags, op, regs.cc, a, m))
 }
 
 pub fn on_accumulator(flags: Flags, op: Unary, acc: Acc, regs: Set) -> Set
     ensures { result ≡ on_accumulator op acc flags regs }
 {
-    let cc = regs.cc;
-    with_accumulator(regs, acc, unary(flags, op, cc, accumulator(regs, acc)))
+    let a = accumulator(regs, acc);
+    with_accumulator(regs, acc, unary(flags, op, regs.cc, a))
 }
 
 pub fn test(regs: Set, m: u8) -> Set
@@ -128,8 +118,7 @@ pub fn on_memory(flags: Flags, op: Unary, mem: &[u8], regs: Set, ea: u16) -> Eff
     ensures { result ≡ on_memory op flags mem.now regs ea }
 {
     let out = unary(flags, op, regs.cc, memory::read_u8(mem, ea));
-    let after = with_codes(regs, out.cc);
-    Effect::stores(after, one_write(ea, out.value))
+    Effect::stores(with_codes(regs, out.cc), one_write(ea, out.value))
 }
 
 pub fn store8(regs: Set, acc: Acc, ea: u16) -> Effect

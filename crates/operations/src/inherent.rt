@@ -5,7 +5,7 @@ ghost use Rattle.operations.specs.Inherent.{correction, corrected, daa_of, sex_o
 use super::codes::with_codes;
 use super::eight_bit::with_accumulator;
 use opcodes::Acc;
-use registers::{CCBit, CCBits, Out8, Set, Word};
+use registers::{CCBit, CCBits, Out, Set, Word};
 use u8oru16::u8u16;
 
 // What is added to a digit that is corrected.
@@ -32,38 +32,37 @@ fn decimal_sum(cc: CCBits, a: u8) -> u16
 pub fn decimal_adjust(regs: Set) -> Set
     ensures { result ≡ daa_of regs }
 {
+    // Named, since three lines read it.
     let cc = regs.cc;
     let sum = decimal_sum(cc, regs.a);
+    // A remainder and no low byte: the sum less the carry that C tells.
     let value = (sum % 256) as u8;
     let carry = cc.is_set(CCBit::C) | (256 <= sum);
     let codes = cc
         .set(CCBit::C, carry)
         .set(CCBit::Z, value == 0)
         .set(CCBit::N, 0x80 <= value);
-    with_accumulator(regs, Acc::A, Out8 { cc: codes, value })
+    with_accumulator(regs, Acc::A, Out { cc: codes, value })
 }
 
 // SEX: N and Z are D's.
 pub fn sign_extend(regs: Set) -> Set
     ensures { result ≡ sex_of regs }
 {
-    let cc = regs.cc;
     let d = u8u16::u8(regs.b).sign_extended().u16();
-    let codes = cc.set(CCBit::Z, d == 0).set(CCBit::N, 0x8000 <= d);
+    let codes = regs.cc.set(CCBit::Z, d == 0).set(CCBit::N, 0x8000 <= d);
     with_codes(regs, codes).with_word(Word::D, d)
 }
 
 pub fn multiply(regs: Set) -> Set
     ensures { result ≡ mul_of regs }
 {
-    let cc = regs.cc;
-    let out = cc.mul(regs.a, regs.b);
-    let codes = out.cc;
-    with_codes(regs, codes).with_word(Word::D, out.value)
+    let out = regs.cc.mul(regs.a, regs.b);
+    with_codes(regs, out.cc).with_word(Word::D, out.value)
 }
 
 pub fn add_b_to_x(regs: Set) -> Set
     ensures { result ≡ abx_of regs }
 {
-    regs.with_word(Word::X, std::num::wrapping_add_u16(regs.x, regs.b as u16))
+    regs.with_word(Word::X, regs.x.wrapping_add(regs.b as u16))
 }

@@ -1,5 +1,6 @@
 // What each operation does to the registers, by subject: the manual's instruction pages.
 // The registers come with PC at the next instruction and the index register changed; `ea` is the effective address.
+// These come as parameters of their own: most functions read some of memory, registers and `ea`, and the signature says which.
 #![tactic(auto)]
 
 mod branches;
@@ -21,43 +22,31 @@ use registers::{Flags, Set};
 pub use transfers::{exchange, transfer, transfer_name, transferable};
 pub use words::{store16, test16};
 
-// Result of an instruction that only changes registers. TFR and EXG alone may be refused.
-#[derive(Clone, Copy)]
-pub enum Changed {
-    After(Set),
-    Refused(Refusal),
-}
-
-pub fn change(op: RegisterOp, flags: Flags, mem: &[u8], regs: Set, ea: u16) -> Changed
+pub fn change(op: RegisterOp, flags: Flags, mem: &[u8], regs: Set, ea: u16) -> Result<Set, Refusal>
     ensures { result ≡ changed_of op flags mem.now regs ea }
 {
     match op {
         RegisterOp::Alu(alu, acc) => {
             let m = memory::read_u8(mem, ea);
-            Changed::After(eight_bit::with_operand(flags, alu, acc, regs, m))
+            Ok(eight_bit::with_operand(flags, alu, acc, regs, m))
         }
-        RegisterOp::OnAcc(unary, acc) => {
-            Changed::After(eight_bit::on_accumulator(flags, unary, acc, regs))
-        }
-        RegisterOp::TestAcc(acc) => Changed::After(eight_bit::test(
-            regs,
-            eight_bit::accumulator(regs, acc),
-        )),
-        RegisterOp::TestMemory => Changed::After(eight_bit::test(regs, memory::read_u8(mem, ea))),
-        RegisterOp::Addd => Changed::After(words::add_d(mem, regs, ea)),
-        RegisterOp::Subd => Changed::After(words::subtract_d(mem, regs, ea)),
-        RegisterOp::Load16(word) => Changed::After(words::load16(mem, regs, word, ea)),
-        RegisterOp::Cmp16(word) => Changed::After(words::compare16(mem, regs, word, ea)),
-        RegisterOp::Lea(index) => Changed::After(words::load_address(regs, index, ea)),
-        RegisterOp::Branch(cond) => Changed::After(branches::branch(regs, cond, ea)),
-        RegisterOp::Jmp => Changed::After(jump(regs, ea)),
-        RegisterOp::Nop => Changed::After(regs),
-        RegisterOp::Daa => Changed::After(inherent::decimal_adjust(regs)),
-        RegisterOp::Sex => Changed::After(inherent::sign_extend(regs)),
-        RegisterOp::Mul => Changed::After(inherent::multiply(regs)),
-        RegisterOp::Abx => Changed::After(inherent::add_b_to_x(regs)),
-        RegisterOp::Andcc => Changed::After(and_codes(regs, memory::read_u8(mem, ea))),
-        RegisterOp::Orcc => Changed::After(or_codes(regs, memory::read_u8(mem, ea))),
+        RegisterOp::OnAcc(unary, acc) => { Ok(eight_bit::on_accumulator(flags, unary, acc, regs)) }
+        RegisterOp::TestAcc(acc) => Ok(eight_bit::test(regs, eight_bit::accumulator(regs, acc))),
+        RegisterOp::TestMemory => Ok(eight_bit::test(regs, memory::read_u8(mem, ea))),
+        RegisterOp::Addd => Ok(words::add_d(mem, regs, ea)),
+        RegisterOp::Subd => Ok(words::subtract_d(mem, regs, ea)),
+        RegisterOp::Load16(word) => Ok(words::load16(mem, regs, word, ea)),
+        RegisterOp::Cmp16(word) => Ok(words::compare16(mem, regs, word, ea)),
+        RegisterOp::Lea(index) => Ok(words::load_address(regs, index, ea)),
+        RegisterOp::Branch(cond) => Ok(branches::branch(regs, cond, ea)),
+        RegisterOp::Jmp => Ok(jump(regs, ea)),
+        RegisterOp::Nop => Ok(regs),
+        RegisterOp::Daa => Ok(inherent::decimal_adjust(regs)),
+        RegisterOp::Sex => Ok(inherent::sign_extend(regs)),
+        RegisterOp::Mul => Ok(inherent::multiply(regs)),
+        RegisterOp::Abx => Ok(inherent::add_b_to_x(regs)),
+        RegisterOp::Andcc => Ok(and_codes(regs, memory::read_u8(mem, ea))),
+        RegisterOp::Orcc => Ok(or_codes(regs, memory::read_u8(mem, ea))),
         RegisterOp::Exg => exchange(regs, memory::read_u8(mem, ea)),
         RegisterOp::Tfr => transfer(regs, memory::read_u8(mem, ea)),
     }

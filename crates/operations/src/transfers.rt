@@ -2,7 +2,6 @@
 ghost use Rattle.std.specs.Prelude.{◌≡◌};
 ghost use Rattle.operations.specs.Transfers.{transferable, transfer_name, transfer, exchange};
 
-use super::Changed;
 use answers::Refusal;
 use registers::{Name, Set};
 
@@ -15,6 +14,7 @@ pub fn transferable(m: u8) -> bool
     ((from < 6) & (to < 6)) | ((7 < from) & (from < 12) & (7 < to) & (to < 12))
 }
 
+// No `Option`: `transfer_name` of specs/Transfers answers a code without a register by DP, and `transferable` is asked first.
 pub fn transfer_name(code: u8) -> Name
     ensures { result ≡ transfer_name code }
 {
@@ -32,18 +32,19 @@ pub fn transfer_name(code: u8) -> Name
     }
 }
 
-pub fn transfer(regs: Set, m: u8) -> Changed
+pub fn transfer(regs: Set, m: u8) -> Result<Set, Refusal>
     ensures { result ≡ transfer regs m }
 {
     if transferable(m) {
         let value = regs.get_register(transfer_name(m / 16));
-        Changed::After(regs.set_register(transfer_name(m % 16), value))
+        Ok(regs.set_register(transfer_name(m % 16), value))
     } else {
-        Changed::Refused(Refusal::TransferCode)
+        Err(Refusal::TransferCode)
     }
 }
 
-pub fn exchange(regs: Set, m: u8) -> Changed
+// Beside `transfer`: what they share is `transferable` and `transfer_name`. EXG reads both registers before it sets one.
+pub fn exchange(regs: Set, m: u8) -> Result<Set, Refusal>
     ensures { result ≡ exchange regs m }
 {
     if transferable(m) {
@@ -51,8 +52,8 @@ pub fn exchange(regs: Set, m: u8) -> Changed
         let second = transfer_name(m % 16);
         let one = regs.get_register(first);
         let two = regs.get_register(second);
-        Changed::After(regs.set_register(first, two).set_register(second, one))
+        Ok(regs.set_register(first, two).set_register(second, one))
     } else {
-        Changed::Refused(Refusal::TransferCode)
+        Err(Refusal::TransferCode)
     }
 }

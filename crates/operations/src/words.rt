@@ -1,4 +1,5 @@
 // Operations on words: LD, ST, CMP (16-Bit), ADDD, SUBD, LEA.
+// `test16` and `store16` stand beside those of bytes: each line of them calls what has its size, so that one for both would be no shorter.
 ghost use Rattle.std.specs.Prelude.{◌≡◌};
 ghost use Rattle.operations.specs.Words.{tested16, load16, store16, compare16, add_d, subtract_d, load_address};
 
@@ -45,6 +46,7 @@ pub fn add_d(mem: &[u8], regs: Set, ea: u16) -> Set
     with_codes(regs, out.cc).with_word(Word::D, out.value)
 }
 
+// Beside `add_d`: the two part in one call, and a closure for it would be as long.
 pub fn subtract_d(mem: &[u8], regs: Set, ea: u16) -> Set
     ensures { result ≡ subtract_d mem.now regs ea }
 {
@@ -57,11 +59,9 @@ pub fn subtract_d(mem: &[u8], regs: Set, ea: u16) -> Set
 pub fn load_address(regs: Set, index: Index, ea: u16) -> Set
     ensures { result ≡ load_address index regs ea }
 {
-    let cc = regs.cc;
-    match index {
-        Index::X => with_codes(regs, cc.set(CCBit::Z, ea == 0)).with_word(Word::X, ea),
-        Index::Y => with_codes(regs, cc.set(CCBit::Z, ea == 0)).with_word(Word::Y, ea),
-        Index::U => regs.with_word(Word::U, ea),
-        Index::S => regs.with_word(Word::S, ea),
-    }
+    let tested = match index {
+        Index::X | Index::Y => with_codes(regs, regs.cc.set(CCBit::Z, ea == 0)),
+        Index::U | Index::S => regs,
+    };
+    tested.with_word(index.word(), ea)
 }

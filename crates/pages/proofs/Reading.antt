@@ -1,5 +1,6 @@
 -- Where a place stands on its page, and a page that is filled from its start.
 -- Assumes nothing.
+use Rattle.std.specs.Prelude.{None, Option, Some}
 use Prim.Native.Nat.{ℕ, zero, suc, ◌+◌, ◌/◌, ◌%◌, ◌-◌, ◌<◌}
 use mathlib.Core.Path.{◌≡◌, refl, sym, ap, ◌∙◌}
 use mathlib.Core.Bool.{Bool, true, false, cond, true≢false}
@@ -11,27 +12,26 @@ use Rattle.opcodes.specs.Manual.{entry_of}
 use Rattle.opcodes.specs.Rows.{values, row_of}
 use Rattle.opcodes.specs.declared.Page.{Page}
 use Rattle.opcodes.specs.declared.Page.TheVariants.{Plain, Ten, Eleven}
-use Rattle.opcodes.specs.declared.Place.{Place}
-use Rattle.opcodes.specs.declared.Place.TheVariants.{Instruction, None}
 use Rattle.opcodes.proofs.Rows.{in-values, alike, NotIn, is_in, not_in}
 use Rattle.opcodes.proofs.Reading.{in_row}
 use Rattle.pages.specs.Table.{places_of, InTable}
+use Rattle.opcodes.specs.declared.Entry.{Entry}
 
 -- an arm of the match on the high digit: the row that is called, read at the low one
-pub picked : (page : Page) (code : ℕ) {k : ℕ} {row : List Place} {r : Place} → r ≡ get_or row (code % 16) None → row ≡ row_of page k → code / 16 ≡ k → r ≡ entry_of page code
-picked page code p q m = p ∙ ap (λ (l : List Place). get_or l (code % 16) None) (q ∙ ap (row_of page) (sym m)) ∙ in_row page code
+pub picked : (page : Page) (code : ℕ) {k : ℕ} {row : List (Option Entry)} {r : Option Entry} → r ≡ get_or row (code % 16) None → row ≡ row_of page k → code / 16 ≡ k → r ≡ entry_of page code
+picked page code p q m = p ∙ ap (λ (l : List (Option Entry)). get_or l (code % 16) None) (q ∙ ap (row_of page) (sym m)) ∙ in_row page code
 
 -- a row with no instruction
-abbrev pub bare : List Place → Bool
+abbrev pub bare : List (Option Entry) → Bool
 bare [] = true
 bare (None ∷ l) = bare l
-bare (Instruction e ∷ l) = false
+bare (Some e ∷ l) = false
 
-in-bare : (l : List Place) (i : ℕ) → bare l ≡ true → None ≡ get_or l i None
+in-bare : (l : List (Option Entry)) (i : ℕ) → bare l ≡ true → None ≡ get_or l i None
 in-bare [] i t = refl
 in-bare (None ∷ l) zero t = refl
 in-bare (None ∷ l) (suc i) t = in-bare l i t
-in-bare (Instruction e ∷ l) i t = absurd (true≢false (sym t))
+in-bare (Some e ∷ l) i t = absurd (true≢false (sym t))
 
 -- its last arm, where the others are the rows ks: one test of sixteen rows shows that each other row is bare
 pub empty : (page : Page) (ks : List ℕ) (code : ℕ) → values (λ (h : ℕ). cond (is_in h ks) true (bare (row_of page h))) 0 16 ≡ values (λ (h : ℕ). true) 0 16 → code / 16 < 16 → NotIn (code / 16) ks → None ≡ entry_of page code
@@ -45,7 +45,7 @@ fill f d i zero k = rw (add-zero i)
 fill f d i (suc n) k = rw (add-suc i n, ← suc-add i n) (ap (λ (l : List _). f i ∷ l) (fill f d (suc i) n k))
 
 -- a page of which the first n places are written
-unfoldable pub filled : Page → ℕ → List Place
+unfoldable pub filled : Page → ℕ → List (Option Entry)
 filled page n = values (entry_of page) 0 n ++ replicate (256 - n) None
 
 pub at_first : (page : Page) → replicate 256 None ≡ filled page 0

@@ -1,18 +1,17 @@
 -- The opcode table: three pages of 256 places, plain, after 10 and after 11, each place as the manual's rows have it.
 -- Assumes nothing.
-use Rattle.std.specs.Prelude.{ℕ, ◌<◌, ◌≡◌, List, [], ◌∷◌, get_or}
+use Rattle.std.specs.Prelude.{ℕ, ◌<◌, ◌≡◌, List, [], ◌∷◌, get_or, None, Option}
 use Rattle.opcodes.specs.Manual.{entry_of}
 use Rattle.opcodes.specs.Rows.{values}
 use Rattle.opcodes.specs.declared.Page.{Page}
 use Rattle.opcodes.specs.declared.Page.TheVariants.{Plain, Ten, Eleven}
-use Rattle.opcodes.specs.declared.Place.{Place}
-use Rattle.opcodes.specs.declared.Place.TheVariants.{None}
+use Rattle.opcodes.specs.declared.Entry.{Entry}
 
 -- a page's 256 places
-unfoldable pub places_of : Page → List Place
+unfoldable pub places_of : Page → List (Option Entry)
 places_of page = values (entry_of page) 0 256
 
-abbrev pub table_of : List (List Place)
+abbrev pub table_of : List (List (Option Entry))
 table_of = places_of Plain ∷ places_of Ten ∷ places_of Eleven ∷ []
 
 -- where a page stands in the table

@@ -3,10 +3,11 @@ ghost use Rattle.std.specs.Prelude.{◌≡◌};
 ghost use Rattle.opcodes.specs.Manual.{entry_of};
 ghost use Rattle.opcodes.specs.declared.Page.TheVariants.{Plain};
 
-use opcodes::{Place, at_digit};
+use opcodes::{Entry, at_digit};
 
 // The place of a byte: in the row of its high digit, at its low one.
-pub fn place(code: u8) -> Place
+// The pages have a `place` each, which names their rows: no row is built at run time (docs/PERFORMANCE.md).
+pub fn place(code: u8) -> Option<Entry>
     ensures { result ≡ entry_of Plain code }
 {
     match code / 16 {

@@ -4,10 +4,10 @@ ghost use Rattle.opcodes.specs.Manual.{entry_of};
 ghost use Rattle.pages.specs.Table.{places_of, table_of};
 
 use super::{eleven, plain, ten};
-use opcodes::{Page, Place};
+use opcodes::{Entry, Page};
 
 // What a byte on a page stands for.
-pub fn lookup(page: Page, code: u8) -> Place
+pub fn lookup(page: Page, code: u8) -> Option<Entry>
     ensures { result ≡ entry_of page code }
 {
     match page {
@@ -17,20 +17,18 @@ pub fn lookup(page: Page, code: u8) -> Place
     }
 }
 
-fn places_of(page: Page) -> [Place; 256]
+fn places_of(page: Page) -> [Option<Entry>; 256]
     ensures { result ≡ places_of page }
 {
-    let mut places = [Place::None; 256];
-    let mut code = 0;
-    while code < 256 {
-        places[code] = lookup(page, code as u8);
-        code += 1;
+    let mut places = [None; 256];
+    for (code, place) in places.iter_mut().enumerate() {
+        *place = lookup(page, code as u8);
     }
     places
 }
 
 // The opcode table: its three pages, plain, after 10 and after 11.
-pub fn all() -> [[Place; 256]; 3]
+pub fn all() -> [[Option<Entry>; 256]; 3]
     ensures { result ≡ table_of }
 {
     [

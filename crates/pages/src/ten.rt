@@ -1,20 +1,22 @@
 // Page 10 of the opcode table, the opcodes after a byte 10: the rows of sixteen places that have an instruction, each set at its low digit.
+// Each row is written out, though some part in the mode alone: it is the manual's table, and no row is built at run time
+// (docs/PERFORMANCE.md). The pages have a `place` each, which names their rows.
 ghost use Rattle.std.specs.Prelude.{◌≡◌};
 ghost use Rattle.opcodes.specs.Manual.{entry_of};
 ghost use Rattle.opcodes.specs.Rows.{row_of};
 ghost use Rattle.opcodes.specs.declared.Page.TheVariants.{Ten};
 
 use opcodes::{
-    Cond, MemoryOp, Mode, Place, Software, at_digit, branch, compare16, load16, memory, store16,
+    Cond, Entry, MemoryOp, Mode, Software, at_digit, branch, compare16, load16, memory, store16,
 };
 use registers::Word;
 
 // Long branches.
-fn row_2() -> [Place; 16]
+fn row_2() -> [Option<Entry>; 16]
     ensures { result ≡ row_of Ten 0x2 }
 {
     [
-        Place::None,
+        None,
         branch(Cond::Rn, Mode::Relative16, 4, 5),
         branch(Cond::Hi, Mode::Relative16, 4, 5),
         branch(Cond::Ls, Mode::Relative16, 4, 5),
@@ -34,19 +36,19 @@ fn row_2() -> [Place; 16]
 }
 
 // SWI2.
-fn row_3() -> [Place; 16]
+fn row_3() -> [Option<Entry>; 16]
     ensures { result ≡ row_of Ten 0x3 }
 {
-    let mut row = [Place::None; 16];
+    let mut row = [None; 16];
     row[0xF] = memory(MemoryOp::Swi(Software::Swi2), Mode::Inherent, 2, 20);
     row
 }
 
 // D and Y, immediate.
-fn row_8() -> [Place; 16]
+fn row_8() -> [Option<Entry>; 16]
     ensures { result ≡ row_of Ten 0x8 }
 {
-    let mut row = [Place::None; 16];
+    let mut row = [None; 16];
     row[0x3] = compare16(Word::D, Mode::Immediate16, 4, 5);
     row[0xC] = compare16(Word::Y, Mode::Immediate16, 4, 5);
     row[0xE] = load16(Word::Y, Mode::Immediate16, 4, 4);
@@ -54,10 +56,10 @@ fn row_8() -> [Place; 16]
 }
 
 // D and Y, direct.
-fn row_9() -> [Place; 16]
+fn row_9() -> [Option<Entry>; 16]
     ensures { result ≡ row_of Ten 0x9 }
 {
-    let mut row = [Place::None; 16];
+    let mut row = [None; 16];
     row[0x3] = compare16(Word::D, Mode::Direct, 3, 7);
     row[0xC] = compare16(Word::Y, Mode::Direct, 3, 7);
     row[0xE] = load16(Word::Y, Mode::Direct, 3, 6);
@@ -66,10 +68,10 @@ fn row_9() -> [Place; 16]
 }
 
 // D and Y, indexed.
-fn row_a() -> [Place; 16]
+fn row_a() -> [Option<Entry>; 16]
     ensures { result ≡ row_of Ten 0xA }
 {
-    let mut row = [Place::None; 16];
+    let mut row = [None; 16];
     row[0x3] = compare16(Word::D, Mode::Indexed, 3, 7);
     row[0xC] = compare16(Word::Y, Mode::Indexed, 3, 7);
     row[0xE] = load16(Word::Y, Mode::Indexed, 3, 6);
@@ -78,10 +80,10 @@ fn row_a() -> [Place; 16]
 }
 
 // D and Y, extended.
-fn row_b() -> [Place; 16]
+fn row_b() -> [Option<Entry>; 16]
     ensures { result ≡ row_of Ten 0xB }
 {
-    let mut row = [Place::None; 16];
+    let mut row = [None; 16];
     row[0x3] = compare16(Word::D, Mode::Extended, 4, 8);
     row[0xC] = compare16(Word::Y, Mode::Extended, 4, 8);
     row[0xE] = load16(Word::Y, Mode::Extended, 4, 7);
@@ -90,46 +92,46 @@ fn row_b() -> [Place; 16]
 }
 
 // S, immediate.
-fn row_c() -> [Place; 16]
+fn row_c() -> [Option<Entry>; 16]
     ensures { result ≡ row_of Ten 0xC }
 {
-    let mut row = [Place::None; 16];
+    let mut row = [None; 16];
     row[0xE] = load16(Word::S, Mode::Immediate16, 4, 4);
     row
 }
 
 // S, direct.
-fn row_d() -> [Place; 16]
+fn row_d() -> [Option<Entry>; 16]
     ensures { result ≡ row_of Ten 0xD }
 {
-    let mut row = [Place::None; 16];
+    let mut row = [None; 16];
     row[0xE] = load16(Word::S, Mode::Direct, 3, 6);
     row[0xF] = store16(Word::S, Mode::Direct, 3, 6);
     row
 }
 
 // S, indexed.
-fn row_e() -> [Place; 16]
+fn row_e() -> [Option<Entry>; 16]
     ensures { result ≡ row_of Ten 0xE }
 {
-    let mut row = [Place::None; 16];
+    let mut row = [None; 16];
     row[0xE] = load16(Word::S, Mode::Indexed, 3, 6);
     row[0xF] = store16(Word::S, Mode::Indexed, 3, 6);
     row
 }
 
 // S, extended.
-fn row_f() -> [Place; 16]
+fn row_f() -> [Option<Entry>; 16]
     ensures { result ≡ row_of Ten 0xF }
 {
-    let mut row = [Place::None; 16];
+    let mut row = [None; 16];
     row[0xE] = load16(Word::S, Mode::Extended, 4, 7);
     row[0xF] = store16(Word::S, Mode::Extended, 4, 7);
     row
 }
 
 // The place of a byte: in the row of its high digit, at its low one.
-pub fn place(code: u8) -> Place
+pub fn place(code: u8) -> Option<Entry>
     ensures { result ≡ entry_of Ten code }
 {
     match code / 16 {
@@ -143,6 +145,6 @@ pub fn place(code: u8) -> Place
         0xD => at_digit(row_d(), code),
         0xE => at_digit(row_e(), code),
         0xF => at_digit(row_f(), code),
-        _ => Place::None,
+        _ => None,
     }
 }

@@ -1,5 +1,6 @@
 -- Calls that are not recorded, one after the other; a file that is loaded; and the head before it.
 -- Assumes nothing.
+use Rattle.std.specs.Prelude.{Err, Ok, Result}
 use Prim.Native.Nat.{ℕ, suc, ◌+◌, ◌-◌, ◌*◌, ◌≤◌, ◌<◌}
 use mathlib.Core.Path.{◌≡◌, refl, sym, ◌∙◌}
 use mathlib.Core.List.{List}
@@ -9,8 +10,6 @@ use lib.ListN.{length, take, drop, length-append, length-drop}
 use lib.Seq.{sets, take_all}
 use Rattle.registers.specs.declared.Flags.TheVariants.{Bought, Manual}
 use Rattle.srecord.specs.File.{loaded_of, memory_loaded}
-use Rattle.answers.specs.declared.Answer.TheVariants.{Done, Refused}
-use Rattle.srecord.specs.declared.Loaded.{Loaded}
 use Rattle.answers.specs.declared.Refusal.{Refusal}
 use Rattle.answers.specs.declared.Refusal.TheVariants.{Malformed}
 use Rattle.text.proofs.Stores.{sets-append}
@@ -82,12 +81,12 @@ module _ (t : Settings) (n : ℕ) (mem out₀ : List ℕ) where
 
 -- ---- the file
 
-module _ (t : Settings) (n : ℕ) (file : List ℕ) {blank : List ℕ} (eb : blank ≡ zeros 65536) {l : Loaded} (el : l ≡ loaded_of blank file) where
-  pub refused-file : {x : Refusal} → l.answer ≡ Refused x → boot_lines t n file ≡ refusal_line x
+module _ (t : Settings) (n : ℕ) (file : List ℕ) {blank : List ℕ} (eb : blank ≡ zeros 65536) {l : Result ℕ Refusal} (el : l ≡ loaded_of blank file) where
+  pub refused-file : {x : Refusal} → l ≡ Err x → boot_lines t n file ≡ refusal_line x
   unfolding boot_lines
   refused-file ea = rw (← eb, ← el, ea)
 
-  pub sound-file : {mem : List ℕ} → mem ≡ memory_loaded blank file → l.answer ≡ Done → boot_lines t n file ≡ run_lines t n mem
+  pub sound-file : {mem : List ℕ} → mem ≡ memory_loaded blank file → {a : ℕ} → l ≡ Ok a → boot_lines t n file ≡ run_lines t n mem
   unfolding boot_lines
   sound-file em ea = rw (em, ← eb, ← el, ea)
 

@@ -1,5 +1,6 @@
 -- No text is longer than the buffer of its program, and how long a buffer is.
 -- Assumes nothing.
+use Rattle.std.specs.Prelude.{Err, Ok, Result}
 use Prim.Native.Nat.{ℕ, zero, suc, ◌*◌, ◌≤◌, ◌<◌}
 use mathlib.Core.Path.{◌≡◌, refl, sym}
 use mathlib.Core.Bool.{Bool, true, false, cond}
@@ -13,8 +14,6 @@ use Rattle.answers.specs.declared.Refusal.TheVariants.{Malformed}
 use Rattle.text.proofs.Texts.{alone-fits}
 use Rattle.machine.specs.Machine.{fresh, settings_of}
 use Rattle.srecord.specs.File.{loaded_of, memory_loaded}
-use Rattle.answers.specs.declared.Answer.{Answer}
-use Rattle.answers.specs.declared.Answer.TheVariants.{Done, Refused}
 use Rattle.calls.specs.Steps.{step_of, memory_after_step}
 use Rattle.machine.specs.declared.Machine.{Machine}
 use Rattle.machine.specs.declared.Settings.{Settings}
@@ -25,6 +24,7 @@ use Rattle.runfile.proofs.Operations.{they-fit, not-longer}
 use Rattle.player.specs.Plays.{zeros, journal_length, run_settings, played, printed, PlayFits}
 use Rattle.player.specs.Boots.{ram_top, flag_byte, steps, text, is_whole, step_lines, run_lines, loaded_lines, boot_lines, boot_printed, BootFits}
 use Rattle.player.proofs.Playing.{line-bound, lines-bound}
+use Rattle.answers.specs.declared.Refusal.{Refusal}
 
 pub play-fits : PlayFits
 unfolding printed
@@ -46,13 +46,13 @@ module _ (t : Settings) where
 
   file-fits : (n : ℕ) → n < 65536 → (file : List ℕ) → length (boot_lines t n file) ≤ 33 * 65536
   unfolding boot_lines run_lines
-  file-fits n h file = go (loaded_of (zeros 65536) file).answer (memory_loaded (zeros 65536) file)
+  file-fits n h file = go (loaded_of (zeros 65536) file) (memory_loaded (zeros 65536) file)
     where
-      go : (a : Answer) (mem : List ℕ) → length (loaded_lines a t n mem) ≤ 33 * 65536
-      go Done mem =
+      go : (a : Result ℕ Refusal) (mem : List ℕ) → length (loaded_lines a t n mem) ≤ 33 * 65536
+      go (Ok u) mem =
           let r = reset_of mem fresh t in
           simp length-append (omega (arith, line-bound r.answer r.machine, steps-bound n (memory_after_reset mem fresh t) r.machine))
-      go (Refused x) mem = omega (arith, alone-fits (number_of x))
+      go (Err x) mem = omega (arith, alone-fits (number_of x))
 
 either : (b : Bool) (k : ℕ) (x y : List ℕ) → length x ≤ k → length y ≤ k → length (cond b x y) ≤ k
 either true k x y p q = p

@@ -1,5 +1,6 @@
 -- One operation more: its line, and what is in hand after it.
 -- Assumes nothing.
+use Rattle.std.specs.Prelude.{Err, Ok, Result, Some, ⊤}
 use Prim.Native.Nat.{ℕ, ◌+◌, ◌-◌, ◌*◌, ◌≤◌, ◌<◌}
 use mathlib.Core.Path.{◌≡◌, refl, sym, ap, ◌∙◌, subst}
 use mathlib.Core.List.{List, [], ◌∷◌, ◌++◌, append_assoc, append-nil}
@@ -8,10 +9,8 @@ use native.Mathlib.Numerals.{add-one}
 use lib.ListN.{length, get_or, take, length-append}
 use lib.Seq.{sets, take-suc, take_all, length-take-le}
 use Rattle.answers.specs.Numbers.{number_of_answer}
-use Rattle.answers.specs.declared.Answer.{Answer}
-use Rattle.answers.specs.declared.Answer.TheVariants.{Done, Refused}
 use Rattle.answers.specs.declared.Refusal.{Refusal}
-use Rattle.answers.specs.declared.Refusal.TheVariants.{MemoryLength, Waiting, Opcode, PastEnd, PostByte, TransferCode, StackTooSmall, ZeroAtVector, JournalFull, NoRecord, JournalLength, DivisionByZero, LeftByte, NoRoom, Malformed, OutputShort, LineShape, Checksum, PastTop, NoEnd, PostByte8F, TooFewRecords, SalvageShort, ListShort}
+use Rattle.answers.specs.declared.Refusal.TheVariants.{Malformed}
 use Rattle.answers.proofs.Numbers.{numbers-small}
 use Rattle.text.proofs.Stores.{sets-append}
 use Rattle.text.proofs.Texts.{line-fits}
@@ -23,9 +22,7 @@ use Rattle.journal.specs.Undos.{undone}
 use Rattle.runfile.specs.Format.{Parsed, says, malformed, parsed, operation_at, loaded, next_of}
 use Rattle.runfile.specs.declared.Operation.{Operation}
 use Rattle.runfile.specs.declared.Operation.TheVariants.{Step, Irq, Firq, Nmi, Reset, Undo}
-use Rattle.runfile.specs.declared.Next.TheVariants.{Is}
 use Rattle.runfile.specs.declared.Start.{Start}
-use Rattle.runfile.specs.declared.Loaded.TheVariants.{Ready, Refused as NotLoaded}
 use Rattle.runfile.proofs.Operations.{in_order, they-fit, not-longer}
 use Rattle.player.specs.Plays.{acted, wanted_by, shown_of, LeavesShown, call_line, refusal_line, line_for, lines, played, run_settings}
 use Rattle.player.specs.declared.plays.Shown.{Shown}
@@ -33,11 +30,11 @@ use Rattle.player.specs.declared.plays.Wanted.{Wanted}
 use Rattle.player.specs.declared.plays.Wanted.TheVariants.{Call as Calling, Undo as Undoing}
 
 -- an answer's number is a byte
-number_fits : (a : Answer) → number_of_answer a < 256
-number_fits Done = omega arith
-number_fits (Refused x) = omega (arith, numbers-small x)
+number_fits : (a : Result ⊤ Refusal) → number_of_answer a < 256
+number_fits (Ok u) = omega arith
+number_fits (Err x) = omega (arith, numbers-small x)
 
-pub line-bound : (a : Answer) (m : Machine) → length (call_line a m) ≤ 33
+pub line-bound : (a : Result ⊤ Refusal) (m : Machine) → length (call_line a m) ≤ 33
 line-bound a m = line-fits (number_of_answer a) m.regs.pc m.regs.cc.reg m.cycles (number_fits a)
 
 -- an operation is the call that is wanted by it
@@ -118,13 +115,13 @@ operations_in malformed = []
 pub record Sound (file : List ℕ) (from : Start) (p : Parsed) : Type 0 where
   pub starts : from.operations + length (operations_in p) ≡ length file
   pub short : length file ≤ 32768
-  pub each : (i : ℕ) → i < length (operations_in p) → next_of (operation_at file (from.operations + i)) ≡ Is (get_or (operations_in p) i Step)
+  pub each : (i : ℕ) → i < length (operations_in p) → next_of (operation_at file (from.operations + i)) ≡ Some (get_or (operations_in p) i Step)
   pub plays : (s : State) → played p s ≡ lines (run_settings from.settings) (operations_in p) s
 
-pub sound : (file : List ℕ) (from : Start) → Ready from ≡ loaded (length file) (parsed file) → Sound file from (parsed file)
+pub sound : (file : List ℕ) (from : Start) → Ok from ≡ loaded (length file) (parsed file) → Sound file from (parsed file)
 sound file from h = go (parsed file) refl h
   where
-    go : (p : Parsed) → parsed file ≡ p → Ready from ≡ loaded (length file) p → Sound file from p
+    go : (p : Parsed) → parsed file ≡ p → Ok from ≡ loaded (length file) p → Sound file from p
     go (says f) e h =
         let x : from ≡ record { operations = length file - length f.operations; settings = f.settings } = cc in
         rw x
@@ -153,6 +150,6 @@ module _ {file : List ℕ} {from : Start} {p : Parsed} (so : Sound file from p) 
 
 -- ---- a refused file
 
-pub refused-file : (size : ℕ) (p : Parsed) (s : State) {x : Refusal} → loaded size p ≡ NotLoaded x → played p s ≡ refusal_line x
+pub refused-file : (size : ℕ) (p : Parsed) (s : State) {x : Refusal} → loaded size p ≡ Err x → played p s ≡ refusal_line x
 refused-file size (says f) s e = cc
 refused-file size malformed s {x} e = let d : Malformed ≡ x = cc in rw (← d)

@@ -1,15 +1,14 @@
 -- While the journal has room, a recorded call prints what the same call prints by itself.
 -- Assumes nothing.
+use Rattle.std.specs.Prelude.{Err, Ok, Result, ⊤}
 use Prim.Native.Nat.{ℕ, zero, suc, ◌+◌, ◌*◌, ◌≤◌}
 use mathlib.Core.Path.{◌≡◌, refl, sym, ap, ◌∙◌}
 use mathlib.Core.Bool.{Bool}
-use mathlib.Core.List.{List, ◌++◌}
+use mathlib.Core.List.{◌++◌}
 use native.Mathlib.Omega.{arith}
 use borrow.Author.Tests.{le-leb}
 use lib.ListN.{length, replicate, length-replicate}
 use lib.Seq.{length-sets}
-use Rattle.answers.specs.declared.Answer.{Answer}
-use Rattle.answers.specs.declared.Answer.TheVariants.{Done, Refused}
 use Rattle.answers.specs.declared.Refusal.TheVariants.{JournalFull}
 use Rattle.memory.specs.Writes.{listed}
 use Rattle.memory.proofs.Folds.{length-stored}
@@ -19,13 +18,14 @@ use Rattle.calls.specs.Plans.{memory_with}
 use Rattle.calls.specs.declared.Plan.{Plan}
 use Rattle.calls.proofs.Laws.{refused-call, few-writes}
 use Rattle.journal.specs.Record.{most_stored, record_length}
-use Rattle.journal.specs.Recorded.{State, Ended, fresh_twin, in_hand, need, unless, most_records, admitted, saved_for, record_for, plan_answer, call_answer, recorded, concluded, called, stepped, was_reset}
+use Rattle.journal.specs.Recorded.{State, Ended, fresh_twin, in_hand, need, unless, most_records, saved_for, record_for, plan_answer, call_answer, recorded, concluded, called, stepped, was_reset}
 use Rattle.journal.proofs.Answers.{admits-all}
 use Rattle.journal.proofs.Laying.{saved-few}
 use Rattle.journal.proofs.Reading.{length-encode}
 use Rattle.runfile.specs.declared.Operation.TheVariants.{Step}
 use Rattle.player.specs.Plays.{zeros, journal_length, call_line, line_for, lines}
 use Rattle.player.specs.Boots.{step_lines, run_lines, AsRecorded}
+use Rattle.answers.specs.declared.Refusal.{Refusal}
 
 -- ---- one call
 
@@ -44,9 +44,9 @@ record Shows (c : Call) (s : State) (k : ℕ) (e : Ended) : Type 0 where
   memory : e.state.memory ≡ memory_with (settings_in c) (plan_in c s) s.memory
   roomy : Roomy k e.state
 
-unless-alone : (a : Answer) → unless a Done ≡ a
-unless-alone Done = refl
-unless-alone (Refused x) = refl
+unless-alone : (a : Result ⊤ Refusal) → unless a (Ok tt) ≡ a
+unless-alone (Ok u) = refl
+unless-alone (Err x) = refl
 
 module _ (c : Call) (s : State) (k : ℕ) (size : length s.memory ≡ 65536) (space : Roomy (suc k) s) where
   abbrev plan : Plan
@@ -63,15 +63,15 @@ module _ (c : Call) (s : State) (k : ℕ) (size : length s.memory ≡ 65536) (sp
 
   answer-is : call_answer (settings_in c) plan s ≡ plan.answer
   answer-is =
-      ap (λ (a : Answer). unless a (plan_answer (settings_in c) plan s))
+      ap (λ (a : Result ⊤ Refusal). unless a (plan_answer (settings_in c) plan s))
       (sym (admits-all (length s.memory) (length s.journal) s.twin.records s.twin.bytes size (omega (arith, space.bytes)) (omega (arith, space.counted))))
-      ∙ ap (λ (b : Bool). unless plan.answer (need b JournalFull Done))
+      ∙ ap (λ (b : Bool). unless plan.answer (need b JournalFull (Ok tt)))
       (le-leb (s.twin.bytes + length (record_for (settings_in c) plan s)) (length s.journal) (omega (arith, space.bytes, record-fits)))
       ∙ unless-alone plan.answer
 
-  by_answer : (a : Answer) → plan.answer ≡ a → Shows c s k (concluded a (settings_in c) plan s)
+  by_answer : (a : Result ⊤ Refusal) → plan.answer ≡ a → Shows c s k (concluded a (settings_in c) plan s)
   unfolding recorded
-  by_answer Done e = record {
+  by_answer (Ok u) e = record {
     line = rw e;
     machine = refl;
     memory = refl;
@@ -80,7 +80,7 @@ module _ (c : Call) (s : State) (k : ℕ) (size : length s.memory ≡ 65536) (sp
       counted = omega (arith, space.counted);
     };
   }
-  by_answer (Refused x) e =
+  by_answer (Err x) e =
       let r = refused-call c s.memory s.twin.machine x e in
       record {
         line = rw (e, r.machine);

@@ -1,9 +1,7 @@
 -- What is printed of firmware that arrives as S-records. The input is a head of five bytes, ram_top, flags and the count of steps, and then
 -- the text of the S-record file.
 -- Assumes nothing.
-use Rattle.std.specs.Prelude.{ℕ, zero, suc, ◌+◌, ◌*◌, ◌≤◌, ◌<◌, ◌≡◌, Bool, cond, ◌&&◌, List, [], ◌∷◌, ◌++◌, eqb, leb, length, get_or, drop, replicate}
-use Rattle.answers.specs.declared.Answer.{Answer}
-use Rattle.answers.specs.declared.Answer.TheVariants.{Done, Refused}
+use Rattle.std.specs.Prelude.{ℕ, zero, suc, ◌+◌, ◌*◌, ◌≤◌, ◌<◌, ◌≡◌, Bool, cond, ◌&&◌, List, [], ◌∷◌, ◌++◌, eqb, leb, length, get_or, drop, replicate, Err, Ok, Result}
 use Rattle.answers.specs.declared.Refusal.TheVariants.{Malformed}
 use Rattle.srecord.specs.File.{loaded_of, memory_loaded}
 use Rattle.memory.specs.Fits.{Bytes}
@@ -18,6 +16,7 @@ use Rattle.journal.specs.Recorded.{fresh_twin, in_hand}
 use Rattle.runfile.specs.Format.{word_in}
 use Rattle.runfile.specs.declared.Operation.TheVariants.{Step, Reset}
 use Rattle.player.specs.Plays.{call_line, refusal_line, lines, zeros, journal_length}
+use Rattle.answers.specs.declared.Refusal.{Refusal}
 
 -- ---- the head
 
@@ -54,13 +53,13 @@ unfoldable pub run_lines : Settings → ℕ → List ℕ → List ℕ
 run_lines t n mem = report_line (reset_of mem fresh t) ++ step_lines t n (memory_after_reset mem fresh t) (reset_of mem fresh t).machine
 
 -- by the answer to the file: a refused file prints the number of its refusal, a sound one is run in the memory that it left
-abbrev pub loaded_lines : Answer → Settings → ℕ → List ℕ → List ℕ
-loaded_lines (Refused x) t n mem = refusal_line x
-loaded_lines Done t n mem = run_lines t n mem
+abbrev pub loaded_lines : Result ℕ Refusal → Settings → ℕ → List ℕ → List ℕ
+loaded_lines (Err x) t n mem = refusal_line x
+loaded_lines (Ok a) t n mem = run_lines t n mem
 
 -- the file's data are laid in zeroed memory
 unfoldable pub boot_lines : Settings → ℕ → List ℕ → List ℕ
-boot_lines t n file = loaded_lines (loaded_of (zeros 65536) file).answer t n (memory_loaded (zeros 65536) file)
+boot_lines t n file = loaded_lines (loaded_of (zeros 65536) file) t n (memory_loaded (zeros 65536) file)
 
 -- a malformed head prints its number, 16
 unfoldable pub boot_printed : List ℕ → List ℕ

@@ -1,8 +1,7 @@
 -- What the run program prints of a run file (document 01, section "The run program").
 -- Assumes nothing.
-use Rattle.std.specs.Prelude.{ℕ, ◌*◌, ◌≤◌, List, [], ◌∷◌, ◌++◌, ◌≡◌, length, replicate}
+use Rattle.std.specs.Prelude.{ℕ, ◌*◌, ◌≤◌, List, [], ◌∷◌, ◌++◌, ◌≡◌, length, replicate, Result, ⊤}
 use Rattle.answers.specs.Numbers.{number_of, number_of_answer}
-use Rattle.answers.specs.declared.Answer.{Answer}
 use Rattle.answers.specs.declared.Refusal.{Refusal}
 use Rattle.answers.specs.declared.Refusal.TheVariants.{Malformed}
 use Rattle.text.specs.Lines.{line, alone}
@@ -50,7 +49,7 @@ pub record LeavesShown (r : Shown) (memory journal : List ℕ) (e : Ended) : Typ
   pub journal-is : journal ≡ e.state.journal
 
 -- the line of a call, from its answer and the machine after it
-abbrev pub call_line : Answer → Machine → List ℕ
+abbrev pub call_line : Result ⊤ Refusal → Machine → List ℕ
 call_line a m = line (number_of_answer a) m.regs.pc m.regs.cc.reg m.cycles
 
 -- the one line of a refused input

@@ -4,7 +4,7 @@ ghost use Rattle.std.proofs.lemmas.List.Edits.{sets};
 ghost use Rattle.player.specs.Boots.{step_lines, run_lines, boot_lines, boot_printed};
 
 use super::{put_call, put_refusal, zeroed_memory};
-use answers::{Answer, Refusal};
+use answers::Refusal;
 use machine::{Machine, Settings};
 use registers::Flags;
 
@@ -28,13 +28,10 @@ fn put_steps(
 {
     let mut current = machine;
     let mut used = at;
-    let mut left = count;
-    while 0 < left {
+    for _made in 0..count {
         let stepped = calls::step(mem, current, settings);
-        let answer = stepped.answer;
         current = stepped.machine;
-        used += put_call(out, used, answer, current);
-        left -= 1;
+        used += put_call(out, used, stepped.answer, current);
     }
     used
 }
@@ -44,10 +41,8 @@ fn put_run(out: &mut [u8], mem: &mut [u8], settings: Settings, count: u16) -> us
     ensures { (result ≡ length (run_lines settings count mem.old)) × (out.new ≡ sets out.old 0 (run_lines settings count mem.old)) }
 {
     let reset = calls::reset(mem, Machine::fresh(), settings);
-    let answer = reset.answer;
-    let machine = reset.machine;
-    let at = put_call(out, 0, answer, machine);
-    put_steps(out, at, mem, machine, settings, count)
+    let at = put_call(out, 0, reset.answer, reset.machine);
+    put_steps(out, at, mem, reset.machine, settings, count)
 }
 
 // The text of an S-record file, with what the head says.
@@ -55,11 +50,10 @@ fn boot_text(text: &[u8], out: &mut [u8], settings: Settings, count: u16) -> usi
     ensures { (result ≡ length (boot_lines settings count text.now)) × (out.new ≡ sets out.old 0 (boot_lines settings count text.now)) }
 {
     let mut mem = zeroed_memory();
-    let loaded = srecord::read(&mut mem, text);
-    let answer = loaded.answer;
-    match answer {
-        Answer::Refused(refusal) => put_refusal(out, refusal),
-        Answer::Done => put_run(out, &mut mem, settings, count),
+    match srecord::read(&mut mem, text) {
+        // The refusal ends here: its number is printed.
+        Err(refusal) => put_refusal(out, refusal),
+        Ok(_) => put_run(out, &mut mem, settings, count),
     }
 }
 
@@ -76,6 +70,7 @@ pub fn boot(input: &[u8], out: &mut [u8]) -> usize
     let ram_top = runfile::word(input, 0);
     let count = runfile::word(input, 3);
     let text = &input[HEAD..];
+    // The number of the flags is the input's.
     match input[2] {
         0 => boot_text(text, out, Settings::new(ram_top, Flags::Bought), count),
         1 => boot_text(text, out, Settings::new(ram_top, Flags::Manual), count),

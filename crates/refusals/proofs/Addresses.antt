@@ -1,5 +1,6 @@
 -- An address is refused by 4, 5 or 24 alone.
 -- Assumes nothing.
+use Rattle.std.specs.Prelude.{Err, Ok, Result}
 use Prim.Native.Nat.{ℕ, ◌≤◌}
 use mathlib.Core.Bool.{Bool, true, false, ◌&&◌, ◌||◌}
 use mathlib.Core.Path.{◌≡◌, refl}
@@ -9,12 +10,11 @@ use borrow.Author.Tests.{eqb-true, leb-true}
 use lib.Dec.{T, eqb, leb}
 use Rattle.answers.specs.Numbers.{number_of}
 use Rattle.decode.specs.Operand.{operand_bytes, operand_at}
-use Rattle.decode.specs.declared.operand.OperandRead.{OperandRead}
-use Rattle.decode.specs.declared.operand.OperandRead.TheVariants.{Operand, Refused as NotRead}
 use Rattle.decode.proofs.Sound.{SoundRead, operand_sound}
-use Rattle.addressing.specs.declared.Resolved.TheVariants.{Refused}
 use Rattle.addressing.proofs.Refusals.{resolve-refuses}
 use Rattle.refusals.specs.Addresses.{resolved_from, OfAddressing, AddressRefuses}
+use Rattle.answers.specs.declared.Refusal.{Refusal}
+use Rattle.decode.specs.declared.operand.Operand.{Operand}
 
 four : (n : ℕ) → n ≡ 4 → T (eqb n 4 || (eqb n 5 || eqb n 24))
 four n e = rw e tt
@@ -42,6 +42,6 @@ one_of n t = go (leb 4 n) refl (leb n 5) refl (eqb n 24) refl t
 pub address-refuses : AddressRefuses
 address-refuses mode mem r at x = go (operand_at mode mem at) (operand_sound mem mode at)
   where
-    go : (d : OperandRead) → SoundRead mem at (operand_bytes mode) d → resolved_from mem r d ≡ Refused x → OfAddressing x
-    go (Operand o next) k e = rw (resolve-refuses mem r o next x e) tt
-    go (NotRead y) k e = let d : y ≡ x = cc in rw (← d) (one_of (number_of y) k)
+    go : (d : Result (Operand × ℕ) Refusal) → SoundRead mem at (operand_bytes mode) d → resolved_from mem r d ≡ Err x → OfAddressing x
+    go (Ok (o, next)) k e = rw (resolve-refuses mem r o next x e) tt
+    go (Err y) k e = let d : y ≡ x = cc in rw (← d) (one_of (number_of y) k)

@@ -1,5 +1,6 @@
 -- By which number an operation is refused, and when: the tables of 7, 8, 28 and 9 are exact, and there is no other number.
 -- Assumes nothing.
+use Rattle.std.specs.Prelude.{Err, Ok, Result, ⊤}
 use Prim.Native.Nat.{ℕ}
 use mathlib.Core.Bool.{Bool, true, false, not, cond, ◌&&◌, ◌||◌, true≢false}
 use mathlib.Core.List.{List}
@@ -8,8 +9,6 @@ use native.Mathlib.Omega.{arith}
 use borrow.Author.Tests.{ne_eqb}
 use lib.Dec.{T, eqb, leb, ltb}
 use Rattle.answers.specs.Numbers.{number_of, number_of_answer}
-use Rattle.answers.specs.declared.Answer.{Answer}
-use Rattle.answers.specs.declared.Answer.TheVariants.{Done, Refused as Turned}
 use Rattle.answers.specs.declared.Refusal.TheVariants.{Fenced}
 use Rattle.answers.proofs.Numbers.{refused-by-a-number}
 use Rattle.registers.specs.Names.{stack_word}
@@ -31,8 +30,6 @@ use Rattle.operations.specs.Change.{changed_of}
 use Rattle.operations.specs.Refusals.{number_of_changed, names_two, code_refused}
 use Rattle.operations.specs.Transfers.{transferable}
 use Rattle.operations.specs.Words.{store16}
-use Rattle.operations.specs.declared.Changed.{Changed}
-use Rattle.operations.specs.declared.Changed.TheVariants.{After, Refused}
 use Rattle.operations.proofs.Refusals.{change-refuses-exactly}
 use Rattle.stack.specs.Frames.{framed}
 use Rattle.stack.specs.Pushing.{bytes_pushed}
@@ -44,6 +41,7 @@ use Rattle.evaluate.specs.Room.{is_small}
 use Rattle.evaluate.specs.Writes.{frame_writes, made_by}
 use Rattle.evaluate.proofs.Writes.{of-frame}
 use Rattle.refusals.specs.Operations.{is_fenced, leads_to_zero}
+use Rattle.answers.specs.declared.Refusal.{Refusal}
 
 -- n is 7, 8, 9 or 28 exactly where its table says so, and otherwise 0
 pub record Numbered (n : ℕ) (seven eight nine fence : Bool) : Type 0 where
@@ -92,32 +90,32 @@ by-9 n false true false z h e = absurd (true≢false (h refl))
 by-9 n false false true z h e = absurd (true≢false (sym (h refl)))
 
 -- an answer once the fence has judged the writes: 28 where they are barred, and an earlier refusal stays
-abbrev pub fenced_answer : Settings → List Write → Answer → Answer
-fenced_answer s ws Done = cond (bars s ws) (Turned Fenced) Done
-fenced_answer s ws (Turned x) = Turned x
+abbrev pub fenced_answer : Settings → List Write → Result ⊤ Refusal → Result ⊤ Refusal
+fenced_answer s ws (Ok u) = cond (bars s ws) (Err Fenced) (Ok tt)
+fenced_answer s ws (Err x) = Err x
 
 -- its number
-pub judged-number : (s : Settings) (ws : List Write) (a : Answer) → number_of_answer (fenced_answer s ws a) ≡ then28 (number_of_answer a) (bars s ws)
-judged-number s ws Done = go (bars s ws)
+pub judged-number : (s : Settings) (ws : List Write) (a : Result ⊤ Refusal) → number_of_answer (fenced_answer s ws a) ≡ then28 (number_of_answer a) (bars s ws)
+judged-number s ws (Ok u) = go (bars s ws)
   where
-    go : (b : Bool) → number_of_answer (cond b (Turned Fenced) Done) ≡ cond b 28 0
+    go : (b : Bool) → number_of_answer (cond {A = Result ⊤ Refusal} b (Err Fenced) (Ok tt)) ≡ cond b 28 0
     go true = refl
     go false = refl
-judged-number s ws (Turned x) = let e : eqb (number_of x) 0 ≡ false = ne_eqb (number_of x) 0 (λ q. omega (arith, refused-by-a-number x)) in rw e
+judged-number s ws (Err x) = let e : eqb (number_of x) 0 ≡ false = ne_eqb (number_of x) 0 (λ q. omega (arith, refused-by-a-number x)) in rw e
 
 -- a number of 0 is done
-number-done : (a : Answer) → number_of_answer a ≡ 0 → a ≡ Done
-number-done Done e = refl
-number-done (Turned x) e = absurd (omega (arith, refused-by-a-number x))
+number-done : (a : Result ⊤ Refusal) → number_of_answer a ≡ 0 → a ≡ (Ok tt)
+number-done (Ok u) e = refl
+number-done (Err x) e = absurd (omega (arith, refused-by-a-number x))
 
 -- a frame that has room lists its writes
 pub frame-listed : (r : Set) (entire : Bool) → ltb r.s (cond entire 12 3) ≡ false → listed (framed r entire).writes ≡ frame_writes r entire
 frame-listed r entire e = of-frame r entire (number-done (framed r entire).answer (stack-refuses-exactly.frame r entire ∙ rw e))
 
 -- a change of registers has the number of its refusal
-changed-number : (r : Set) (c : Changed) → number_of_answer (effect_of r c).answer ≡ number_of_changed c
-changed-number r (After q) = refl
-changed-number r (Refused x) = refl
+changed-number : (r : Set) (c : Result Set Refusal) → number_of_answer (effect_of r c).answer ≡ number_of_changed c
+changed-number r (Ok q) = refl
+changed-number r (Err x) = refl
 
 module _ (s : Settings) (mem : List ℕ) (r : Set) (ea : ℕ) where
   -- the number of an operation, with the fence

@@ -1,5 +1,6 @@
 -- A step is refused by each number exactly where its law says: from the laws of decoding, of the address and of the operation.
 -- Assumes nothing.
+use Rattle.std.specs.Prelude.{Err, Ok, Result, ⊤}
 use Prim.Native.Nat.{ℕ, ◌≤◌, ◌<◌}
 use mathlib.Core.Bool.{Bool, true, false, cond, not, ◌||◌}
 use mathlib.Core.List.{List}
@@ -10,8 +11,6 @@ use borrow.Author.Tests.{eq-eqb, eqb-true, eqb-false, leb-true}
 use lib.Dec.{T, eqb, eqb→eq, leb, leb→le}
 use lib.ListN.{length}
 use Rattle.answers.specs.Numbers.{number_of, number_of_answer}
-use Rattle.answers.specs.declared.Answer.{Answer}
-use Rattle.answers.specs.declared.Answer.TheVariants.{Done, Refused}
 use Rattle.answers.specs.declared.Refusal.{Refusal}
 use Rattle.answers.specs.declared.Refusal.TheVariants.{MemoryLength, Opcode, PastEnd, PostByte, PostByte8F, Fenced}
 use Rattle.answers.proofs.Numbers.{refused-by-a-number, numbers_apart}
@@ -28,16 +27,12 @@ use Rattle.machine.specs.declared.Wait.TheVariants.{Running, Cwai, Sync}
 use Rattle.opcodes.specs.declared.Op.{Op}
 use Rattle.decode.specs.Decode.{decoded_at}
 use Rattle.decode.specs.Laws.{RefusedSo}
-use Rattle.decode.specs.declared.instruction.Decoded.{Decoded}
-use Rattle.decode.specs.declared.instruction.Decoded.TheVariants.{Instruction as Taken, Refused as NotDecoded}
 use Rattle.decode.specs.declared.instruction.Instruction.{Instruction}
 use Rattle.decode.specs.declared.operand.Operand.{Operand}
 use Rattle.decode.proofs.CutShort.{bytes-refused}
 use Rattle.decode.proofs.Formless.{post-byte-refused}
 use Rattle.decode.proofs.Laws.{decoding-number, decode-refuses, opcode-refused}
 use Rattle.addressing.specs.Address.{resolved_of}
-use Rattle.addressing.specs.declared.Resolved.{Resolved}
-use Rattle.addressing.specs.declared.Resolved.TheVariants.{At as Addressed, Refused as NoAddress}
 use Rattle.addressing.proofs.Refusals.{resolve-refuses, next-refused}
 use Rattle.evaluate.specs.Arming.{arms}
 use Rattle.operations.specs.Refusals.{code_refused}
@@ -52,6 +47,7 @@ use Rattle.calls.specs.Steps.{Reached, At, NotReached, addressed, of_decoded, de
 use Rattle.refusals.specs.Operations.{is_fenced, leads_to_zero}
 use Rattle.refusals.specs.Steps.{Runs, NextPast, Met, StepsRefused}
 use Rattle.refusals.proofs.Operations.{fenced_answer, number_with, operation-number}
+use Rattle.addressing.specs.declared.Addressed.{Addressed}
 
 -- ---- the numbers of the parts
 
@@ -66,18 +62,18 @@ whole mem s (At i r ea) = number_with s mem r ea i.entry.op
 whole mem s (NotReached x) = number_of x
 
 -- a plan that is made of an effect, once the fence has judged it; made are the writes of the effect where it is carried out
-done : (s : Settings) (m : Machine) (cycles reads : ℕ) (mark : Bool) (e : Effect) (made : List Write) → (e.answer ≡ Done → listed e.writes ≡ made)
+done : (s : Settings) (m : Machine) (cycles reads : ℕ) (mark : Bool) (e : Effect) (made : List Write) → (e.answer ≡ (Ok tt) → listed e.writes ≡ made)
     → number_of_answer (fenced s m (finished m cycles mark reads e)).answer ≡ number_of_answer (fenced_answer s made e.answer)
 unfolding finished barred
 done s m cycles reads mark e made h = go e.answer h
   where
-    through : (b : Bool) (p : Plan) → p.answer ≡ Done → number_of_answer (cond b (refused_with m Fenced) p).answer ≡ number_of_answer (cond b (Refused Fenced) Done)
+    through : (b : Bool) (p : Plan) → p.answer ≡ (Ok tt) → number_of_answer (cond b (refused_with m Fenced) p).answer ≡ number_of_answer (cond {A = Result ⊤ Refusal} b (Err Fenced) (Ok tt))
     through true p d = refl
     through false p d = ap number_of_answer d
 
-    go : (a : Answer) → (a ≡ Done → listed e.writes ≡ made) → number_of_answer (fenced s m (finished_as a m cycles mark reads e)).answer ≡ number_of_answer (fenced_answer s made a)
-    go Done k = rw (k refl) (through (bars s made) _ refl)
-    go (Refused x) k = refl
+    go : (a : Result ⊤ Refusal) → (a ≡ (Ok tt) → listed e.writes ≡ made) → number_of_answer (fenced s m (finished_as a m cycles mark reads e)).answer ≡ number_of_answer (fenced_answer s made a)
+    go (Ok u) k = rw (k refl) (through (bars s made) _ refl)
+    go (Err x) k = refl
 
 step-number : (mem : List ℕ) (m : Machine) (s : Settings) → number_of_answer (step_plan mem m s).answer ≡ whole mem s (reached mem m)
 unfolding step_plan barred
@@ -93,42 +89,42 @@ step-number mem m s = go (reached mem m)
 abbrev OfAddress : ℕ → Type 0
 OfAddress n = (n ≡ 0) ⊎ (n ≡ 4)
 
-of-resolved : (i : Instruction) (x : Resolved) → ((y : Refusal) → x ≡ NoAddress y → y ≡ PastEnd) → OfAddress (before (addressed i x))
-of-resolved i (Addressed a) k = inl refl
-of-resolved i (NoAddress x) k = inr (ap number_of (k x refl))
+of-resolved : (i : Instruction) (x : Result Addressed Refusal) → ((y : Refusal) → x ≡ Err y → y ≡ PastEnd) → OfAddress (before (addressed i x))
+of-resolved i (Ok a) k = inl refl
+of-resolved i (Err x) k = inr (ap number_of (k x refl))
 
 -- a refusal and its number
-resolved-by : (i : Instruction) (x : Resolved) (y : Refusal) → (before (addressed i x) ≡ number_of y) ↔ (x ≡ NoAddress y)
-resolved-by i (Addressed a) y =
+resolved-by : (i : Instruction) (x : Result Addressed Refusal) (y : Refusal) → (before (addressed i x) ≡ number_of y) ↔ (x ≡ Err y)
+resolved-by i (Ok a) y =
     (λ q. absurd (omega (arith, refused-by-a-number y)), λ q. let z : ◌≡◌ {A = ℕ} 0 1 = cc in absurd (omega arith))
-resolved-by i (NoAddress x) y = (λ q. ap NoAddress (numbers_apart x y q), λ q. let d : x ≡ y = cc in ap number_of d)
+resolved-by i (Err x) y = (λ q. ap Err (numbers_apart x y q), λ q. let d : x ≡ y = cc in ap number_of d)
 
 module _ (mem : List ℕ) (r : Set) where
-  abbrev number : Decoded → ℕ
+  abbrev number : Result Instruction Refusal → ℕ
   number d = before (of_decoded mem r d)
 
   address-number : (i : Instruction) (o : Operand) (next : ℕ) → OfAddress (before (addressed i (resolved_of mem r o next)))
   address-number i o next = of-resolved i (resolved_of mem r o next) (resolve-refuses mem r o next)
 
   -- 3, 5 and 24: by decoding alone
-  by-decoding : (y : Refusal) → (OfAddress (number_of y) → ⊥) → {P : Type 0} (d : Decoded) → (d ≡ NotDecoded y) ↔ P → (number d ≡ number_of y) ↔ P
-  by-decoding y n (Taken i) f = (
+  by-decoding : (y : Refusal) → (OfAddress (number_of y) → ⊥) → {P : Type 0} (d : Result Instruction Refusal) → (d ≡ Err y) ↔ P → (number d ≡ number_of y) ↔ P
+  by-decoding y n (Ok i) f = (
     λ q. absurd (n (rw q at (address-number i i.operand i.next))),
     λ p. let c = f.1 p in let z : ◌≡◌ {A = ℕ} 0 1 = cc in absurd (omega arith),
   )
-  by-decoding y n (NotDecoded x) f =
-      (λ q. f.0 (ap NotDecoded (numbers_apart x y q)), λ p. let c = f.1 p in let d : x ≡ y = cc in ap number_of d)
+  by-decoding y n (Err x) f =
+      (λ q. f.0 (ap Err (numbers_apart x y q)), λ p. let c = f.1 p in let d : x ≡ y = cc in ap number_of d)
 
   -- 4: by decoding or by the next address
-  by-four : {P : Type 0} (d : Decoded) → (d ≡ NotDecoded PastEnd) ↔ P → (number d ≡ 4) ↔ (P ⊎ NextPast d)
-  by-four (Taken i) f =
+  by-four : {P : Type 0} (d : Result Instruction Refusal) → (d ≡ Err PastEnd) ↔ P → (number d ≡ 4) ↔ (P ⊎ NextPast d)
+  by-four (Ok i) f =
       let b = resolved-by i (resolved_of mem r i.operand i.next) PastEnd in
       let g = next-refused mem r i.operand i.next in (
         λ q. inr (g.0 (b.0 q)),
         λ h. ⊎_elim (λ p. let c = f.1 p in let z : ◌≡◌ {A = ℕ} 0 1 = cc in absurd (omega arith)) (λ k. b.1 (g.1 k)) h,
       )
-  by-four (NotDecoded x) f = (
-    λ q. inl (f.0 (ap NotDecoded (numbers_apart x PastEnd q))),
+  by-four (Err x) f = (
+    λ q. inl (f.0 (ap Err (numbers_apart x PastEnd q))),
     λ h. ⊎_elim (λ p. let c = f.1 p in let d : x ≡ PastEnd = cc in ap number_of d) (λ k. absurd k) h,
   )
 
@@ -146,9 +142,9 @@ module _ (mem : List ℕ) (r : Set) where
   of_number n (inl (l, h)) = record { one = λ q. omega arith; two = λ q. omega arith; most = inl (omega arith) }
   of_number n (inr e) = record { one = λ q. omega arith; two = λ q. omega arith; most = inr e }
 
-  middle : (d : Decoded) → RefusedSo d → Middle (number d)
-  middle (Taken i) k = of-address _ (address-number i i.operand i.next)
-  middle (NotDecoded x) k = of_number (number_of x) (decoding-number x k)
+  middle : (d : Result Instruction Refusal) → RefusedSo d → Middle (number d)
+  middle (Ok i) k = of-address _ (address-number i i.operand i.next)
+  middle (Err x) k = of_number (number_of x) (decoding-number x k)
 
 -- ---- 1 and 2 come first
 
@@ -171,7 +167,7 @@ module _ (mem : List ℕ) (m : Machine) where
       go true d = waiting (eqb-true (length mem) 65536 d) m.wait refl
       go false d = short refl (eqb-false (length mem) 65536 d)
 
-  abbrev here : Decoded
+  abbrev here : Result Instruction Refusal
   here = decoded_at mem m.regs.pc
 
   in-middle : Middle mem m.regs (number mem m.regs here)
@@ -283,7 +279,7 @@ steps-refused mem m s b l = record {
     pc : ℕ
     pc = m.regs.pc
 
-    d : Decoded
+    d : Result Instruction Refusal
     d = decoded_at mem m.regs.pc
 
     c : Case mem m (before (reached mem m))

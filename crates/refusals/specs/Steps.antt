@@ -1,7 +1,7 @@
 -- When a step is refused: for each number that it can return the exact case, in the words and the order of document 01,
 -- "Numbers returned", and of document 02. The numbers 10 and 12 belong to the recorded step (crate journal).
 -- Assumes nothing.
-use Rattle.std.specs.Prelude.{ℕ, ◌≤◌, ◌<◌, Bool, true, List, ◌↔◌, ◌≢◌, ◌⊎◌, ◌≡◌, length}
+use Rattle.std.specs.Prelude.{ℕ, ◌≤◌, ◌<◌, Bool, true, List, ◌↔◌, ◌≢◌, ◌⊎◌, ◌≡◌, length, Err, Ok, Result}
 use Rattle.answers.specs.Numbers.{number_of_answer}
 use Rattle.answers.specs.declared.Refusal.TheVariants.{PostByte, PostByte8F}
 use Rattle.registers.specs.declared.Set.{Set}
@@ -13,12 +13,12 @@ use Rattle.machine.specs.declared.Wait.TheVariants.{Running}
 use Rattle.opcodes.specs.declared.Op.{Op}
 use Rattle.decode.specs.Decode.{located, decoded_at}
 use Rattle.decode.specs.Laws.{Unnamed, PrefixAtTop, CutShort, Formless}
-use Rattle.decode.specs.declared.instruction.Decoded.{Decoded}
-use Rattle.decode.specs.declared.instruction.Decoded.TheVariants.{Instruction, Refused as NotDecoded}
 use Rattle.operations.specs.Refusals.{code_refused}
 use Rattle.evaluate.specs.Room.{is_small}
 use Rattle.calls.specs.Steps.{Reached, At, NotReached, reached, step_of}
 use Rattle.refusals.specs.Operations.{is_fenced, leads_to_zero}
+use Rattle.answers.specs.declared.Refusal.{Refusal}
+use Rattle.decode.specs.declared.instruction.Instruction.{Instruction}
 
 -- a step is answered by the number n
 abbrev pub Answers : List ℕ → Machine → Settings → ℕ → Type 0
@@ -36,9 +36,9 @@ abbrev pub BytePast : List ℕ → ℕ → Type 0
 BytePast mem pc = PrefixAtTop mem pc ⊎ CutShort (located mem pc) mem
 
 -- the next address: the instruction is whole, and the address after it lies past FFFF
-abbrev pub NextPast : Decoded → Type 0
-NextPast (Instruction i) = 0xFFFF < i.next
-NextPast (NotDecoded x) = ⊥
+abbrev pub NextPast : Result Instruction Refusal → Type 0
+NextPast (Ok i) = 0xFFFF < i.next
+NextPast (Err x) = ⊥
 
 -- ---- 7, 8, 28 and 9: the tables are in Operations.antt
 

@@ -1,9 +1,9 @@
 -- What the code's masks, shifts and comparisons of bytes and words come to.
 -- Assumes nothing.
-use Rattle.std.proofs.Common.{◌≡◌, ℕ, suc, ◌+◌, ◌*◌, ◌/◌, ◌%◌, ◌^◌, ◌<◌, ◌≤◌, Bool, true, false, eqb, leb, sym, refl, ap, ◌∙◌, ap₂, lt_of_le_of_lt, le_of_lt, mul-le-mul_left, mul-lt-mul_of_pos_right, pow-suc, arith, pow_pos, eq-eqb, ne_eqb, leb-false, leb-true}
+use Rattle.std.proofs.Common.{◌≡◌, ℕ, suc, ◌+◌, ◌*◌, ◌/◌, ◌%◌, ◌^◌, ◌<◌, ◌≤◌, Bool, true, false, eqb, leb, sym, refl, ap, ◌∙◌, lt_of_le_of_lt, le_of_lt, mul-le-mul_left, mul-lt-mul_of_pos_right, pow-suc, arith, eq-eqb, ne_eqb, leb-false, leb-true}
 use native.Mathlib.Nat.{div-eq_of_lt, div-eq_of_lt-le}
 use lib.Bits.{bit_and, bit_or, and_mask, or_shifted, or_shifted_r}
-use Rattle.registers.specs.ConditionCodes.{digit, bit_at}
+use Rattle.registers.specs.ConditionCodes.{bit_at}
 use Rattle.registers.proofs.Masks.{and_one}
 
 -- the highest bit is 1 from the half on

@@ -62,10 +62,6 @@ module _ (a m c r : ℕ) (la : a < 256) (lm : m < 256) (lc : c ≤ 1) where
       go false true true f g h = sym (above (x + 128) (y + c) (128 + (y + c)) x (omega (arith, leb-true, leb-false)) (omega (arith, leb-true, leb-false)))
       go false true false f g h = none (omega (arith, leb-true, leb-false)) (omega (arith, leb-true, leb-false))
 
--- the difference as the code makes it: d is a less m, r is d less c
-pub less-less : (a m c d r : ℕ) → a < 256 → m < 256 → c ≤ 1 → d < 256 → r < 256 → (d + m) % 256 ≡ a → (r + c) % 256 ≡ d → r ≡ (a + 256 - (m + c)) % 256
-less-less a m c d r la lm lc ld lr e f = omega arith
-
 -- bit 3 is the highest of the low half of a byte
 low_half : (n : ℕ) → bit_at 3 n ≡ leb 8 (n % 16)
 unfolding bit_at

@@ -1,5 +1,6 @@
 pub mod Masks
 pub mod Whole
+pub mod Leaving
 pub mod Reading
 pub mod Bits
 pub mod SettingsV

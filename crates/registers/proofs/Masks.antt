@@ -1,9 +1,9 @@
 -- Masks of one bit: `n | 2^k`, `n & 2^k` and `n & !2^k`, and the laws of setting and reading a flag.
 -- Assumes nothing.
-use Rattle.std.proofs.Common.{◌≡◌, ℕ, zero, suc, ◌+◌, ◌-◌, ◌*◌, ◌/◌, ◌%◌, ◌^◌, ◌<◌, ◌≤◌, min, max, Bool, true, false, not, eqb, ◌≢◌, sym, refl, ap, ◌∙◌, subst, ap₂, lt_of_lt_of_le, lt_of_le_of_lt, le_of_lt, mod-lt, pow-suc, arith, lit<, pow_pos, pow_mono, shr-shr, eq-eqb, ne_eqb}
+use Rattle.std.proofs.Common.{◌≡◌, ℕ, zero, suc, ◌+◌, ◌-◌, ◌*◌, ◌/◌, ◌%◌, ◌^◌, ◌<◌, min, Bool, true, false, not, eqb, ◌≢◌, sym, refl, ap, ◌∙◌, subst, ap₂, lt_of_le_of_lt, mod-lt, pow-suc, arith, lit<, pow_pos, shr-shr, eq-eqb, ne_eqb}
 use native.Mathlib.Decide.{dec_lt}
 use lib.Pow.{split, high, low, field, mod-mod-pow, pow-lt}
-use lib.Bits.{bit_and, bit_or, or_block, and_block, or_step, and_step, or_zero_r, and_zero_r, and_zero_l, and_mask, or_lt, and_le_l}
+use lib.Bits.{bit_and, bit_or, or_block, and_block, or_step, and_step, or_zero_r, and_zero_r, and_mask, or_lt, and_le_l}
 use Rattle.registers.specs.ConditionCodes.{place, digit, with_bit, bit_at, put}
 use Rattle.registers.specs.declared.CCBits.{CCBits}
 use Rattle.registers.specs.declared.CCBit.{CCBit}

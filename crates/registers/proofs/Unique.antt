@@ -1,7 +1,8 @@
 -- No second answer fits a public function's contract.
 -- Assumes nothing.
 use Rattle.std.proofs.Common.{sym, refl, ◌∙◌}
-use Rattle.answers.proofs.Determined.{Determines}
+use Rattle.registers.specs.ConditionCodes.{told}
+use Rattle.answers.proofs.Determined.{Determines, TellsOne}
 use Rattle.registers.proofs.CCBit
 use Rattle.registers.proofs.CCBits
 use Rattle.registers.proofs.Name
@@ -11,8 +12,11 @@ use Rattle.registers.proofs.Stack
 use Rattle.registers.proofs.Set
 use Rattle.registers.proofs.names
 
-pub info : Determines 0 CCBit.info.Kinds.ps CCBit.info.Kinds.r CCBit.info.Reads.Post
+pub info : TellsOne 1 CCBit.info.Kinds.ps CCBit.info.Kinds.r (λ κs i. told i) CCBit.info.Reads.Post
 info κs a x y ws vs p q = (p ∙ sym q, refl)
+
+pub to-str : TellsOne 1 Name.to_str.Kinds.ps Name.to_str.Kinds.r (λ κs s. s.now) Name.to_str.Reads.Post
+to-str κs a x y ws vs p q = (p ∙ sym q, refl)
 
 pub set-from-byte : Determines 0 CCBits.set_from_byte.Kinds.ps CCBits.set_from_byte.Kinds.r CCBits.set_from_byte.Reads.Post
 set-from-byte κs a x y ws vs p q = (p ∙ sym q, refl)
@@ -94,9 +98,6 @@ mul κs a x y ws vs p q = (p ∙ sym q, refl)
 
 pub codes-reset : Determines 0 CCBits.reset.Kinds.ps CCBits.reset.Kinds.r CCBits.reset.Reads.Post
 codes-reset κs a x y ws vs p q = (p ∙ sym q, refl)
-
-pub to-str : Determines 0 Name.to_str.Kinds.ps Name.to_str.Kinds.r Name.to_str.Reads.Post
-to-str κs a x y ws vs p q = (p ∙ sym q, refl)
 
 pub reg-size : Determines 0 names.reg_size.Kinds.ps names.reg_size.Kinds.r names.reg_size.Reads.Post
 reg-size κs a x y ws vs p q = (p ∙ sym q, refl)

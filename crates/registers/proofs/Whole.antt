@@ -18,11 +18,11 @@ tests a b c d h = go (leb a b) (leb c d) refl refl
     go false true e f = absurd (omega (arith, h.1 (leb-true c d f), leb-false a b e))
 
 -- z is a - b
-abbrev Differs : ℤ → ℕ → ℕ → Type 0
+abbrev pub Differs : ℤ → ℕ → ℕ → Type 0
 Differs (pos n) a b = n + b ≡ a
 Differs (negsuc n) a b = a + suc n ≡ b
 
-record Is (z : ℤ) (a b : ℕ) : Type 0 where
+pub record Is (z : ℤ) (a b : ℕ) : Type 0 where
   eq : Differs z a b
 
 sub_is : (m n : ℕ) {a b : ℕ} → m + b ≡ a + n → Is (sub_ℕ m n) a b
@@ -36,8 +36,11 @@ is-also : (z : ℤ) {a b : ℕ} → Is z a b → {c d : ℕ} → a + d ≡ c + b
 is-also (pos n) i e = omega arith
 is-also (negsuc n) i e = omega arith
 
-pos-is : (n : ℕ) → Is (pos n) n 0
+pub pos-is : (n : ℕ) → Is (pos n) n 0
 pos-is n = omega arith
+
+pub neg-alone-is : (n : ℕ) → Is (negsuc n) 0 (suc n)
+neg-alone-is n = omega arith
 
 add_is : (x y : ℤ) {a b c d : ℕ} → Is x a b → Is y c d → Is (x +ℤ y) (a + c) (b + d)
 add_is (pos m) (pos n) h k = omega arith
@@ -70,7 +73,7 @@ abbrev pub lift : ℕ → ℕ → ℕ
 lift h a = cond (ltb a h) (a + h) (a - h)
 
 module _ (h : ℕ) where
-  outside-is : (z : ℤ) {a b : ℕ} → Is z a b → outside h z ≡ (ltb (a + h) b || leb (h + b) a)
+  pub outside-is : (z : ℤ) {a b : ℕ} → Is z a b → outside h z ≡ (ltb (a + h) b || leb (h + b) a)
   unfolding outside
   outside-is z {a} {b} i =
       ap₂ ◌||◌ (lt-is z (neg_ℤ (pos h)) i (neg_is (pos h) (pos-is h)) ∙ tests (suc (a + h)) (0 + b) (suc (a + h)) b (omega arith))

@@ -7,8 +7,7 @@ use Rattle.registers.specs.ConditionCodes.{digit, exclusive_or, bit_at, put, fla
 use Rattle.registers.specs.declared.CCBit.{CCBit}
 use Rattle.registers.specs.declared.CCBit.TheVariants.{C, «V», Z, N, H}
 use Rattle.registers.specs.declared.CCBits.{CCBits}
-use Rattle.registers.specs.declared.Out8.{Out8}
-use Rattle.registers.specs.declared.Out16.{Out16}
+use Rattle.registers.specs.declared.Out.{Out}
 
 -- the operations of this crate, by the manual's mnemonics; AND16 is AND on words, which the manual does not have
 pub data Operation : Type 0 where
@@ -52,11 +51,8 @@ codes cc [] = cc
 codes cc ((f := v) ∷ rest) = put f v (codes cc rest)
 
 -- the result and the register, of a byte and of a word
-abbrev pub out8 : CCBits → Page → Out8
-out8 cc p = record { cc = codes cc p.flags; value = p.value }
-
-abbrev pub out16 : CCBits → Page → Out16
-out16 cc p = record { cc = codes cc p.flags; value = p.value }
+abbrev pub of_page : CCBits → Page → Out ℕ
+of_page cc p = record { cc = codes cc p.flags; value = p.value }
 
 -- N: set if the result is negative. Z: set if the result is zero. h is 80 for a byte, 8000 for a word
 abbrev pub negative_and_zero : ℕ → ℕ → List Line

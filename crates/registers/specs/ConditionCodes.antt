@@ -1,6 +1,6 @@
 -- The condition code register: eight flags, a place for each (manual, section "Condition Code Register").
 -- Assumes nothing.
-use Rattle.std.specs.Prelude.{ℕ, ◌+◌, ◌-◌, ◌*◌, ◌/◌, ◌%◌, ◌^◌, Bool, true, false, not, List, [], ◌∷◌, ◌++◌, length, replicate, ◌==◌}
+use Rattle.std.specs.Prelude.{ℕ, ◌+◌, ◌*◌, ◌/◌, ◌%◌, ◌^◌, Bool, true, false, not, List, [], ◌∷◌, ◌==◌}
 use Prim.Native.Char.{Char, code}
 use Prim.Native.String.{String, [] as no_text, ◌∷◌ as ◌then◌}
 use Rattle.std.specs.Bool.{beq}
@@ -51,18 +51,20 @@ abbrev pub ascii : String → List ℕ
 ascii no_text = []
 ascii (letter then rest) = code letter ∷ ascii rest
 
--- a text at the front of n bytes, zeros after it
-abbrev pub padded : ℕ → String → List ℕ
-padded n text = ascii text ++ replicate (n - length (ascii text)) 0
+-- what is known of a flag: its mask, its letter, and its name, wherever the name's text lies
+pub record Info : Type 0 where
+  pub mask : ℕ
+  pub short : ℕ
+  pub name : List ℕ
 
-abbrev pub info_with : ℕ → ℕ → List ℕ → ℕ → CCInfo
-info_with mask letter name n = record { mask = mask; short = letter; name = name; len = n }
+abbrev pub told : CCInfo → Info
+told i = record { mask = i.mask; short = i.short; name = i.name.now }
 
-abbrev info : ℕ → Char → String → CCInfo
-info mask letter name = info_with mask (code letter) (padded 11 name) (length (ascii name))
+abbrev info : ℕ → Char → String → Info
+info mask letter name = record { mask = mask; short = code letter; name = ascii name }
 
 -- the mask, the letter and the name of each flag
-abbrev pub info_of : CCBit → CCInfo
+abbrev pub info_of : CCBit → Info
 info_of C = info 0x01 "C" "carry"
 info_of «V» = info 0x02 "V" "overflow"
 info_of Z = info 0x04 "Z" "zero"

@@ -1,9 +1,7 @@
 -- The registers' names, sizes and letters; and Word, Index and Stack, which name some of the registers, turned into names of the set.
 -- Assumes nothing.
-use Rattle.std.specs.Prelude.{ℕ, List, length}
-use Prim.Native.String.{String}
-use Rattle.registers.specs.ConditionCodes.{ascii, padded}
-use Rattle.registers.specs.declared.Letters.{Letters}
+use Rattle.std.specs.Prelude.{ℕ, List}
+use Rattle.registers.specs.ConditionCodes.{ascii}
 use Rattle.registers.specs.declared.Name.{Name}
 use Rattle.registers.specs.declared.Name.TheVariants.{A, B, D, X, Y, U, S, PC, DP, CC}
 use Rattle.registers.specs.declared.Word.{Word}
@@ -25,23 +23,18 @@ register_size PC = 2
 register_size DP = 1
 register_size CC = 1
 
-abbrev pub letters_with : List ℕ → ℕ → Letters
-letters_with bytes n = record { bytes = bytes; len = n }
-
-abbrev letters : String → Letters
-letters name = letters_with (padded 2 name) (length (ascii name))
-
-abbrev pub register_text : Name → Letters
-register_text A = letters "A"
-register_text B = letters "B"
-register_text D = letters "D"
-register_text X = letters "X"
-register_text Y = letters "Y"
-register_text U = letters "U"
-register_text S = letters "S"
-register_text PC = letters "PC"
-register_text DP = letters "DP"
-register_text CC = letters "CC"
+-- the letters of its name
+abbrev pub register_text : Name → List ℕ
+register_text A = ascii "A"
+register_text B = ascii "B"
+register_text D = ascii "D"
+register_text X = ascii "X"
+register_text Y = ascii "Y"
+register_text U = ascii "U"
+register_text S = ascii "S"
+register_text PC = ascii "PC"
+register_text DP = ascii "DP"
+register_text CC = ascii "CC"
 
 -- the registers of 16 bits that LD, ST and CMP name, as registers
 abbrev pub word_name : Word → Name

@@ -1,54 +1,33 @@
 // The condition code register, bit by bit.
 ghost use Rattle.std.specs.Prelude.{◌≡◌, ◌^◌, bit_or};
-ghost use Rattle.registers.specs.ConditionCodes.{place, info_with, info_of, coded, put, flag};
+ghost use Rattle.registers.specs.ConditionCodes.{place, told, info_of, coded, put, flag};
 
 use crate::{CCBit, CCBits, CCInfo};
-
-fn place_of(bit: CCBit) -> u8
-    ensures { result ≡ place bit }
-{
-    match bit {
-        CCBit::C => 0,
-        CCBit::V => 1,
-        CCBit::Z => 2,
-        CCBit::N => 3,
-        CCBit::I => 4,
-        CCBit::H => 5,
-        CCBit::F => 6,
-        CCBit::E => 7,
-    }
-}
 
 fn mask(bit: CCBit) -> u8
     ensures { result ≡ 2 ^ place bit }
 {
-    1u8 << place_of(bit)
-}
-
-fn info_of(mask: u8, short: u8, name: [u8; 11], len: usize) -> CCInfo
-    ensures { result ≡ info_with mask short name len }
-{
-    CCInfo {
-        mask,
-        short,
-        name,
-        len,
-    }
+    1 << bit as u8
 }
 
 impl CCBit {
     pub fn info(self) -> CCInfo
-        ensures { result ≡ info_of self }
+        ensures { told result ≡ info_of self }
     {
-        match self {
-            CCBit::C => info_of(0x01, b'C', *b"carry\0\0\0\0\0\0", 5),
-            CCBit::V => info_of(0x02, b'V', *b"overflow\0\0\0", 8),
-            CCBit::Z => info_of(0x04, b'Z', *b"zero\0\0\0\0\0\0\0", 4),
-            CCBit::N => info_of(0x08, b'N', *b"negative\0\0\0", 8),
-            CCBit::I => info_of(0x10, b'I', *b"IRQ mask\0\0\0", 8),
-            CCBit::H => info_of(0x20, b'H', *b"half carry\0", 10),
-            CCBit::F => info_of(0x40, b'F', *b"FIRQ mask\0\0", 9),
-            CCBit::E => info_of(0x80, b'E', *b"entire flag", 11),
+        let (short, name) = match self {
+            CCBit::C => (b'C', "carry"),
+            CCBit::V => (b'V', "overflow"),
+            CCBit::Z => (b'Z', "zero"),
+            CCBit::N => (b'N', "negative"),
+            CCBit::I => (b'I', "IRQ mask"),
+            CCBit::H => (b'H', "half carry"),
+            CCBit::F => (b'F', "FIRQ mask"),
+            CCBit::E => (b'E', "entire flag"),
+        };
+        CCInfo {
+            mask: mask(self),
+            short,
+            name,
         }
     }
 }

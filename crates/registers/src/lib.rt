@@ -11,7 +11,7 @@ mod register_set;
 pub use names::reg_size;
 
 // The flags of the condition code register, from bit 0 up.
-#[derive(Clone, Copy)]
+#[derive(Clone, Copy, PartialEq, Eq)]
 pub enum CCBit {
     C,
     V,
@@ -24,42 +24,35 @@ pub enum CCBit {
 }
 
 // The condition code register. Its methods are the fundamental math operations.
-#[derive(Clone, Copy)]
+#[derive(Clone, Copy, PartialEq, Eq)]
 pub struct CCBits {
     pub reg: u8,
 }
 
-// What is known of a flag: its mask, its letter, and its name, of which the first `len` bytes count.
+// What is known of a flag: its mask, its letter, and its name.
 #[derive(Clone, Copy)]
 pub struct CCInfo {
     pub mask: u8,
     pub short: u8,
-    pub name: [u8; 11],
-    pub len: usize,
+    pub name: &'static str,
 }
 
 // How V is set where the Rust and the manual part.
-#[derive(Clone, Copy)]
+#[derive(Clone, Copy, PartialEq, Eq)]
 pub enum Flags {
     Bought,
     Manual,
 }
 
-// A result, and the condition codes after it.
+// A result of one byte or two, and the condition codes after it.
 #[derive(Clone, Copy)]
-pub struct Out8 {
+pub struct Out<T> {
     pub cc: CCBits,
-    pub value: u8,
-}
-
-#[derive(Clone, Copy)]
-pub struct Out16 {
-    pub cc: CCBits,
-    pub value: u16,
+    pub value: T,
 }
 
 // The registers' names.
-#[derive(Clone, Copy)]
+#[derive(Clone, Copy, PartialEq, Eq)]
 pub enum Name {
     A,
     B,
@@ -74,7 +67,7 @@ pub enum Name {
 }
 
 // The registers of 16 bits that LD, ST and CMP name.
-#[derive(Clone, Copy)]
+#[derive(Clone, Copy, PartialEq, Eq)]
 pub enum Word {
     D,
     X,
@@ -84,7 +77,7 @@ pub enum Word {
 }
 
 // The index registers, which a post-byte and LEA name.
-#[derive(Clone, Copy)]
+#[derive(Clone, Copy, PartialEq, Eq)]
 pub enum Index {
     X,
     Y,
@@ -93,21 +86,14 @@ pub enum Index {
 }
 
 // The stack pointers.
-#[derive(Clone, Copy)]
+#[derive(Clone, Copy, PartialEq, Eq)]
 pub enum Stack {
     S,
     U,
 }
 
-// A register's name in letters, of which the first `len` count.
-#[derive(Clone, Copy)]
-pub struct Letters {
-    pub bytes: [u8; 2],
-    pub len: usize,
-}
-
 // The register set. D is 256 A + B and not stored. The words stand first, so that the struct has no gap.
-#[derive(Clone, Copy)]
+#[derive(Clone, Copy, PartialEq, Eq)]
 pub struct Set {
     pub x: u16,
     pub y: u16,

@@ -1,30 +1,24 @@
 // The registers' names: their letters and sizes; and Word, Index and Stack, which name some of the registers, turned into names of the set.
 ghost use Rattle.std.specs.Prelude.{◌≡◌};
-ghost use Rattle.registers.specs.Names.{register_size, letters_with, register_text, word_name, index_word, stack_word, other_stack};
+ghost use Rattle.registers.specs.Names.{register_size, register_text, word_name, index_word, stack_word, other_stack};
 
-use crate::{Index, Letters, Name, Stack, Word};
-
-fn letters_of(bytes: [u8; 2], len: usize) -> Letters
-    ensures { result ≡ letters_with bytes len }
-{
-    Letters { bytes, len }
-}
+use crate::{Index, Name, Stack, Word};
 
 impl Name {
-    pub fn to_str(self) -> Letters
-        ensures { result ≡ register_text self }
+    pub fn to_str(self) -> &'static str
+        ensures { result.now ≡ register_text self }
     {
         match self {
-            Name::A => letters_of(*b"A\0", 1),
-            Name::B => letters_of(*b"B\0", 1),
-            Name::D => letters_of(*b"D\0", 1),
-            Name::X => letters_of(*b"X\0", 1),
-            Name::Y => letters_of(*b"Y\0", 1),
-            Name::U => letters_of(*b"U\0", 1),
-            Name::S => letters_of(*b"S\0", 1),
-            Name::PC => letters_of(*b"PC", 2),
-            Name::DP => letters_of(*b"DP", 2),
-            Name::CC => letters_of(*b"CC", 2),
+            Name::A => "A",
+            Name::B => "B",
+            Name::D => "D",
+            Name::X => "X",
+            Name::Y => "Y",
+            Name::U => "U",
+            Name::S => "S",
+            Name::PC => "PC",
+            Name::DP => "DP",
+            Name::CC => "CC",
         }
     }
 }
@@ -33,19 +27,12 @@ pub fn reg_size(reg: Name) -> u16
     ensures { result ≡ register_size reg }
 {
     match reg {
-        Name::A => 1,
-        Name::B => 1,
-        Name::D => 2,
-        Name::X => 2,
-        Name::Y => 2,
-        Name::U => 2,
-        Name::S => 2,
-        Name::PC => 2,
-        Name::DP => 1,
-        Name::CC => 1,
+        Name::A | Name::B | Name::DP | Name::CC => 1,
+        Name::D | Name::X | Name::Y | Name::U | Name::S | Name::PC => 2,
     }
 }
 
+// Methods and no `From`: `stack.word().name()` says which of the three kinds of names each step gives.
 impl Word {
     pub fn name(self) -> Name
         ensures { result ≡ word_name self }

@@ -3,7 +3,7 @@ ghost use Rattle.std.specs.Prelude.{◌≡◌};
 ghost use Rattle.registers.specs.RegisterSet.{after_reset, written, read, word_of, with_word, with_pc};
 
 use crate::{CCBits, Name, Set, Word};
-use u8oru16::{OptionU8, u8u16};
+use u8oru16::u8u16;
 
 impl Set {
     pub fn reset() -> Set
@@ -28,11 +28,7 @@ impl Set {
         match reg {
             Name::A => self.a = val.u8(),
             Name::B => self.b = val.u8(),
-            Name::D => {
-                let d = val.u16();
-                self.a = (d / 256) as u8;
-                self.b = (d % 256) as u8;
-            }
+            Name::D => [self.a, self.b] = val.u16().to_be_bytes(),
             Name::X => self.x = val.u16(),
             Name::Y => self.y = val.u16(),
             Name::U => self.u = val.u16(),
@@ -50,7 +46,7 @@ impl Set {
         match reg {
             Name::A => u8u16::u8(self.a),
             Name::B => u8u16::u8(self.b),
-            Name::D => u8u16::new(self.b, OptionU8::Some(self.a)),
+            Name::D => u8u16::new(self.b, Some(self.a)),
             Name::X => u8u16::u16(self.x),
             Name::Y => u8u16::u16(self.y),
             Name::U => u8u16::u16(self.u),
@@ -77,7 +73,6 @@ impl Set {
     pub fn with_pc(self, pc: u16) -> Set
         ensures { result ≡ with_pc self pc }
     {
-        let cc = self.cc;
         Set {
             x: self.x,
             y: self.y,
@@ -87,7 +82,7 @@ impl Set {
             a: self.a,
             b: self.b,
             dp: self.dp,
-            cc,
+            cc: self.cc,
         }
     }
 }

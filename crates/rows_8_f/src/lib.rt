@@ -1,4 +1,6 @@
 // Rows 8 to F of the plain page of the opcode table: the sixteen places of each high digit.
+// Each row is written out, though some part in mode or accumulator alone: it is the manual's table, and no row is
+// built at run time (docs/PERFORMANCE.md).
 #![tactic(auto)]
 
 ghost use Rattle.std.specs.Prelude.{◌≡◌};
@@ -6,13 +8,13 @@ ghost use Rattle.opcodes.specs.Rows.{row_of};
 ghost use Rattle.opcodes.specs.declared.Page.TheVariants.{Plain};
 
 use opcodes::{
-    Acc, Alu, MemoryOp, Mode, Place, RegisterOp, alu8, compare16, load16, memory, registers,
+    Acc, Alu, Entry, MemoryOp, Mode, RegisterOp, alu8, compare16, load16, memory, registers,
     store16,
 };
 use registers::Word;
 
 // A, D and X, immediate.
-pub fn row_8() -> [Place; 16]
+pub fn row_8() -> [Option<Entry>; 16]
     ensures { result ≡ row_of Plain 0x8 }
 {
     [
@@ -23,7 +25,7 @@ pub fn row_8() -> [Place; 16]
         alu8(Alu::And, Acc::A, Mode::Immediate8, 2, 2),
         alu8(Alu::Bit, Acc::A, Mode::Immediate8, 2, 2),
         alu8(Alu::Ld, Acc::A, Mode::Immediate8, 2, 2),
-        Place::None,
+        None,
         alu8(Alu::Eor, Acc::A, Mode::Immediate8, 2, 2),
         alu8(Alu::Adc, Acc::A, Mode::Immediate8, 2, 2),
         alu8(Alu::Or, Acc::A, Mode::Immediate8, 2, 2),
@@ -31,12 +33,12 @@ pub fn row_8() -> [Place; 16]
         compare16(Word::X, Mode::Immediate16, 3, 4),
         memory(MemoryOp::Bsr, Mode::Relative8, 2, 7),
         load16(Word::X, Mode::Immediate16, 3, 3),
-        Place::None,
+        None,
     ]
 }
 
 // A, D and X, direct.
-pub fn row_9() -> [Place; 16]
+pub fn row_9() -> [Option<Entry>; 16]
     ensures { result ≡ row_of Plain 0x9 }
 {
     [
@@ -60,7 +62,7 @@ pub fn row_9() -> [Place; 16]
 }
 
 // A, D and X, indexed.
-pub fn row_a() -> [Place; 16]
+pub fn row_a() -> [Option<Entry>; 16]
     ensures { result ≡ row_of Plain 0xA }
 {
     [
@@ -84,7 +86,7 @@ pub fn row_a() -> [Place; 16]
 }
 
 // A, D and X, extended.
-pub fn row_b() -> [Place; 16]
+pub fn row_b() -> [Option<Entry>; 16]
     ensures { result ≡ row_of Plain 0xB }
 {
     [
@@ -108,7 +110,7 @@ pub fn row_b() -> [Place; 16]
 }
 
 // B, D and U, immediate.
-pub fn row_c() -> [Place; 16]
+pub fn row_c() -> [Option<Entry>; 16]
     ensures { result ≡ row_of Plain 0xC }
 {
     [
@@ -119,20 +121,20 @@ pub fn row_c() -> [Place; 16]
         alu8(Alu::And, Acc::B, Mode::Immediate8, 2, 2),
         alu8(Alu::Bit, Acc::B, Mode::Immediate8, 2, 2),
         alu8(Alu::Ld, Acc::B, Mode::Immediate8, 2, 2),
-        Place::None,
+        None,
         alu8(Alu::Eor, Acc::B, Mode::Immediate8, 2, 2),
         alu8(Alu::Adc, Acc::B, Mode::Immediate8, 2, 2),
         alu8(Alu::Or, Acc::B, Mode::Immediate8, 2, 2),
         alu8(Alu::Add, Acc::B, Mode::Immediate8, 2, 2),
         load16(Word::D, Mode::Immediate16, 3, 3),
-        Place::None,
+        None,
         load16(Word::U, Mode::Immediate16, 3, 3),
-        Place::None,
+        None,
     ]
 }
 
 // B, D and U, direct.
-pub fn row_d() -> [Place; 16]
+pub fn row_d() -> [Option<Entry>; 16]
     ensures { result ≡ row_of Plain 0xD }
 {
     [
@@ -156,7 +158,7 @@ pub fn row_d() -> [Place; 16]
 }
 
 // B, D and U, indexed.
-pub fn row_e() -> [Place; 16]
+pub fn row_e() -> [Option<Entry>; 16]
     ensures { result ≡ row_of Plain 0xE }
 {
     [
@@ -180,7 +182,7 @@ pub fn row_e() -> [Place; 16]
 }
 
 // B, D and U, extended.
-pub fn row_f() -> [Place; 16]
+pub fn row_f() -> [Option<Entry>; 16]
     ensures { result ≡ row_of Plain 0xF }
 {
     [

@@ -1,13 +1,12 @@
 -- Step by step: each adds at most a step's ceilings.
 -- Assumes nothing.
+use Rattle.std.specs.Prelude.{Err, Ok, Option, Result, ⊤}
 use Prim.Native.Nat.{ℕ, zero, suc, ◌+◌, ◌*◌, ◌≤◌}
 use mathlib.Core.List.{List}
 use mathlib.Core.Path.{◌≡◌, refl}
 use native.Mathlib.Omega.{arith}
 use lib.Dec.{lit≤}
 use lib.ListN.{length}
-use Rattle.answers.specs.declared.Answer.{Answer}
-use Rattle.answers.specs.declared.Answer.TheVariants.{Done, Refused}
 use Rattle.memory.specs.Writes.{listed, reported}
 use Rattle.memory.specs.declared.writes.Write.{Write}
 use Rattle.machine.specs.declared.Settings.{Settings}
@@ -17,9 +16,9 @@ use Rattle.history.proofs.Theorem.{forward-typed}
 use Rattle.traffic.proofs.Ceilings.{steps-bounded}
 use Rattle.traffic.proofs.Reported.{counts-reported}
 use Rattle.runs.specs.Runs.{tested, RunEnded, unmade, counting, ends_by, running}
-use Rattle.runs.specs.declared.Stop.{Stop}
 use Rattle.runs.proofs.Running.{either_way}
 use Rattle.run_traffic.specs.Laws.{RunCeilings, RunsBounded}
+use Rattle.answers.specs.declared.Refusal.{Refusal}
 
 -- ---- a step
 
@@ -28,9 +27,9 @@ record Within (e : Ended) : Type 0 where
   writes : e.writes ≤ 12
   together : e.reads + e.writes ≤ 17
 
-ending-within : (a : Answer) (s new : State) (ds : List Write) (n k : ℕ) → n ≤ 14 → k ≤ 12 → n + k ≤ 17 → Within (ending a s new ds n k)
-ending-within Done s new ds n k h g j = record { reads = h; writes = g; together = j }
-ending-within (Refused x) s new ds n k h g j = record { reads = lit≤ tt; writes = lit≤ tt; together = lit≤ tt }
+ending-within : (a : Result ⊤ Refusal) (s new : State) (ds : List Write) (n k : ℕ) → n ≤ 14 → k ≤ 12 → n + k ≤ 17 → Within (ending a s new ds n k)
+ending-within (Ok u) s new ds n k h g j = record { reads = h; writes = g; together = j }
+ending-within (Err x) s new ds n k h g j = record { reads = lit≤ tt; writes = lit≤ tt; together = lit≤ tt }
 
 step-within : (t : Settings) (s : State) → Typed s → Within (stepped t s)
 unfolding called
@@ -52,7 +51,7 @@ one_more e n r w c =
 none : (n : ℕ) (r : RunEnded) → r.reads ≡ 0 → r.writes ≡ 0 → RunCeilings n r
 none n r e f = record { reads = omega arith; writes = omega arith; together = omega arith }
 
-module _ (t : Settings) (stop : Stop) where
+module _ (t : Settings) (stop : Option ℕ) where
   bounded : (n : ℕ) (e : Ended) → Typed e.state → RunCeilings n (running (stepped t) stop n e)
   unfolding running
   bounded zero e w = none 0 _ refl refl

@@ -1,5 +1,6 @@
 // The run program on the second engine (document 02, [13]): what it prints is `printed` of what it read, as the first's is
 // (`player::play_second`).
+// A program beside `run`, and no switch in it: standard input is the run file alone.
 #![tactic(auto)]
 
 ghost use Rattle.std.specs.Prelude.{◌≡◌, ◌*◌, length};

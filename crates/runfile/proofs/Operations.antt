@@ -1,5 +1,6 @@
 -- A sound file's operations are its last bytes, in order: what `operation_at` gives from where `load` says that they start is what the file says.
 -- Assumes nothing.
+use Rattle.std.specs.Prelude.{Some}
 use Prim.Native.Nat.{ℕ, zero, suc, ◌+◌, ◌-◌, ◌≤◌, ◌<◌}
 use mathlib.Core.Path.{◌≡◌, refl, sym, ap, ◌∙◌}
 use mathlib.Core.Bool.{Bool, true, false, cond}
@@ -9,7 +10,6 @@ use borrow.Author.Tests.{lt-leb, leb-true, eqb-true}
 use lib.Dec.{leb, eqb}
 use lib.ListN.{length, get_or}
 use Rattle.runfile.specs.Format.{Read, got, missing, two_bytes_at, settings_at, pieces_at, operation_at, operations_at, sections_of, wholly, RunFile, says, malformed, parsed, next_of, InOrder, TheyFit, NotLonger, ThenNone}
-use Rattle.runfile.specs.declared.Next.TheVariants.{Is}
 use Rattle.runfile.specs.declared.Operation.{Operation}
 use Rattle.runfile.specs.declared.Operation.TheVariants.{Step}
 use Rattle.runfile.proofs.Reading.{then-got, operation-got}
@@ -17,7 +17,7 @@ use Rattle.runfile.proofs.Reading.{then-got, operation-got}
 -- operations that stand at the places from a first one on, up to an end
 record Stand (file : List ℕ) (os : List Operation) (at end : ℕ) : Type 0 where
   counted : end ≡ at + length os
-  each : (i : ℕ) → i < length os → next_of (operation_at file (at + i)) ≡ Is (get_or os i Step)
+  each : (i : ℕ) → i < length os → next_of (operation_at file (at + i)) ≡ Some (get_or os i Step)
 
 none : (file : List ℕ) (at : ℕ) {os : List Operation} {end : ℕ} → got [] at ≡ got os end → Stand file os at end
 none file at {os} {end} e =
@@ -32,7 +32,7 @@ one_more file at {o} {os} {ps} {end} {e} a h q =
     let d : end ≡ e = cc in
     rw (← l, ← d) (record { counted = omega (arith, h.counted); each = go })
   where
-    go : (i : ℕ) → i < suc (length os) → next_of (operation_at file (at + i)) ≡ Is (get_or (o ∷ os) i Step)
+    go : (i : ℕ) → i < suc (length os) → next_of (operation_at file (at + i)) ≡ Some (get_or (o ∷ os) i Step)
     go zero k = let z : at + 0 ≡ at = omega arith in rw (z, a)
     go (suc i) k = let z : at + suc i ≡ at + 1 + i = omega arith in rw z (h.each i (omega arith))
 

@@ -1,5 +1,6 @@
 -- A section from its front: one piece or one operation more; and what follows the pieces.
 -- Assumes nothing.
+use Rattle.std.specs.Prelude.{None, Ok, Result, Some}
 use Prim.Native.Nat.{ℕ, zero, suc, ◌+◌, ◌-◌, ◌≤◌, ◌<◌}
 use mathlib.Core.Path.{◌≡◌, refl, sym}
 use mathlib.Core.List.{List, ◌∷◌}
@@ -9,12 +10,11 @@ use lib.ListN.{length}
 use lib.Seq.{sets}
 use Rattle.runfile.specs.Format.{Read, got, missing, and_then, word_in, two_bytes_at, piece_at, pieces_at, operation_at, operations_at, Piece, RunFile, malformed, wholly, next_of, pieces_laid, loaded, placed, end_of, laid_of}
 use Rattle.runfile.specs.declared.FileSettings.{FileSettings}
-use Rattle.runfile.specs.declared.Loaded.{Loaded}
-use Rattle.runfile.specs.declared.Loaded.TheVariants.{Ready}
-use Rattle.runfile.specs.declared.Next.TheVariants.{Is, None}
 use Rattle.runfile.specs.declared.Operation.{Operation}
 use Rattle.runfile.proofs.Reading.{word_got, word-missing, this, size, piece-missing, piece-got, operation-got}
 use Rattle.runfile.proofs.Operations.{operations-length}
+use Rattle.answers.specs.declared.Refusal.{Refusal}
+use Rattle.runfile.specs.declared.Start.{Start}
 
 -- one more at the front of a section ends where the section ends
 one_more : {A : Type 0} (n : ℕ) (x : A) (r : Read (List A)) → end_of n (and_then r λ l end. got (x ∷ l) end) ≡ end_of n r
@@ -65,12 +65,12 @@ module _ (file : List ℕ) where
         go (got o next) e = cc
         go missing e = refl
 
-    pub operation-end : {o : Operation} → next_of (operation_at file at) ≡ Is o
+    pub operation-end : {o : Operation} → next_of (operation_at file at) ≡ Some o
         → (end_of (length file) (operations_at file (suc k) at) ≡ end_of (length file) (operations_at file k (at + 1))) × (at + 1 ≤ length file)
     unfolding operations_at
     operation-end {o} e = go (operation_at file at) refl e
       where
-        go : (r : Read Operation) → operation_at file at ≡ r → next_of r ≡ Is o
+        go : (r : Read Operation) → operation_at file at ≡ r → next_of r ≡ Some o
             → (end_of (length file) (and_then r λ o next. and_then (operations_at file k next) λ os end. got (o ∷ os) end) ≡ end_of (length file) (operations_at file k (at + 1))) × (at + 1 ≤ length file)
         go (got p next) h e = let q = operation-got file at h in (rw q.0 (one_more (length file) p (operations_at file k (at + 1))), q.1)
         go missing h e = let z : ◌≡◌ {A = ℕ} 0 1 = cc in absurd (omega arith)
@@ -105,12 +105,12 @@ module _ (file : List ℕ) (s : FileSettings) where
 
   -- they do
   pub whole-after : (r : Read (List Piece)) (mem : List ℕ) → end_of (length file) r + 2 ≤ length file → end_of (length file) (counted (end_of (length file) r)) ≡ length file
-      → (◌≡◌ {A = Loaded} (Ready (record { operations = end_of (length file) r + 2; settings = s })) (loaded (length file) (wholly (length file) (and_then r after_pieces))))
+      → (◌≡◌ {A = (Result Start Refusal)} (Ok (record { operations = end_of (length file) r + 2; settings = s })) (loaded (length file) (wholly (length file) (and_then r after_pieces))))
       × (laid_of r mem ≡ placed (wholly (length file) (and_then r after_pieces)) mem)
   whole-after (got ps next) mem l h = rw (word_got file next l) (go (counted next) refl h)
     where
       go : (q : Read (List Operation)) → counted next ≡ q → end_of (length file) q ≡ length file
-          → (◌≡◌ {A = Loaded} (Ready (record { operations = next + 2; settings = s })) (loaded (length file) (wholly (length file) (and_then q λ os end. got (said ps os) end))))
+          → (◌≡◌ {A = (Result Start Refusal)} (Ok (record { operations = next + 2; settings = s })) (loaded (length file) (wholly (length file) (and_then q λ os end. got (said ps os) end))))
           × (pieces_laid ps mem ≡ placed (wholly (length file) (and_then q λ os end. got (said ps os) end)) mem)
       go (got os end) e h =
           let d : next + 2 ≡ length file - length os = omega (arith, operations-length file (word_in file next) (next + 2) e) in

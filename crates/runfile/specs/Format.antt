@@ -1,17 +1,15 @@
 -- The run file (document 01, section "The run program"): what its bytes say. `file` is the list of its bytes.
 -- Assumes nothing.
-use Rattle.std.specs.Prelude.{ℕ, zero, suc, ◌+◌, ◌-◌, ◌*◌, ◌≤◌, ◌<◌, ◌≡◌, Bool, cond, ◌&&◌, List, [], ◌∷◌, eqb, leb, length, get_or, take, drop}
+use Rattle.std.specs.Prelude.{ℕ, zero, suc, ◌+◌, ◌-◌, ◌*◌, ◌≤◌, ◌<◌, ◌≡◌, Bool, cond, ◌&&◌, List, [], ◌∷◌, eqb, leb, length, get_or, take, drop, Err, None, Ok, Option, Result, Some}
 use Rattle.std.proofs.lemmas.List.Edits.{sets}
 use Rattle.answers.specs.declared.Refusal.TheVariants.{Malformed}
 use Rattle.registers.specs.declared.Flags.{Flags}
 use Rattle.registers.specs.declared.Flags.TheVariants.{Bought, Manual}
 use Rattle.runfile.specs.declared.FileSettings.{FileSettings}
-use Rattle.runfile.specs.declared.Loaded.{Loaded}
-use Rattle.runfile.specs.declared.Loaded.TheVariants.{Ready, Refused}
-use Rattle.runfile.specs.declared.Next.{Next}
-use Rattle.runfile.specs.declared.Next.TheVariants.{Is, None}
 use Rattle.runfile.specs.declared.Operation.{Operation}
 use Rattle.runfile.specs.declared.Operation.TheVariants.{Step, Irq, Firq, Nmi, Reset, Undo}
+use Rattle.answers.specs.declared.Refusal.{Refusal}
+use Rattle.runfile.specs.declared.Start.{Start}
 
 -- what is read at a place of the file, and the place after it; or `missing`, where the file has something else or ends
 pub data Read (A : Type 0) : Type 0 where
@@ -141,14 +139,14 @@ parsed file = cond (leb (length file) 32768) (wholly (length file) (sections_of 
 
 -- ---- what is answered, and what is placed
 
-abbrev pub next_of : Read Operation → Next
-next_of (got o next) = Is o
+abbrev pub next_of : Read Operation → Option Operation
+next_of (got o next) = Some o
 next_of missing = None
 
 -- the operations are the last bytes of a sound file of this size
-abbrev pub loaded : ℕ → Parsed → Loaded
-loaded size (says f) = Ready (record { operations = size - length f.operations; settings = f.settings })
-loaded size malformed = Refused Malformed
+abbrev pub loaded : ℕ → Parsed → Result Start Refusal
+loaded size (says f) = Ok (record { operations = size - length f.operations; settings = f.settings })
+loaded size malformed = Err Malformed
 
 -- pieces laid raw, in order
 abbrev pub pieces_laid : List Piece → List ℕ → List ℕ
@@ -166,7 +164,7 @@ placed malformed mem = mem
 abbrev pub InOrder : Type 0
 InOrder =
     (file : List ℕ) (f : RunFile) → parsed file ≡ says f
-    → (i : ℕ) → i < length f.operations → next_of (operation_at file (length file - length f.operations + i)) ≡ Is (get_or f.operations i Step)
+    → (i : ℕ) → i < length f.operations → next_of (operation_at file (length file - length f.operations + i)) ≡ Some (get_or f.operations i Step)
 
 -- it has no more operations than bytes, and no more than 32,768 bytes
 abbrev pub TheyFit : Type 0

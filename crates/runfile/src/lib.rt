@@ -20,13 +20,6 @@ pub enum Operation {
     Undo,
 }
 
-// The operation at a place of the file, if there is one.
-#[derive(Clone, Copy)]
-pub enum Next {
-    Is(Operation),
-    None,
-}
-
 // What a file sets. An enum can hold no array, so the settings of the calls, which have a profile, are made of it later: a run allows all
 // stores.
 #[derive(Clone, Copy)]
@@ -50,28 +43,20 @@ pub struct Start {
     pub settings: FileSettings,
 }
 
-#[derive(Clone, Copy)]
-pub enum Loaded {
-    Ready(Start),
-    Refused(Refusal),
-}
-
 // Whether n bytes stand from a place on. The sum of the two could wrap.
+// File and place stand apart, as in the definitions (`word_in`, `piece_at`): a struct of both would be opened in each contract.
 fn has(file: &[u8], at: usize, n: usize) -> bool
     ensures { result ≡ room file.now at n }
 {
-    let size = file.len();
-    if size < n {
-        return false;
-    }
-    at <= size - n
+    n <= file.len() && at <= file.len() - n
 }
 
 // 0 past the end.
+// No Option: `word`, which is public, promises 0 there.
 fn byte(file: &[u8], at: usize) -> u8
     ensures { result ≡ get_or file.now at 0 }
 {
-    if at < file.len() { file[at] } else { 0 }
+    file.get(at).copied().unwrap_or(0)
 }
 
 // The word of two bytes, high byte first. A byte past the end is 0.
@@ -79,7 +64,7 @@ pub fn word(file: &[u8], at: usize) -> u16
     ensures { result ≡ word_in file.now at }
 {
     if at < file.len() {
-        256 * byte(file, at) as u16 + byte(file, at + 1) as u16
+        u16::from_be_bytes([byte(file, at), byte(file, at + 1)])
     } else {
         0
     }
@@ -95,7 +80,7 @@ fn piece_end(file: &[u8], at: usize) -> usize
     let address = word(file, at);
     let size = word(file, at + 2);
     let from = at + 4;
-    if has(file, from, size as usize) & (address as u32 + size as u32 <= 0x10000) {
+    if has(file, from, size as usize) && address as u32 + size as u32 <= 0x10000 {
         from + size as usize
     } else {
         file.len() + 1
@@ -103,14 +88,13 @@ fn piece_end(file: &[u8], at: usize) -> usize
 }
 
 // The place after so many pieces, or past the file.
+// Three such walks: one of them all would take what a turn does as a closure, and each call be no shorter than its loop.
 fn pieces_end(file: &[u8], count: u16, at: usize) -> usize
     ensures { result ≡ end_of (length file.now) (pieces_at file.now count at) }
 {
-    let mut left = count;
     let mut next = at;
-    while 0 < left {
+    for _passed in 0..count {
         next = piece_end(file, next);
-        left -= 1;
     }
     next
 }
@@ -120,32 +104,28 @@ fn place(mem: &mut [u8], file: &[u8], count: u16, at: usize)
     requires { end_of (length file.now) (pieces_at file.now count at) ≤ length file.now }
     ensures { mem.new ≡ laid_of (pieces_at file.now count at) mem.old }
 {
-    let mut left = count;
     let mut next = at;
-    while 0 < left {
+    for _passed in 0..count {
         let address = word(file, next) as usize;
         let from = next + 4;
         let end = piece_end(file, next);
         text::put(mem, address, &file[from..end]);
         next = end;
-        left -= 1;
     }
 }
 
-pub fn operation_at(file: &[u8], at: usize) -> Next
+// The numbers are the file's; here they become operations, and nowhere else.
+pub fn operation_at(file: &[u8], at: usize) -> Option<Operation>
     ensures { result ≡ next_of (operation_at file.now at) }
 {
-    if file.len() <= at {
-        return Next::None;
-    }
-    match file[at] {
-        0 => Next::Is(Operation::Step),
-        1 => Next::Is(Operation::Irq),
-        2 => Next::Is(Operation::Firq),
-        3 => Next::Is(Operation::Nmi),
-        4 => Next::Is(Operation::Reset),
-        5 => Next::Is(Operation::Undo),
-        _ => Next::None,
+    match *file.get(at)? {
+        0 => Some(Operation::Step),
+        1 => Some(Operation::Irq),
+        2 => Some(Operation::Firq),
+        3 => Some(Operation::Nmi),
+        4 => Some(Operation::Reset),
+        5 => Some(Operation::Undo),
+        _ => None,
     }
 }
 
@@ -153,71 +133,73 @@ pub fn operation_at(file: &[u8], at: usize) -> Next
 fn operations_end(file: &[u8], count: u16, at: usize) -> usize
     ensures { result ≡ end_of (length file.now) (operations_at file.now count at) }
 {
-    let mut left = count;
     let mut next = at;
-    while 0 < left {
+    for _passed in 0..count {
         match operation_at(file, next) {
-            Next::None => return file.len() + 1,
-            Next::Is(_) => {
-                next += 1;
-            }
+            None => return file.len() + 1,
+            Some(_) => next += 1,
         }
-        left -= 1;
     }
     next
 }
 
 // Memory is written once the whole file is known to be sound.
-fn load_after(mem: &mut [u8], file: &[u8], settings: FileSettings, at: usize) -> Loaded
+fn load_after(
+    mem: &mut [u8],
+    file: &[u8],
+    settings: FileSettings,
+    at: usize,
+) -> Result<Start, Refusal>
     ensures { (result ≡ loaded (length file.now) (wholly (length file.now) (after_settings file.now settings at))) × (mem.new ≡ placed (wholly (length file.now) (after_settings file.now settings at)) mem.old) }
 {
     if !has(file, at, 2) {
-        return Loaded::Refused(Refusal::Malformed);
+        return Err(Refusal::Malformed);
     }
     let count = word(file, at);
     let from = at + 2;
     let next = pieces_end(file, count, from);
     if !has(file, next, 2) {
-        return Loaded::Refused(Refusal::Malformed);
+        return Err(Refusal::Malformed);
     }
     let operations = next + 2;
     if operations_end(file, word(file, next), operations) != file.len() {
-        return Loaded::Refused(Refusal::Malformed);
+        return Err(Refusal::Malformed);
     }
     place(mem, file, count, from);
-    Loaded::Ready(Start {
+    Ok(Start {
         operations,
         settings,
     })
 }
 
 // Settings of three bytes: ram_top, and flags at place 4.
-fn load_flagged(mem: &mut [u8], file: &[u8], ram_top: u16) -> Loaded
+// The numbers of the flags, and of the form in `load`, are the file's; they are read here alone.
+fn load_flagged(mem: &mut [u8], file: &[u8], ram_top: u16) -> Result<Start, Refusal>
     ensures { (result ≡ loaded (length file.now) (wholly (length file.now) (settled file.now (flagged_at file.now ram_top 4)))) × (mem.new ≡ placed (wholly (length file.now) (settled file.now (flagged_at file.now ram_top 4))) mem.old) }
 {
     if file.len() <= 4 {
-        return Loaded::Refused(Refusal::Malformed);
+        return Err(Refusal::Malformed);
     }
     match file[4] {
         0 => load_after(mem, file, FileSettings::new(ram_top, Flags::Bought), 5),
         1 => load_after(mem, file, FileSettings::new(ram_top, Flags::Manual), 5),
-        _ => Loaded::Refused(Refusal::Malformed),
+        _ => Err(Refusal::Malformed),
     }
 }
 
-pub fn load(mem: &mut [u8], file: &[u8]) -> Loaded
+pub fn load(mem: &mut [u8], file: &[u8]) -> Result<Start, Refusal>
     ensures { (result ≡ loaded (length file.now) (parsed file.now)) × (mem.new ≡ placed (parsed file.now) mem.old) }
 {
     if LONGEST < file.len() {
-        return Loaded::Refused(Refusal::Malformed);
+        return Err(Refusal::Malformed);
     }
     if !has(file, 0, 4) {
-        return Loaded::Refused(Refusal::Malformed);
+        return Err(Refusal::Malformed);
     }
     let ram_top = word(file, 2);
     match word(file, 0) {
         2 => load_after(mem, file, FileSettings::new(ram_top, Flags::Manual), 4),
         3 => load_flagged(mem, file, ram_top),
-        _ => Loaded::Refused(Refusal::Malformed),
+        _ => Err(Refusal::Malformed),
     }
 }

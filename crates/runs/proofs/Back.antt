@@ -1,9 +1,8 @@
 -- Demand 3 through a run: its steps are forward calls of a sequence, and as many undos bring back how it began.
 -- Assumes nothing.
-use Rattle.std.proofs.Common.{◌≡◌, ℕ, zero, suc, ◌+◌, ◌<◌, ◌≤◌, List, [], ◌∷◌, ◌++◌, length, sym, refl, ap, ◌∙◌, subst, arith}
+use Rattle.std.proofs.Common.{◌≡◌, ℕ, zero, suc, ◌+◌, ◌<◌, ◌≤◌, List, [], ◌∷◌, ◌++◌, length, sym, refl, ap, ◌∙◌, subst, arith, Ok, Result}
+use Rattle.std.specs.Prelude.{⊤}
 use native.Mathlib.Decide.{dec_lt}
-use Rattle.answers.specs.declared.Answer.{Answer}
-use Rattle.answers.specs.declared.Answer.TheVariants.{Done}
 use Rattle.memory.specs.Fits.{Bytes}
 use Rattle.machine.specs.Machine.{MachineFits}
 use Rattle.machine.specs.declared.Machine.{Machine}
@@ -16,6 +15,7 @@ use Rattle.history.specs.Sequence.{Event, forward, back as backward, Legal, Snap
 use Rattle.history.proofs.Theorem.{demand-3}
 use Rattle.runs.specs.Runs.{ran}
 use Rattle.runs.specs.Laws.{after, back, IsSteps, TakenBack, RunTakenBack}
+use Rattle.answers.specs.declared.Refusal.{Refusal}
 
 -- ---- worlds to which a sequence leads
 
@@ -76,7 +76,7 @@ backs-now (suc k) w = ap (λ (s : State). (undone s).state) (backs-now k w)
 -- from v, where k steps from w led, k undos lead home
 record Home (w v : World) (k : ℕ) : Type 0 where
   reached : Reached (backs k v)
-  accepted : (i : ℕ) → i < k → (undone (backs i v).now).answer ≡ Done
+  accepted : (i : ℕ) → i < k → (undone (backs i v).now).answer ≡ (Ok tt)
   past : (backs k v).past ≡ w.past
   machine : (backs k v).now.twin.machine ≡ w.now.twin.machine
   memory : Same (backs k v).now.memory w.now.memory
@@ -85,7 +85,7 @@ same-all : (m : List ℕ) → Same m m
 same-all m = record { size = refl; bytes = λ i h. refl }
 
 -- one undo more
-farther : (w v : World) (k : ℕ) (s : State) (past : List Snap) → Home w v k → w.past ≡ push Done s past → Home (record { now = s; past = past }) v (suc k)
+farther : (w v : World) (k : ℕ) (s : State) (past : List Snap) → Home w v k → w.past ≡ push (Ok tt) s past → Home (record { now = s; past = past }) v (suc k)
 unfolding backs next
 farther w v k s past h e =
     let q = h.past ∙ e in
@@ -93,23 +93,23 @@ farther w v k s past h e =
     record {
       reached = reached-next backward (backs k v) tt h.reached;
       accepted = λ i l. each i l b.accepted (dec_lt i k);
-      past = ap (λ (a : Answer). pop a (backs k v).past) b.accepted ∙ ap rest q;
+      past = ap (λ (a : Result ⊤ Refusal). pop a (backs k v).past) b.accepted ∙ ap rest q;
       machine = b.machine;
       memory = b.memory;
     }
   where
-    each : (i : ℕ) → i < suc k → (undone (backs k v).now).answer ≡ Done → Dec (i < k) → (undone (backs i v).now).answer ≡ Done
+    each : (i : ℕ) → i < suc k → (undone (backs k v).now).answer ≡ (Ok tt) → Dec (i < k) → (undone (backs i v).now).answer ≡ (Ok tt)
     each i l d (yes p) = h.accepted i p
     each i l d (no p) = let z : i ≡ k = omega arith in rw z d
 
 module _ (t : Settings) where
-  home : (k : ℕ) (w : World) → Reached w → ((i : ℕ) → i < k → (stepped t (after t i w.now)).answer ≡ Done) → Home w (walked t k w) k
+  home : (k : ℕ) (w : World) → Reached w → ((i : ℕ) → i < k → (stepped t (after t i w.now)).answer ≡ (Ok tt)) → Home w (walked t k w) k
   unfolding walked backs after next
   home zero w r a = record { reached = r; accepted = λ i h. absurd (omega arith); past = refl; machine = refl; memory = same-all w.now.memory }
   home (suc k) w r a =
       let u = next (forward (step t)) w in
       farther u (walked t k u) k w.now w.past (home k u (reached-next (forward (step t)) w tt r) (λ i h. a (suc i) (omega arith)))
-      (ap (λ (x : Answer). push x w.now w.past) (a 0 (omega arith)))
+      (ap (λ (x : Result ⊤ Refusal). push x w.now w.past) (a 0 (omega arith)))
 
 pub run-taken-back : RunTakenBack
 run-taken-back t stop n m mem j es f b l h =
@@ -120,7 +120,7 @@ run-taken-back t stop n m mem j es f b l h =
     let d = home t k w r h.accepted in
     subst (λ (e : State). TakenBack w.now e k) (walked-now t k w ∙ sym h.state)
     (record {
-      accepted = λ i p. subst (λ (z : State). (undone z).answer ≡ Done) (backs-now i v) (d.accepted i p);
+      accepted = λ i p. subst (λ (z : State). (undone z).answer ≡ (Ok tt)) (backs-now i v) (d.accepted i p);
       machine = sym (ap (λ (z : State). z.twin.machine) (backs-now k v)) ∙ d.machine;
       records =
           sym (ap (λ (z : State). z.twin.records) (backs-now k v))

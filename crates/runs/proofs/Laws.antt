@@ -1,9 +1,8 @@
 -- Allowances, what the reason tells, and that a run is so many steps.
 -- Assumes nothing.
-use Rattle.std.proofs.Common.{◌≡◌, ℕ, zero, suc, ◌+◌, ◌%◌, ◌^◌, ◌<◌, ◌≤◌, Bool, true, false, cond, ltb, ◌≢◌, ◌↔◌, [], ◌∷◌, get_or, sym, refl, ap, ◌∙◌, subst, arith}
+use Rattle.std.proofs.Common.{◌≡◌, ℕ, zero, suc, ◌+◌, ◌%◌, ◌^◌, ◌<◌, ◌≤◌, Bool, true, false, cond, ltb, ◌≢◌, ◌↔◌, [], ◌∷◌, get_or, sym, refl, ap, ◌∙◌, subst, arith, Err, None, Ok, Option, Result, Some}
+use Rattle.std.specs.Prelude.{⊤}
 use Rattle.answers.specs.Numbers.{number_of_answer}
-use Rattle.answers.specs.declared.Answer.{Answer}
-use Rattle.answers.specs.declared.Answer.TheVariants.{Done, Refused}
 use Rattle.answers.proofs.Numbers.{refused-by-a-number}
 use Rattle.memory.specs.Writes.{writes_of}
 use Rattle.machine.specs.declared.Settings.{Settings}
@@ -15,11 +14,9 @@ use Rattle.runs.specs.Laws.{LargerAllowance, RunsJoin, Joined, one_after, Reason
 use Rattle.runs.specs.declared.Reason.{Reason}
 use Rattle.runs.specs.declared.Reason.TheVariants.{StepRefused, Waits, StopAddress, DeviceWrite, Allowance}
 use Rattle.runs.specs.declared.RunOutcome.{RunOutcome}
-use Rattle.runs.specs.declared.Stop.{Stop}
-use Rattle.runs.specs.declared.Verdict.{Verdict}
-use Rattle.runs.specs.declared.Verdict.TheVariants.{Ends, GoesOn}
 use Rattle.runs.proofs.Running.{Passed, passed, not-by-allowance, accepts, Alike, resumed, from-state, larger, joins, Close, unmoved, all_made, stopped, close}
 use Rattle.runs.proofs.Loop.{neat}
+use Rattle.answers.specs.declared.Refusal.{Refusal}
 
 pub larger-allowance : LargerAllowance
 larger-allowance t stop n m s h r = larger (stepped t) stop n m (unmade s) h r
@@ -27,14 +24,14 @@ larger-allowance t stop n m s h r = larger (stepped t) stop n m (unmade s) h r
 -- ---- a run that ended on its allowance
 
 -- its last step was accepted and reported nothing; where there was one, it leaves the machine running, and not at the stop address
-record UsedUp (stop : Stop) (n : ℕ) (e : Ended) : Type 0 where
-  answer : e.answer ≡ Done
+record UsedUp (stop : Option ℕ) (n : ℕ) (e : Ended) : Type 0 where
+  answer : e.answer ≡ (Ok tt)
   devices : e.devices ≡ writes_of []
   runs : 0 < n → waits e.state.twin.machine.wait ≡ false
   elsewhere : 0 < n → is_at stop e.state.twin.machine.regs.pc ≡ false
 
-module _ (t : Settings) (stop : Stop) where
-  after-pass : (n : ℕ) (s : State) → tested stop (returned (stepped t s)) ≡ GoesOn → UsedUp stop n (stepped t s)
+module _ (t : Settings) (stop : Option ℕ) where
+  after-pass : (n : ℕ) (s : State) → tested stop (returned (stepped t s)) ≡ None → UsedUp stop n (stepped t s)
   after-pass n s g =
       let p = passed stop (returned (stepped t s)) g in
       record { answer = accepts (stepped t s).answer p.accepted; devices = neat t s p.quiet; runs = λ l. p.runs; elsewhere = λ l. p.elsewhere }
@@ -42,7 +39,7 @@ module _ (t : Settings) (stop : Stop) where
   used-by : (n : ℕ) (s : State) (r : RunEnded) → Close (stepped t) stop n (unmade s) r → r.reason ≡ Allowance → UsedUp stop n r.last
   used-by n s r (unmoved z q l) h = rw l (record { answer = refl; devices = refl; runs = λ p. absurd (omega arith); elsewhere = λ p. absurd (omega arith) })
   used-by n s r (all_made u p g q l) h = rw l (after-pass n u g)
-  used-by n s r (stopped u g l) h = absurd (not-by-allowance stop (returned (stepped t u)) (g ∙ ap Ends h))
+  used-by n s r (stopped u g l) h = absurd (not-by-allowance stop (returned (stepped t u)) (g ∙ ap Some h))
 
   used-up : (n : ℕ) (s : State) → (ran t stop n s).reason ≡ Allowance → UsedUp stop n (ran t stop n s).last
   used-up n s h = used-by n s (ran t stop n s) (close (stepped t) stop n (unmade s)) h
@@ -61,7 +58,7 @@ joined a x b c h e = rw e (record {
     number = (h.result i).number;
     reads = both-wrap a.reads x.reads b.reads (ap (λ (o : RunOutcome). o.reads) h.result) i;
     writes = both-wrap a.writes x.writes b.writes (ap (λ (o : RunOutcome). o.writes) h.result) i;
-    answer = Done;
+    answer = (Ok tt);
   };
   state = h.state;
 })
@@ -79,7 +76,7 @@ apart : {x : Reason} → x ≡ Allowance → x ≢ StepRefused
 apart h k = let z : ◌≡◌ {A = ℕ} 0 1 = cc in omega arith
 
 -- the first test comes first
-refused-first : (a b c d : Bool) (x : Reason) → cond a (Ends StepRefused) (cond b (Ends Waits) (cond c (Ends StopAddress) (cond d (Ends DeviceWrite) GoesOn))) ≡ Ends x
+refused-first : (a b c d : Bool) (x : Reason) → cond a (Some StepRefused) (cond b (Some Waits) (cond c (Some StopAddress) (cond d (Some DeviceWrite) None))) ≡ Some x
     → (x ≡ StepRefused) ↔ (a ≡ true)
 refused-first true b c d x e = ((λ h. refl), (λ h. cc))
 refused-first false true c d x e = ((λ h. cc), (λ h. cc))
@@ -87,11 +84,11 @@ refused-first false false true d x e = ((λ h. cc), (λ h. cc))
 refused-first false false false true x e = ((λ h. cc), (λ h. cc))
 refused-first false false false false x e = ((λ h. cc), (λ h. cc))
 
-numbered : (a : Answer) → (is_refused a ≡ true) ↔ (number_of_answer a ≢ 0)
-numbered Done = ((λ h. let z : ◌≡◌ {A = ℕ} 0 1 = cc in absurd (omega arith)), (λ h. absurd (h refl)))
-numbered (Refused x) = ((λ h e. omega (arith, refused-by-a-number x)), (λ h. refl))
+numbered : (a : Result ⊤ Refusal) → (is_refused a ≡ true) ↔ (number_of_answer a ≢ 0)
+numbered (Ok u) = ((λ h. let z : ◌≡◌ {A = ℕ} 0 1 = cc in absurd (omega arith)), (λ h. absurd (h refl)))
+numbered (Err x) = ((λ h e. omega (arith, refused-by-a-number x)), (λ h. refl))
 
-module _ (t : Settings) (stop : Stop) where
+module _ (t : Settings) (stop : Option ℕ) where
   unrefused : (n : ℕ) (r : RunEnded) → UsedUp stop n r.last → r.reason ≡ Allowance → (r.reason ≡ StepRefused) ↔ ((ran_returned r).number ≢ 0)
   unrefused n r u h = ((λ k. absurd (apart h k)), (λ k. absurd (k (ap number_of_answer u.answer))))
 
@@ -138,18 +135,18 @@ reasons-apart x y e = sym (named x) ∙ ap reason_of e ∙ named y
 
 -- ---- a run is so many steps
 
-module _ (t : Settings) (stop : Stop) where
+module _ (t : Settings) (stop : Option ℕ) where
   -- a step that ends the run: it is counted where it was accepted
-  one-step : (n : ℕ) (s : State) (x : Reason) (a : Answer) → (stepped t s).answer ≡ a → x ≢ Allowance → IsSteps t (suc n) s (counting (stepped t s) (ends_by x (stepped t s)))
+  one-step : (n : ℕ) (s : State) (x : Reason) (a : Result ⊤ Refusal) → (stepped t s).answer ≡ a → x ≢ Allowance → IsSteps t (suc n) s (counting (stepped t s) (ends_by x (stepped t s)))
   unfolding after
-  one-step n s x Done e u = record {
+  one-step n s x (Ok done) e u = record {
     steps = 1;
     most = omega arith;
     state = refl;
     accepted = λ i h. let z : i ≡ 0 = omega arith in rw z e;
     all = λ h. absurd (u h);
   }
-  one-step n s x (Refused y) e u = record {
+  one-step n s x (Err y) e u = record {
     steps = 0;
     most = omega arith;
     state = (called-stays (step t) s (λ d. let z : ◌≡◌ {A = ℕ} 0 1 = cc in omega arith)).state;
@@ -157,7 +154,7 @@ module _ (t : Settings) (stop : Stop) where
     all = λ h. absurd (u h);
   }
 
-  more-steps : (n : ℕ) (s : State) (r : RunEnded) → (stepped t s).answer ≡ Done → IsSteps t n (stepped t s).state r → IsSteps t (suc n) s (counting (stepped t s) r)
+  more-steps : (n : ℕ) (s : State) (r : RunEnded) → (stepped t s).answer ≡ (Ok tt) → IsSteps t n (stepped t s).state r → IsSteps t (suc n) s (counting (stepped t s) r)
   unfolding after
   more-steps n s r e h = record {
     steps = suc h.steps;
@@ -167,14 +164,14 @@ module _ (t : Settings) (stop : Stop) where
     all = λ q. ap suc (h.all q);
   }
     where
-      each : (i : ℕ) → i < suc h.steps → (stepped t (after t i s)).answer ≡ Done
+      each : (i : ℕ) → i < suc h.steps → (stepped t (after t i s)).answer ≡ (Ok tt)
       each zero l = e
       each (suc i) l = h.accepted i (omega arith)
 
-  steps-by : (n : ℕ) (s : State) (r : RunEnded) (v : Verdict) → tested stop (returned (stepped t s)) ≡ v → IsSteps t n (stepped t s).state r
+  steps-by : (n : ℕ) (s : State) (r : RunEnded) (v : Option Reason) → tested stop (returned (stepped t s)) ≡ v → IsSteps t n (stepped t s).state r
       → IsSteps t (suc n) s (counting (stepped t s) (unless_ends v (stepped t s) r))
-  steps-by n s r (Ends x) g h = one-step n s x (stepped t s).answer refl (λ q. not-by-allowance stop (returned (stepped t s)) (g ∙ ap Ends q))
-  steps-by n s r GoesOn g h = more-steps n s r (accepts (stepped t s).answer (passed stop (returned (stepped t s)) g).accepted) h
+  steps-by n s r (Some x) g h = one-step n s x (stepped t s).answer refl (λ q. not-by-allowance stop (returned (stepped t s)) (g ∙ ap Some q))
+  steps-by n s r None g h = more-steps n s r (accepts (stepped t s).answer (passed stop (returned (stepped t s)) g).accepted) h
 
   is-steps : (n : ℕ) (e : Ended) → IsSteps t n e.state (running (stepped t) stop n e)
   unfolding running after

@@ -1,8 +1,7 @@
 -- Runs over any step: one more step, the end, and what an allowance changes.
 -- Assumes nothing.
-use Rattle.std.proofs.Common.{◌≡◌, ℕ, zero, suc, ◌+◌, ◌-◌, ◌%◌, ◌^◌, ◌<◌, ◌≤◌, Bool, true, false, cond, ltb, ◌≢◌, [], sym, refl, ap, ◌∙◌, arith}
-use Rattle.answers.specs.declared.Answer.{Answer}
-use Rattle.answers.specs.declared.Answer.TheVariants.{Done, Refused}
+use Rattle.std.proofs.Common.{◌≡◌, ℕ, zero, suc, ◌+◌, ◌-◌, ◌%◌, ◌^◌, ◌<◌, ◌≤◌, Bool, true, false, cond, ltb, ◌≢◌, [], sym, refl, ap, ◌∙◌, arith, Err, None, Ok, Option, Result, Some}
+use Rattle.std.specs.Prelude.{⊤}
 use Rattle.memory.specs.Writes.{writes_of}
 use Rattle.journal.specs.Recorded.{State, Ended, returned}
 use Rattle.journal.specs.declared.Outcome.{Outcome}
@@ -10,28 +9,26 @@ use Rattle.runs.specs.Runs.{is_refused, waits, is_at, tested, reads_in, writes_i
 use Rattle.runs.specs.declared.Reason.{Reason}
 use Rattle.runs.specs.declared.Reason.TheVariants.{StepRefused, Waits, StopAddress, DeviceWrite, Allowance}
 use Rattle.runs.specs.declared.RunOutcome.{RunOutcome}
-use Rattle.runs.specs.declared.Stop.{Stop}
-use Rattle.runs.specs.declared.Verdict.{Verdict}
-use Rattle.runs.specs.declared.Verdict.TheVariants.{Ends, GoesOn}
+use Rattle.answers.specs.declared.Refusal.{Refusal}
 
 -- what holds where a step ends the run, and of the rest where it goes on, holds of both
-pub either_way : (P : RunEnded → Type 0) (v : Verdict) (e : Ended) (r : RunEnded) → ((reason : Reason) → P (ends_by reason e)) → P r → P (unless_ends v e r)
-either_way P (Ends reason) e r h k = h reason
-either_way P GoesOn e r h k = k
+pub either_way : (P : RunEnded → Type 0) (v : Option Reason) (e : Ended) (r : RunEnded) → ((reason : Reason) → P (ends_by reason e)) → P r → P (unless_ends v e r)
+either_way P (Some reason) e r h k = h reason
+either_way P None e r h k = k
 
 -- ---- the verdict
 
 -- what a step after which the run goes on was
-pub record Passed (stop : Stop) (o : Outcome) : Type 0 where
+pub record Passed (stop : Option ℕ) (o : Outcome) : Type 0 where
   pub accepted : is_refused o.answer ≡ false
   pub runs : waits o.twin.machine.wait ≡ false
   pub elsewhere : is_at stop o.twin.machine.regs.pc ≡ false
   pub quiet : ltb 0 o.devices.count ≡ false
 
-not_same : Ends StepRefused ≢ GoesOn
+not_same : Some StepRefused ≢ None
 not_same e = let z : ◌≡◌ {A = ℕ} 0 1 = cc in omega arith
 
-all-false : (a b c d : Bool) → cond a (Ends StepRefused) (cond b (Ends Waits) (cond c (Ends StopAddress) (cond d (Ends DeviceWrite) GoesOn))) ≡ GoesOn
+all-false : (a b c d : Bool) → cond a (Some StepRefused) (cond b (Some Waits) (cond c (Some StopAddress) (cond d (Some DeviceWrite) None))) ≡ None
     → (a ≡ false) × ((b ≡ false) × ((c ≡ false) × (d ≡ false)))
 all-false false false false false e = (refl, (refl, (refl, refl)))
 all-false true b c d e = let z : ◌≡◌ {A = ℕ} 0 1 = cc in absurd (omega arith)
@@ -39,27 +36,27 @@ all-false false true c d e = let z : ◌≡◌ {A = ℕ} 0 1 = cc in absurd (ome
 all-false false false true d e = let z : ◌≡◌ {A = ℕ} 0 1 = cc in absurd (omega arith)
 all-false false false false true e = let z : ◌≡◌ {A = ℕ} 0 1 = cc in absurd (omega arith)
 
-no-allowance : (a b c d : Bool) → cond a (Ends StepRefused) (cond b (Ends Waits) (cond c (Ends StopAddress) (cond d (Ends DeviceWrite) GoesOn))) ≢ Ends Allowance
+no-allowance : (a b c d : Bool) → cond a (Some StepRefused) (cond b (Some Waits) (cond c (Some StopAddress) (cond d (Some DeviceWrite) None))) ≢ Some Allowance
 no-allowance true b c d e = let z : ◌≡◌ {A = ℕ} 0 1 = cc in omega arith
 no-allowance false true c d e = let z : ◌≡◌ {A = ℕ} 0 1 = cc in omega arith
 no-allowance false false true d e = let z : ◌≡◌ {A = ℕ} 0 1 = cc in omega arith
 no-allowance false false false true e = let z : ◌≡◌ {A = ℕ} 0 1 = cc in omega arith
 no-allowance false false false false e = let z : ◌≡◌ {A = ℕ} 0 1 = cc in omega arith
 
-module _ (stop : Stop) (o : Outcome) where
-  pub passed : tested stop o ≡ GoesOn → Passed stop o
+module _ (stop : Option ℕ) (o : Outcome) where
+  pub passed : tested stop o ≡ None → Passed stop o
   unfolding tested
   passed e =
       let h = all-false (is_refused o.answer) (waits o.twin.machine.wait) (is_at stop o.twin.machine.regs.pc) (ltb 0 o.devices.count) e in
       record { accepted = h.0; runs = h.1.0; elsewhere = h.1.1.0; quiet = h.1.1.1 }
 
-  pub not-by-allowance : tested stop o ≢ Ends Allowance
+  pub not-by-allowance : tested stop o ≢ Some Allowance
   unfolding tested
   not-by-allowance = no-allowance (is_refused o.answer) (waits o.twin.machine.wait) (is_at stop o.twin.machine.regs.pc) (ltb 0 o.devices.count)
 
-pub accepts : (a : Answer) → is_refused a ≡ false → a ≡ Done
-accepts Done e = refl
-accepts (Refused x) e = let z : ◌≡◌ {A = ℕ} 0 1 = cc in absurd (omega arith)
+pub accepts : (a : Result ⊤ Refusal) → is_refused a ≡ false → a ≡ (Ok tt)
+accepts (Ok u) e = refl
+accepts (Err x) e = let z : ◌≡◌ {A = ℕ} 0 1 = cc in absurd (omega arith)
 
 -- ---- one more step, and the end
 
@@ -93,19 +90,19 @@ carried reads writes f a b h = record {
     number = (h.result i).number;
     reads = wraps reads (reads_in (returned f)) a.reads b.reads (ap (λ (o : RunOutcome). o.reads) h.result) i;
     writes = wraps writes (writes_in (returned f)) a.writes b.writes (ap (λ (o : RunOutcome). o.writes) h.result) i;
-    answer = Done;
+    answer = (Ok tt);
   };
   state = h.state;
 }
 
-module _ (step : State → Ended) (stop : Stop) where
+module _ (step : State → Ended) (stop : Option ℕ) where
   -- what is left of a run depends on the state alone, where the last step was accepted and reported nothing
-  pub from-state : (n : ℕ) (e : Ended) → e.answer ≡ Done → e.devices ≡ writes_of [] → Alike (running step stop n e) (running step stop n (unmade e.state))
+  pub from-state : (n : ℕ) (e : Ended) → e.answer ≡ (Ok tt) → e.devices ≡ writes_of [] → Alike (running step stop n e) (running step stop n (unmade e.state))
   unfolding running
   from-state zero e a d = record { result = rw (a, d); state = refl }
   from-state (suc n) e a d = record { result = refl; state = refl }
 
-  pub goes_on : Neat step → (n : ℕ) (s : State) (reads writes : ℕ) → 0 < n → tested stop (returned (step s)) ≡ GoesOn
+  pub goes_on : Neat step → (n : ℕ) (s : State) (reads writes : ℕ) → 0 < n → tested stop (returned (step s)) ≡ None
       → Alike (resumed reads writes (running step stop n (unmade s)))
       (resumed ((reads + reads_in (returned (step s))) % 2 ^ 64) ((writes + writes_in (returned (step s))) % 2 ^ 64) (running step stop (n - 1) (unmade (step s).state)))
   unfolding running
@@ -116,7 +113,7 @@ module _ (step : State → Ended) (stop : Stop) where
       let e : suc n - 1 ≡ n = omega arith in
       rw (g, e) (carried reads writes (step s) (running step stop n (step s)) (running step stop n (unmade (step s).state)) w)
 
-  pub ends-here : (n : ℕ) (s : State) (reason : Reason) → 0 < n → tested stop (returned (step s)) ≡ Ends reason
+  pub ends-here : (n : ℕ) (s : State) (reason : Reason) → 0 < n → tested stop (returned (step s)) ≡ Some reason
       → running step stop n (unmade s) ≡ counting (step s) (ends_by reason (step s))
   unfolding running
   ends-here zero s reason h g = absurd (omega arith)
@@ -124,12 +121,12 @@ module _ (step : State → Ended) (stop : Stop) where
 
 -- ---- a larger allowance
 
-larger-by : (v : Verdict) (f : Ended) (a b : RunEnded) → (b.reason ≢ Allowance → a ≡ b) → (unless_ends v f b).reason ≢ Allowance
+larger-by : (v : Option Reason) (f : Ended) (a b : RunEnded) → (b.reason ≢ Allowance → a ≡ b) → (unless_ends v f b).reason ≢ Allowance
     → counting f (unless_ends v f a) ≡ counting f (unless_ends v f b)
-larger-by (Ends x) f a b h r = refl
-larger-by GoesOn f a b h r = ap (counting f) (h r)
+larger-by (Some x) f a b h r = refl
+larger-by None f a b h r = ap (counting f) (h r)
 
-module _ (step : State → Ended) (stop : Stop) where
+module _ (step : State → Ended) (stop : Option ℕ) where
   pub larger : (n m : ℕ) (e : Ended) → n ≤ m → (running step stop n e).reason ≢ Allowance → running step stop m e ≡ running step stop n e
   unfolding running
   larger zero m e h r = absurd (r refl)
@@ -149,12 +146,12 @@ three a b c = omega arith
 pub resumed-none : (r : RunEnded) → r ≡ resumed 0 0 r
 resumed-none r = λ i. record { reason = r.reason; last = r.last; reads = none_before r.reads i; writes = none_before r.writes i }
 
-joins-by : (v : Verdict) (f : Ended) (a c : RunEnded) (rest : Ended → RunEnded) → v ≢ Ends Allowance → (unless_ends v f a).reason ≡ Allowance
+joins-by : (v : Option Reason) (f : Ended) (a c : RunEnded) (rest : Ended → RunEnded) → v ≢ Some Allowance → (unless_ends v f a).reason ≡ Allowance
     → (a.reason ≡ Allowance → c ≡ resumed a.reads a.writes (rest a.last))
     → counting f (unless_ends v f c)
     ≡ resumed (counting f (unless_ends v f a)).reads (counting f (unless_ends v f a)).writes (rest (unless_ends v f a).last)
-joins-by (Ends x) f a c rest u r h = absurd (u (ap Ends r))
-joins-by GoesOn f a c rest u r h =
+joins-by (Some x) f a c rest u r h = absurd (u (ap Some r))
+joins-by None f a c rest u r h =
     ap (counting f) (h r)
     ∙ (λ i. record {
       reason = (rest a.last).reason;
@@ -163,7 +160,7 @@ joins-by GoesOn f a c rest u r h =
       writes = three (writes_in (returned f)) a.writes (rest a.last).writes i;
     })
 
-module _ (step : State → Ended) (stop : Stop) where
+module _ (step : State → Ended) (stop : Option ℕ) where
   pub joins : (n m : ℕ) (e : Ended) → (running step stop n e).reason ≡ Allowance
       → running step stop (n + m) e ≡ resumed (running step stop n e).reads (running step stop n e).writes (running step stop m (running step stop n e).last)
   unfolding running
@@ -177,22 +174,22 @@ module _ (step : State → Ended) (stop : Stop) where
 -- ---- how a run ends
 
 -- no step was made; all were made that were allowed, and the last did not end the run; or a step ended it
-pub data Close (step : State → Ended) (stop : Stop) (n : ℕ) (e : Ended) (r : RunEnded) : Type 0 where
+pub data Close (step : State → Ended) (stop : Option ℕ) (n : ℕ) (e : Ended) (r : RunEnded) : Type 0 where
   unmoved : n ≡ 0 → r.reason ≡ Allowance → r.last ≡ e → Close step stop n e r
-  all_made : (s : State) → 0 < n → tested stop (returned (step s)) ≡ GoesOn → r.reason ≡ Allowance → r.last ≡ step s → Close step stop n e r
-  stopped : (s : State) → tested stop (returned (step s)) ≡ Ends r.reason → r.last ≡ step s → Close step stop n e r
+  all_made : (s : State) → 0 < n → tested stop (returned (step s)) ≡ None → r.reason ≡ Allowance → r.last ≡ step s → Close step stop n e r
+  stopped : (s : State) → tested stop (returned (step s)) ≡ Some r.reason → r.last ≡ step s → Close step stop n e r
 
-module _ (step : State → Ended) (stop : Stop) where
-  later : (n : ℕ) (e : Ended) (r : RunEnded) → tested stop (returned (step e.state)) ≡ GoesOn → Close step stop n (step e.state) r
+module _ (step : State → Ended) (stop : Option ℕ) where
+  later : (n : ℕ) (e : Ended) (r : RunEnded) → tested stop (returned (step e.state)) ≡ None → Close step stop n (step e.state) r
       → Close step stop (suc n) e (counting (step e.state) r)
   later n e r g (unmoved z q l) = all_made e.state (omega arith) g q l
   later n e r g (all_made s p h q l) = all_made s (omega arith) h q l
   later n e r g (stopped s h l) = stopped s h l
 
-  by-verdict : (n : ℕ) (e : Ended) (r : RunEnded) (v : Verdict) → tested stop (returned (step e.state)) ≡ v → Close step stop n (step e.state) r
+  by-verdict : (n : ℕ) (e : Ended) (r : RunEnded) (v : Option Reason) → tested stop (returned (step e.state)) ≡ v → Close step stop n (step e.state) r
       → Close step stop (suc n) e (counting (step e.state) (unless_ends v (step e.state) r))
-  by-verdict n e r (Ends x) g h = stopped e.state g refl
-  by-verdict n e r GoesOn g h = later n e r g h
+  by-verdict n e r (Some x) g h = stopped e.state g refl
+  by-verdict n e r None g h = later n e r g h
 
   pub close : (n : ℕ) (e : Ended) → Close step stop n e (running step stop n e)
   unfolding running

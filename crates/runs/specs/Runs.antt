@@ -1,10 +1,8 @@
 -- A run with an allowance (document 02, [12]): recorded steps, until one is refused, the machine waits, PC is at the stop address, a device
 -- write is reported, or the allowance is used up. They are tested in this order after each step; before the first, the allowance alone.
 -- Assumes nothing.
-use Rattle.std.specs.Prelude.{◌≡◌, ℕ, zero, suc, ◌+◌, ◌%◌, ◌^◌, Bool, true, false, cond, List, [], ◌==◌, nat_lt}
+use Rattle.std.specs.Prelude.{◌≡◌, ℕ, zero, suc, ◌+◌, ◌%◌, ◌^◌, Bool, true, false, cond, List, [], ◌==◌, nat_lt, Err, None, Ok, Option, Result, Some, ⊤}
 use Rattle.answers.specs.Numbers.{number_of_answer}
-use Rattle.answers.specs.declared.Answer.{Answer}
-use Rattle.answers.specs.declared.Answer.TheVariants.{Done, Refused}
 use Rattle.memory.specs.Writes.{writes_of}
 use Rattle.machine.specs.declared.Settings.{Settings}
 use Rattle.machine.specs.declared.Wait.{Wait}
@@ -14,34 +12,31 @@ use Rattle.journal.specs.declared.Outcome.{Outcome}
 use Rattle.runs.specs.declared.Reason.{Reason}
 use Rattle.runs.specs.declared.Reason.TheVariants.{StepRefused, Waits, StopAddress, DeviceWrite, Allowance}
 use Rattle.runs.specs.declared.RunOutcome.{RunOutcome}
-use Rattle.runs.specs.declared.Stop.{Stop}
-use Rattle.runs.specs.declared.Stop.TheVariants.{Nowhere, At}
-use Rattle.runs.specs.declared.Verdict.{Verdict}
-use Rattle.runs.specs.declared.Verdict.TheVariants.{Ends, GoesOn}
+use Rattle.answers.specs.declared.Refusal.{Refusal}
 
 -- ---- what is tested after a step
 
-abbrev pub is_refused : Answer → Bool
-is_refused Done = false
-is_refused (Refused x) = true
+abbrev pub is_refused : Result ⊤ Refusal → Bool
+is_refused (Ok u) = false
+is_refused (Err x) = true
 
 abbrev pub waits : Wait → Bool
 waits Running = false
 waits Cwai = true
 waits Sync = true
 
-abbrev pub is_at : Stop → ℕ → Bool
-is_at Nowhere pc = false
-is_at (At a) pc = pc == a
+abbrev pub is_at : Option ℕ → ℕ → Bool
+is_at None pc = false
+is_at (Some a) pc = pc == a
 
 -- the first that holds ends the run; where none does, it goes on as long as steps are allowed
-unfoldable pub tested : Stop → Outcome → Verdict
+unfoldable pub tested : Option ℕ → Outcome → Option Reason
 tested stop o =
-    cond (is_refused o.answer) (Ends StepRefused)
-    (cond (waits o.twin.machine.wait) (Ends Waits)
-    (cond (is_at stop o.twin.machine.regs.pc) (Ends StopAddress)
-    (cond (nat_lt 0 o.devices.count) (Ends DeviceWrite)
-    GoesOn)))
+    cond (is_refused o.answer) (Some StepRefused)
+    (cond (waits o.twin.machine.wait) (Some Waits)
+    (cond (is_at stop o.twin.machine.regs.pc) (Some StopAddress)
+    (cond (nat_lt 0 o.devices.count) (Some DeviceWrite)
+    None)))
 
 -- ---- the run
 
@@ -61,7 +56,7 @@ pub record RunEnded : Type 0 where
 
 -- where no step was made: nothing is refused, reported or counted
 abbrev pub unmade : State → Ended
-unmade s = record { answer = Done; state = s; devices = writes_of []; reads = 0; writes = 0 }
+unmade s = record { answer = (Ok tt); state = s; devices = writes_of []; reads = 0; writes = 0 }
 
 abbrev pub ends_by : Reason → Ended → RunEnded
 ends_by reason e = record { reason = reason; last = e; reads = 0; writes = 0 }
@@ -70,19 +65,19 @@ ends_by reason e = record { reason = reason; last = e; reads = 0; writes = 0 }
 abbrev pub counting : Ended → RunEnded → RunEnded
 counting e r = record { reason = r.reason; last = r.last; reads = reads_in (returned e) + r.reads; writes = writes_in (returned e) + r.writes }
 
-abbrev pub unless_ends : Verdict → Ended → RunEnded → RunEnded
-unless_ends (Ends reason) e rest = ends_by reason e
-unless_ends GoesOn e rest = rest
+abbrev pub unless_ends : Option Reason → Ended → RunEnded → RunEnded
+unless_ends (Some reason) e rest = ends_by reason e
+unless_ends None e rest = rest
 
 -- at most so many steps, after one that ended as e
-unfoldable pub running : (State → Ended) → Stop → ℕ → Ended → RunEnded
+unfoldable pub running : (State → Ended) → Option ℕ → ℕ → Ended → RunEnded
 running step stop zero e = ends_by Allowance e
 running step stop (suc n) e =
     let f = step e.state in
     counting f (unless_ends (tested stop (returned f)) f (running step stop n f))
 
 -- a run of recorded steps with an allowance of n
-abbrev pub ran : Settings → Stop → ℕ → State → RunEnded
+abbrev pub ran : Settings → Option ℕ → ℕ → State → RunEnded
 ran t stop n s = running (stepped t) stop n (unmade s)
 
 -- ---- what it returns
@@ -105,7 +100,7 @@ ran_returned r =
       number = number_of_answer r.last.answer;
       reads = r.reads % 2 ^ 64;
       writes = r.writes % 2 ^ 64;
-      answer = Done;
+      answer = (Ok tt);
     }
 
 -- a result, a memory and a journal are those of a run that ended so

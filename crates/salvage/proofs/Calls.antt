@@ -1,5 +1,6 @@
 -- `salvage` by what is too short.
 -- Assumes nothing.
+use Rattle.std.specs.Prelude.{Err, Ok, Result}
 use Prim.Native.Nat.{ℕ, ◌+◌, ◌*◌, ◌≤◌, ◌<◌}
 use native.Mathlib.Omega.{arith}
 use mathlib.Core.Path.{◌≡◌, refl, ap, ◌∙◌}
@@ -9,10 +10,10 @@ use lib.Dec.{ltb}
 use lib.ListN.{length, length-append}
 use lib.Seq.{sets}
 use borrow.Author.Tests.{lt-ltb, le-ltb}
-use Rattle.answers.specs.declared.Answer.TheVariants.{Done}
+use Rattle.answers.specs.declared.Refusal.{Refusal}
 use Rattle.answers.specs.declared.Refusal.TheVariants.{SalvageShort}
 use Rattle.srecord.proofs.Laying.{sets-two}
-use Rattle.salvage.specs.Mended.{kept_of, end_if, is_added, mended, dropped_numbers, number_bytes, tally_of, is_short, salvaged_not, salvaged_of, output_mended, list_filled}
+use Rattle.salvage.specs.Mended.{kept_of, end_if, is_added, mended, dropped_numbers, number_bytes, tally_of, is_short, salvaged_of, output_mended, list_filled}
 use Rattle.salvage.specs.declared.mended.Salvaged.{Salvaged}
 use Rattle.salvage.specs.declared.mended.Tally.{Tally}
 use Rattle.salvage.proofs.Laying.{eight-each}
@@ -44,7 +45,7 @@ module _ (file : List ℕ) (found : Tally) (f : found ≡ tally_of file) where
 
     module _ (out list : List ℕ) where
       abbrev Unwritten : Type 0
-      Unwritten = (salvaged_not SalvageShort ≡ salvaged_of file out list) × ((out ≡ output_mended file out list) × (list ≡ list_filled file out list))
+      Unwritten = (Err SalvageShort ≡ salvaged_of file out list) × ((out ≡ output_mended file out list) × (list ≡ list_filled file out list))
 
       refuses : is_short file out list ≡ true → Unwritten
       unfolding salvaged_of output_mended list_filled
@@ -72,7 +73,7 @@ module _ (file : List ℕ) (found : Tally) (f : found ≡ tally_of file) where
           rw (le-ltb (length out) (length (mended file)) (omega arith), le-ltb (length list) (length (number_bytes file)) (omega arith))
 
       whole : is_short file out list ≡ false
-          → ◌≡◌ {A = Salvaged} (record { bytes = found.bytes + more; numbers = found.numbers; added = not found.ended; answer = Done }) (salvaged_of file out list)
+          → ◌≡◌ {A = Result Salvaged Refusal} (Ok (record { bytes = found.bytes + more; numbers = found.numbers; added = not found.ended })) (salvaged_of file out list)
       unfolding salvaged_of tally_of is_added
       whole e = let n = mended-length in rw (e, n, f)
 
@@ -89,6 +90,6 @@ module _ (file : List ℕ) (found : Tally) (f : found ≡ tally_of file) where
 
       pub accepts : (mid new filled : List ℕ) → found.bytes + more ≤ length out → 8 * found.numbers ≤ length list
           → mid ≡ sets out 0 (kept_of file) → new ≡ sets mid found.bytes (end_if (not found.ended)) → filled ≡ sets list 0 (number_bytes file)
-          → (◌≡◌ {A = Salvaged} (record { bytes = found.bytes + more; numbers = found.numbers; added = not found.ended; answer = Done }) (salvaged_of file out list))
+          → (◌≡◌ {A = Result Salvaged Refusal} (Ok (record { bytes = found.bytes + more; numbers = found.numbers; added = not found.ended })) (salvaged_of file out list))
           × ((new ≡ output_mended file out list) × (filled ≡ list_filled file out list))
       accepts mid new filled h k p q s = let e = long h k in (whole e, (out-whole e mid new p q, list-whole e filled s))

@@ -1,5 +1,7 @@
 -- The lines of a file and those of what is written of it; that it reads; and what comes back of a sound file.
 -- Assumes nothing.
+use Rattle.std.specs.Prelude.{None, Option, Some}
+use Rattle.std.specs.Result.{is_ok}
 use Prim.Native.Nat.{ℕ, ◌+◌, ◌≤◌}
 use native.Mathlib.Omega.{arith}
 use mathlib.Core.Path.{◌≡◌, refl, sym, ap, ◌∙◌}
@@ -8,11 +10,9 @@ use mathlib.Core.List.{List, [], ◌∷◌, ◌++◌, append_assoc, append-nil, 
 use lib.Dec.{eqb}
 use lib.ListN.{length}
 use borrow.Author.Tests.{eq-eqb}
-use Rattle.answers.specs.declared.Answer.TheVariants.{Done, Refused}
 use Rattle.answers.specs.declared.Refusal.{Refusal}
 use Rattle.srecord.specs.Line.{Meaning, heading, piece, start, refused, line_of}
 use Rattle.srecord.specs.File.{in_front_of, lines_of, meanings_of, judged, loaded_of}
-use Rattle.srecord.specs.declared.Loaded.{Loaded}
 use Rattle.srecord.specs.Promises.{IsLine, StandsFor}
 use Rattle.srecord.proofs.Sound.{each, reads}
 use Rattle.srecord.proofs.Exact.{line-exact}
@@ -20,8 +20,6 @@ use Rattle.srecord.proofs.Back.{first-cut}
 use Rattle.salvage.specs.Lines.{fate_of, is_end, has_end, sift, sifted, gathered}
 use Rattle.salvage.specs.Mended.{kept_text, end_line, end_if, kept_of, is_added, mended, number_if_dropped, dropped_number, dropped_numbers}
 use Rattle.salvage.specs.Laws.{line_if_kept, kept_line, kept_lines, Parted, over, keeps, lists, LinesParted, LinesWritten, Rising, NumbersRise, AlwaysReads, SoundAsIs}
-use Rattle.salvage.specs.declared.Fate.{Fate}
-use Rattle.salvage.specs.declared.Fate.TheVariants.{Keep, Drop}
 
 -- ---- the lines are parted
 
@@ -30,9 +28,9 @@ unfolding sift gathered
 parted ended n [] = over
 parted ended n (l ∷ ls) = go (fate_of ended (line_of l)) (parted (ended || is_end (line_of l)) (n + 1) ls)
   where
-    go : {ks : List (List ℕ)} {ns : List ℕ} (f : Fate) → Parted (n + 1) ls ks ns → Parted n (l ∷ ls) (line_if_kept f l ++ ks) (number_if_dropped f (n + 1) ++ ns)
-    go Keep p = keeps p
-    go (Drop r) p = lists p
+    go : {ks : List (List ℕ)} {ns : List ℕ} (f : Option Refusal) → Parted (n + 1) ls ks ns → Parted n (l ∷ ls) (line_if_kept f l ++ ks) (number_if_dropped f (n + 1) ++ ns)
+    go None p = keeps p
+    go (Some r) p = lists p
 
 pub lines-parted : LinesParted
 unfolding kept_lines dropped_numbers
@@ -57,13 +55,13 @@ module _ (l after : List ℕ) where
   is-first : {kind a : ℕ} {d : List ℕ} → IsLine l kind a d → lines_of (l ++ after) ≡ l ∷ lines_of after
   is-first {kind} {a} {d} s = rw s.exact (first-cut kind a d after s.address (each d s.values) s.count)
 
-  good-first : (m : Meaning) → StandsFor l m → fate_of false m ≡ Keep → lines_of (l ++ after) ≡ l ∷ lines_of after
+  good-first : (m : Meaning) → StandsFor l m → fate_of false m ≡ None → lines_of (l ++ after) ≡ l ∷ lines_of after
   good-first (heading d) s e = is-first s.1
   good-first (piece a d) s e = is-first s
   good-first (start a) s e = is-first s
   good-first (refused r) s e = let z : ◌≡◌ {A = ℕ} 0 1 = cc in absurd (omega arith)
 
-  kept-first : (ended : Bool) → fate_of ended (line_of l) ≡ Keep → lines_of (l ++ after) ≡ l ∷ lines_of after
+  kept-first : (ended : Bool) → fate_of ended (line_of l) ≡ None → lines_of (l ++ after) ≡ l ∷ lines_of after
   kept-first false e = good-first (line_of l) (line-exact l) e
   kept-first true e = let z : ◌≡◌ {A = ℕ} 0 1 = cc in absurd (omega arith)
 
@@ -76,11 +74,11 @@ kept-lines ended n (l ∷ ls) tail = go (fate_of ended (line_of l)) refl (kept-l
     text : List ℕ
     text = gathered kept_text (sift (ended || is_end (line_of l)) (n + 1) ls)
 
-    go : (f : Fate) → fate_of ended (line_of l) ≡ f
+    go : (f : Option Refusal) → fate_of ended (line_of l) ≡ f
         → lines_of (text ++ tail) ≡ gathered kept_line (sift (ended || is_end (line_of l)) (n + 1) ls) ++ lines_of tail
         → lines_of (gathered kept_text (sift ended n (l ∷ ls)) ++ tail) ≡ gathered kept_line (sift ended n (l ∷ ls)) ++ lines_of tail
-    go Keep e h = rw (e, append_assoc l text tail) (kept-first l (text ++ tail) ended e ∙ ap (λ (k : List (List ℕ)). l ∷ k) h)
-    go (Drop r) e h = rw e h
+    go None e h = rw (e, append_assoc l text tail) (kept-first l (text ++ tail) ended e ∙ ap (λ (k : List (List ℕ)). l ∷ k) h)
+    go (Some r) e h = rw e h
 
 end-lines : (b : Bool) → lines_of (end_if b) ≡ cond b (end_line ∷ []) []
 unfolding lines_of
@@ -103,13 +101,13 @@ none_after n [] = refl
 none_after n (l ∷ ls) = none_after (n + 1) ls
 
 ends-well : (n : ℕ) (ls : List (List ℕ))
-    → (judged (map line_of (gathered kept_line (sift false n ls) ++ cond (not (has_end ls)) (end_line ∷ []) []))).answer ≡ Done
+    → is_ok (judged (map line_of (gathered kept_line (sift false n ls) ++ cond (not (has_end ls)) (end_line ∷ []) []))) ≡ true
 unfolding sift gathered has_end judged
 ends-well n [] = rw end-means
 ends-well n (l ∷ ls) = go (line_of l) refl (ends-well (n + 1) ls)
   where
-    go : (m : Meaning) → line_of l ≡ m → (judged (map line_of (gathered kept_line (sift false (n + 1) ls) ++ cond (not (has_end ls)) (end_line ∷ []) []))).answer ≡ Done
-        → (judged (map line_of (gathered kept_line (sift false n (l ∷ ls)) ++ cond (not (has_end (l ∷ ls))) (end_line ∷ []) []))).answer ≡ Done
+    go : (m : Meaning) → line_of l ≡ m → is_ok (judged (map line_of (gathered kept_line (sift false (n + 1) ls) ++ cond (not (has_end ls)) (end_line ∷ []) []))) ≡ true
+        → is_ok (judged (map line_of (gathered kept_line (sift false n (l ∷ ls)) ++ cond (not (has_end (l ∷ ls))) (end_line ∷ []) []))) ≡ true
     go (heading d) e h = rw (e, e) h
     go (piece a d) e h = rw (e, e) h
     go (start a) e h = rw (e, none_after (n + 1) ls, e)
@@ -119,7 +117,7 @@ reads_so : (mem file : List ℕ) → length mem ≡ 65536 → loaded_of mem file
 unfolding loaded_of
 reads_so mem file e = rw (eq-eqb (length mem) 65536 e)
 
-well : (file : List ℕ) → (judged (meanings_of (mended file))).answer ≡ Done
+well : (file : List ℕ) → is_ok (judged (meanings_of (mended file))) ≡ true
 unfolding meanings_of is_added kept_lines
 well file = rw (lines-written file) (ends-well 0 (lines_of file))
 
@@ -128,7 +126,7 @@ always-reads mem file e = rw (reads_so mem (mended file) e) (well file)
 
 -- ---- a sound file
 
-not_done : {A : Type 0} {x : Refusal} → Refused x ≡ Done → A
+not_done : {A : Type 0} → false ≡ true → A
 not_done e = let z : ◌≡◌ {A = ℕ} 0 1 = cc in absurd (omega arith)
 
 not-empty : {A : Type 0} {n : ℕ} {ns : List ℕ} → n ∷ ns ≡ [] → A
@@ -157,36 +155,36 @@ record Whole (n : ℕ) (ls : List (List ℕ)) : Type 0 where
   none : gathered dropped_number (sift false n ls) ≡ []
   ends : has_end ls ≡ true
 
-whole : (n : ℕ) (ls : List (List ℕ)) → (judged (map line_of ls)).answer ≡ Done → Whole n ls
+whole : (n : ℕ) (ls : List (List ℕ)) → is_ok (judged (map line_of ls)) ≡ true → Whole n ls
 unfolding sift gathered has_end judged
 whole n [] h = not_done h
 whole n (l ∷ ls) h = go (line_of l) refl ls refl (λ g. whole (n + 1) ls g) h
   where
-    more : ((judged (map line_of ls)).answer ≡ Done → Whole (n + 1) ls) → (judged (map line_of ls)).answer ≡ Done → fate_of false (line_of l) ≡ Keep → is_end (line_of l) ≡ false → Whole n (l ∷ ls)
+    more : (is_ok (judged (map line_of ls)) ≡ true → Whole (n + 1) ls) → is_ok (judged (map line_of ls)) ≡ true → fate_of false (line_of l) ≡ None → is_end (line_of l) ≡ false → Whole n (l ∷ ls)
     more ih g e f =
         let w = ih g in
         record { text = rw (e, f) (ap (λ (t : List ℕ). l ++ t) w.text); none = rw (e, f) w.none; ends = rw f w.ends }
 
-    go : (m : Meaning) → line_of l ≡ m → (ks : List (List ℕ)) → ks ≡ ls → ((judged (map line_of ls)).answer ≡ Done → Whole (n + 1) ls)
-        → (judged (line_of l ∷ map line_of ks)).answer ≡ Done → Whole n (l ∷ ls)
+    go : (m : Meaning) → line_of l ≡ m → (ks : List (List ℕ)) → ks ≡ ls → (is_ok (judged (map line_of ls)) ≡ true → Whole (n + 1) ls)
+        → is_ok (judged (line_of l ∷ map line_of ks)) ≡ true → Whole n (l ∷ ls)
     go (heading d) e ks k ih h = more ih (rw (e, k) at h) (rw e) (rw e)
     go (piece a d) e ks k ih h = more ih (rw (e, k) at h) (rw e) (rw e)
     go (start a) e [] k ih h = rw (← k) (record { text = rw e; none = rw e; ends = rw e })
     go (start a) e (x ∷ ks) k ih h = not_done (rw e at h)
     go (refused r) e ks k ih h = not_done (rw e at h)
 
-sound-of : (n : ℕ) (ls : List (List ℕ)) → gathered dropped_number (sift false n ls) ≡ [] → has_end ls ≡ true → (judged (map line_of ls)).answer ≡ Done
+sound-of : (n : ℕ) (ls : List (List ℕ)) → gathered dropped_number (sift false n ls) ≡ [] → has_end ls ≡ true → is_ok (judged (map line_of ls)) ≡ true
 unfolding sift gathered has_end judged
 sound-of n [] d h = let z : ◌≡◌ {A = ℕ} 0 1 = cc in absurd (omega arith)
 sound-of n (l ∷ ls) d h = go (line_of l) refl (λ x y. sound-of (n + 1) ls x y)
   where
-    alone : (a : ℕ) (ks : List (List ℕ)) → gathered dropped_number (sift true (n + 1) ks) ≡ [] → (judged (start a ∷ map line_of ks)).answer ≡ Done
+    alone : (a : ℕ) (ks : List (List ℕ)) → gathered dropped_number (sift true (n + 1) ks) ≡ [] → is_ok (judged (start a ∷ map line_of ks)) ≡ true
     alone a [] q = refl
     alone a (x ∷ ks) q = not-empty q
 
     go : (m : Meaning) → line_of l ≡ m
-        → (gathered dropped_number (sift false (n + 1) ls) ≡ [] → has_end ls ≡ true → (judged (map line_of ls)).answer ≡ Done)
-        → (judged (line_of l ∷ map line_of ls)).answer ≡ Done
+        → (gathered dropped_number (sift false (n + 1) ls) ≡ [] → has_end ls ≡ true → is_ok (judged (map line_of ls)) ≡ true)
+        → is_ok (judged (line_of l ∷ map line_of ls)) ≡ true
     go (heading a) e ih = rw e (ih (rw e at d) (rw e at h))
     go (piece a b) e ih = rw e (ih (rw e at d) (rw e at h))
     go (start a) e ih = rw e (alone a ls (rw e at d))
@@ -197,21 +195,21 @@ not-true true e = refl
 not-true false e = sym e
 
 module _ (mem file : List ℕ) (e : length mem ≡ 65536) where
-  so : (loaded_of mem file).answer ≡ (judged (map line_of (lines_of file))).answer
+  so : is_ok (loaded_of mem file) ≡ is_ok (judged (map line_of (lines_of file)))
   unfolding meanings_of
-  so = ap (λ (l : Loaded). l.answer) (reads_so mem file e)
+  so = ap is_ok (reads_so mem file e)
 
-  back : (loaded_of mem file).answer ≡ Done → (mended file ≡ file) × ((dropped_numbers file ≡ []) × (is_added file ≡ false))
+  back : is_ok (loaded_of mem file) ≡ true → (mended file ≡ file) × ((dropped_numbers file ≡ []) × (is_added file ≡ false))
   unfolding mended kept_of is_added dropped_numbers
   back h =
       let w = whole 0 (lines_of file) (sym so ∙ h) in
       (rw w.ends (append-nil _ ∙ w.text ∙ rejoined file), (w.none, rw w.ends))
 
-  nothing : dropped_numbers file ≡ [] → is_added file ≡ false → (loaded_of mem file).answer ≡ Done
+  nothing : dropped_numbers file ≡ [] → is_added file ≡ false → is_ok (loaded_of mem file) ≡ true
   unfolding is_added dropped_numbers
   nothing d a = so ∙ sound-of 0 (lines_of file) d (not-true (has_end (lines_of file)) a)
 
-  same : mended file ≡ file → (loaded_of mem file).answer ≡ Done
+  same : mended file ≡ file → is_ok (loaded_of mem file) ≡ true
   same m = rw m at (always-reads mem file e)
 
 pub sound-as-is : SoundAsIs

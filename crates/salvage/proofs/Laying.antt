@@ -1,5 +1,6 @@
 -- What `put_lines` has laid before a cursor, and what is left.
 -- Assumes nothing.
+use Rattle.std.specs.Prelude.{None, Some}
 use Prim.Native.Nat.{ℕ, ◌+◌, ◌-◌, ◌*◌, ◌≤◌}
 use native.Mathlib.Omega.{arith}
 use mathlib.Core.Path.{◌≡◌, refl, sym, ap, ◌∙◌}
@@ -12,7 +13,6 @@ use Rattle.machine.specs.Record.{bytes as low_bytes, counter}
 use Rattle.srecord.proofs.Laying.{sets-two}
 use Rattle.salvage.specs.Lines.{gathered}
 use Rattle.salvage.specs.Mended.{kept_text, dropped_number, kept_of, dropped_numbers, in_bytes, number_bytes}
-use Rattle.salvage.specs.declared.Fate.TheVariants.{Keep, Drop}
 use Rattle.salvage.specs.declared.Cursor.{Cursor}
 use Rattle.salvage.specs.declared.Turn.{Turn}
 use Rattle.salvage.proofs.Walk.{rest, Turned, line-length, kept-text, kept-number, dropped-text, dropped-number, none}
@@ -45,7 +45,7 @@ eight-each (n ∷ ns) = length-append (low_bytes 8 n) (in_bytes ns) ∙ omega (a
 
 module _ (file out₀ list₀ : List ℕ) (at : Cursor) (t : Turn) (bytes listed : ℕ) (out list : List ℕ) (w : Turned file at t)
     (k : Laid file out₀ list₀ at bytes listed out list) where
-  pub keeps : (new : List ℕ) → t.fate ≡ Keep → new ≡ sets out bytes (take (t.next.from - at.from) (drop at.from file))
+  pub keeps : (new : List ℕ) → t.fate ≡ None → new ≡ sets out bytes (take (t.next.from - at.from) (drop at.from file))
       → Laid file out₀ list₀ t.next (bytes + (t.next.from - at.from)) listed new list
   keeps new e s =
       let o = w.on in
@@ -69,14 +69,14 @@ module _ (file out₀ list₀ : List ℕ) (at : Cursor) (t : Turn) (bytes listed
         list-is = rw q at k.list-is;
       }
 
-  pub room-left : (r : Refusal) → t.fate ≡ Drop r → listed + 8 ≤ length list₀
+  pub room-left : (r : Refusal) → t.fate ≡ Some r → listed + 8 ≤ length list₀
   room-left r e =
       let q = dropped-number file at t w r e in
       let a = eight-each (gathered dropped_number (rest file at)) in
       let l = ap length q in
       omega (arith, k.room)
 
-  pub drops : (new : List ℕ) (r : Refusal) → t.fate ≡ Drop r → new ≡ sets list listed (counter t.next.lines)
+  pub drops : (new : List ℕ) (r : Refusal) → t.fate ≡ Some r → new ≡ sets list listed (counter t.next.lines)
       → Laid file out₀ list₀ t.next bytes (listed + 8) out new
   drops new r e s =
       let o = w.on in

@@ -1,8 +1,9 @@
 -- What `mend` writes, by the answer; and that it fits the program's buffers.
 -- Assumes nothing.
+use Rattle.std.specs.Prelude.{Err, None, Option, Result, Some}
 use Prim.Native.Nat.{ℕ, ◌+◌, ◌*◌, ◌≤◌, ◌<◌}
 use native.Mathlib.Omega.{arith}
-use mathlib.Core.Path.{◌≡◌, refl, sym, ap, ◌∙◌}
+use mathlib.Core.Path.{◌≡◌, refl, sym, ◌∙◌}
 use mathlib.Core.Bool.{Bool, true, false, cond, ◌||◌}
 use mathlib.Core.List.{List, [], ◌∷◌}
 use lib.Dec.{leb, ltb}
@@ -10,19 +11,16 @@ use lib.ListN.{length, replicate, length-append, length-replicate}
 use lib.Seq.{sets}
 use borrow.Author.Tests.{le-leb, lt-leb, ltb-false}
 use Rattle.answers.specs.Numbers.{number_of}
-use Rattle.answers.specs.declared.Answer.{Answer}
-use Rattle.answers.specs.declared.Answer.TheVariants.{Refused}
 use Rattle.answers.specs.declared.Refusal.TheVariants.{SalvageShort, Malformed}
 use Rattle.text.specs.Lines.{alone}
 use Rattle.salvage.specs.Lines.{Sifted, sifted, gathered}
-use Rattle.salvage.specs.Mended.{is_added, mended, dropped_number, dropped_numbers, number_bytes, is_short, salvaged_not, salvaged_of, output_mended}
-use Rattle.salvage.specs.Printed.{longest, dropped_text, report_text, no_numbers, mend_answer, output_printed, error_text, printed_of, PrintedFits, MendFits}
-use Rattle.salvage.specs.declared.Fate.{Fate}
-use Rattle.salvage.specs.declared.Fate.TheVariants.{Keep, Drop}
+use Rattle.salvage.specs.Mended.{is_added, mended, dropped_number, dropped_numbers, number_bytes, is_short, salvaged_of, output_mended}
+use Rattle.salvage.specs.Printed.{longest, dropped_text, report_text, no_numbers, mend_answer, output_printed, error_text, text_length, printed_of, PrintedFits, MendFits}
 use Rattle.salvage.specs.declared.mended.Salvaged.{Salvaged}
 use Rattle.salvage.specs.declared.printed.Printed.{Printed}
 use Rattle.salvage.proofs.Laying.{eight-each}
 use Rattle.salvage.proofs.Telling.{alone-short, added-short, line-fits}
+use Rattle.answers.specs.declared.Refusal.{Refusal}
 
 -- ---- by the answer
 
@@ -31,19 +29,16 @@ module _ (file out report : List ℕ) where
   abbrev Prints : ℕ → ℕ → List ℕ → List ℕ → Type 0
   Prints t k o new =
       (◌≡◌ {A = Printed} (record { text = t; report = k }) (printed_of file out))
-      × ((o ≡ output_printed file out) × (new ≡ sets report 0 (error_text (mend_answer file out).answer file)))
+      × ((o ≡ output_printed file out) × (new ≡ sets report 0 (error_text (mend_answer file out) file)))
 
-  printed-by : (s : Salvaged) (o new : List ℕ) (a : Answer) (t k : ℕ) → s ≡ mend_answer file out → o ≡ output_printed file out → s.answer ≡ a → t ≡ s.bytes
+  printed-by : (a : Result Salvaged Refusal) (o new : List ℕ) (t k : ℕ) → a ≡ mend_answer file out → o ≡ output_printed file out → t ≡ text_length a
       → k ≡ length (error_text a file) → new ≡ sets report 0 (error_text a file)
       → Prints t k o new
   unfolding printed_of
-  printed-by s o new a t k p h q b m n =
-      let e : (mend_answer file out).answer ≡ a = ap (λ (x : Salvaged). x.answer) (sym p) ∙ q in
-      let f : t ≡ (mend_answer file out).bytes = b ∙ ap (λ (x : Salvaged). x.bytes) p in
-      (rw (e, f, m), (h, rw e n))
+  printed-by a o new t k p h b m n = rw (b, m, p) (refl, (h, rw p at n))
 
   module _ (h : longest < length file) where
-    answer-long : salvaged_not Malformed ≡ mend_answer file out
+    answer-long : Err Malformed ≡ mend_answer file out
     unfolding mend_answer
     answer-long = rw (lt-leb (length file) longest h)
 
@@ -53,10 +48,10 @@ module _ (file out report : List ℕ) where
 
     pub too_long : (new : List ℕ) (k : ℕ) → (k ≡ length (alone (number_of Malformed))) × (new ≡ sets report 0 (alone (number_of Malformed)))
         → Prints 0 k out new
-    too_long new k p = printed-by (salvaged_not Malformed) out new (Refused Malformed) 0 k answer-long output-long refl refl p.0 p.1
+    too_long new k p = printed-by (Err Malformed) out new 0 k answer-long output-long refl p.0 p.1
 
-  module _ (h : length file ≤ longest) (list : List ℕ) (l : list ≡ no_numbers) (s : Salvaged) (o : List ℕ) (p : s ≡ salvaged_of file out list) (q : o ≡ output_mended file out list) where
-    answer-is : s ≡ mend_answer file out
+  module _ (h : length file ≤ longest) (list : List ℕ) (l : list ≡ no_numbers) (a : Result Salvaged Refusal) (o : List ℕ) (p : a ≡ salvaged_of file out list) (q : o ≡ output_mended file out list) where
+    answer-is : a ≡ mend_answer file out
     unfolding mend_answer
     answer-is = p ∙ rw (l, le-leb (length file) longest h)
 
@@ -64,9 +59,9 @@ module _ (file out report : List ℕ) where
     unfolding output_printed
     output-is = q ∙ rw (l, le-leb (length file) longest h)
 
-    pub told : (a : Answer) (new : List ℕ) (k : ℕ) → s.answer ≡ a → (k ≡ length (error_text a file)) × (new ≡ sets report 0 (error_text a file))
-        → Prints s.bytes k o new
-    told a new k e m = printed-by s o new a s.bytes k answer-is output-is e refl m.0 m.1
+    pub told : (new : List ℕ) (k : ℕ) → (k ≡ length (error_text a file)) × (new ≡ sets report 0 (error_text a file))
+        → Prints (text_length a) k o new
+    told new k m = printed-by a o new (text_length a) k answer-is output-is refl m.0 m.1
 
 -- ---- it fits
 
@@ -79,10 +74,10 @@ unfolding gathered
 told-short [] = omega arith
 told-short (s ∷ ss) = go s.fate refl (told-short ss)
   where
-    go : (f : Fate) → s.fate ≡ f → length (gathered dropped_text ss) ≤ 50 * length (gathered dropped_number ss)
+    go : (f : Option Refusal) → s.fate ≡ f → length (gathered dropped_text ss) ≤ 50 * length (gathered dropped_number ss)
         → length (gathered dropped_text (s ∷ ss)) ≤ 50 * length (gathered dropped_number (s ∷ ss))
-    go Keep e h = rw e h
-    go (Drop r) e h = rw e (simp length-append (omega (arith, line-fits s.number r _ refl)))
+    go None e h = rw e h
+    go (Some r) e h = rw e (simp length-append (omega (arith, line-fits s.number r _ refl)))
 
 or_left : (a b : Bool) → (a || b) ≡ false → a ≡ false
 or_left true b e = e
@@ -106,14 +101,14 @@ module _ (file out : List ℕ) where
       simp length-append
       (omega (arith, told-short (sifted file), added-short (is_added file), eight-each (gathered dropped_number (sifted file)), length-replicate {A = ℕ} (8 * 0x8000) 0))
 
-  answer-fits : (b : Bool) → is_short file out no_numbers ≡ b → ((salvaged_of file out no_numbers).bytes ≤ length out) × (length (error_text (salvaged_of file out no_numbers).answer file) ≤ 50 * 0x8000 + 17)
+  answer-fits : (b : Bool) → is_short file out no_numbers ≡ b → (text_length (salvaged_of file out no_numbers) ≤ length out) × (length (error_text (salvaged_of file out no_numbers) file) ≤ 50 * 0x8000 + 17)
   unfolding salvaged_of
   answer-fits true e = rw e (omega arith, omega (arith, alone-short (number_of SalvageShort)))
   answer-fits false e = let n = not_short e in rw e (n.0, report-short n.1)
 
-  by_length : (b : Bool) → ((salvaged_of file out no_numbers).bytes ≤ length out) × (length (error_text (salvaged_of file out no_numbers).answer file) ≤ 50 * 0x8000 + 17)
-      → ((cond b (salvaged_of file out no_numbers) (salvaged_not Malformed)).bytes ≤ length out)
-      × (length (error_text (cond b (salvaged_of file out no_numbers) (salvaged_not Malformed)).answer file) ≤ 50 * 0x8000 + 17)
+  by_length : (b : Bool) → (text_length (salvaged_of file out no_numbers) ≤ length out) × (length (error_text (salvaged_of file out no_numbers) file) ≤ 50 * 0x8000 + 17)
+      → (text_length (cond b (salvaged_of file out no_numbers) (Err Malformed)) ≤ length out)
+      × (length (error_text (cond b (salvaged_of file out no_numbers) (Err Malformed)) file) ≤ 50 * 0x8000 + 17)
   by_length true h = h
   by_length false h = (omega arith, omega (arith, alone-short (number_of Malformed)))
 

@@ -1,5 +1,6 @@
 -- The call is refused exactly where something is too short, and then nothing is written.
 -- Assumes nothing.
+use Rattle.std.specs.Prelude.{Err, Ok}
 use Prim.Native.Nat.{ℕ, ◌<◌}
 use native.Mathlib.Omega.{arith}
 use mathlib.Core.Path.{◌≡◌, refl}
@@ -9,29 +10,28 @@ use mathlib.Core.Logic.{◌⊎◌, inl, inr}
 use lib.Dec.{ltb}
 use lib.ListN.{length}
 use borrow.Author.Tests.{lt-ltb, ltb-true}
-use Rattle.answers.specs.declared.Answer.TheVariants.{Done, Refused}
 use Rattle.answers.specs.declared.Refusal.{Refusal}
 use Rattle.answers.specs.declared.Refusal.TheVariants.{SalvageShort}
-use Rattle.salvage.specs.Mended.{mended, number_bytes, is_short, salvaged_of, output_mended, list_filled}
+use Rattle.salvage.specs.Mended.{is_added, mended, dropped_numbers, number_bytes, is_short, salvaged_of, output_mended, list_filled}
 use Rattle.salvage.specs.Laws.{ShortExactly}
 
 module _ (file out list : List ℕ) where
-  answer-short : is_short file out list ≡ true → (salvaged_of file out list).answer ≡ Refused SalvageShort
+  answer-short : is_short file out list ≡ true → salvaged_of file out list ≡ Err SalvageShort
   unfolding salvaged_of
   answer-short e = rw e
 
-  answer-long : is_short file out list ≡ false → (salvaged_of file out list).answer ≡ Done
+  answer-long : is_short file out list ≡ false → salvaged_of file out list ≡ Ok (record { bytes = length (mended file); numbers = length (dropped_numbers file); added = is_added file })
   unfolding salvaged_of
   answer-long e = rw e
 
-  is-short : (r : Refusal) → (salvaged_of file out list).answer ≡ Refused r → is_short file out list ≡ true
+  is-short : (r : Refusal) → salvaged_of file out list ≡ Err r → is_short file out list ≡ true
   is-short r h = go (is_short file out list) refl
     where
       go : (b : Bool) → is_short file out list ≡ b → is_short file out list ≡ true
       go true e = e
       go false e = let d = answer-long e in let z : ◌≡◌ {A = ℕ} 0 1 = cc in absurd (omega arith)
 
-  by-refusal : (r : Refusal) → (salvaged_of file out list).answer ≡ Refused r → r ≡ SalvageShort
+  by-refusal : (r : Refusal) → salvaged_of file out list ≡ Err r → r ≡ SalvageShort
   by-refusal r h = let d = answer-short (is-short r h) in cc
 
   out-kept : is_short file out list ≡ true → output_mended file out list ≡ out

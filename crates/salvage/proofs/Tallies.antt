@@ -1,5 +1,6 @@
 -- What `count` has counted before a cursor, and what is left.
 -- Assumes nothing.
+use Rattle.std.specs.Prelude.{None, Some}
 use Prim.Native.Nat.{ℕ, ◌+◌, ◌-◌, ◌≤◌}
 use native.Mathlib.Omega.{arith}
 use mathlib.Core.Path.{◌≡◌, refl, sym, ap, ◌∙◌}
@@ -10,7 +11,6 @@ use Rattle.answers.specs.declared.Refusal.{Refusal}
 use Rattle.srecord.specs.File.{lines_of}
 use Rattle.salvage.specs.Lines.{has_end, gathered}
 use Rattle.salvage.specs.Mended.{kept_text, dropped_number, kept_of, dropped_numbers, tally_of}
-use Rattle.salvage.specs.declared.Fate.TheVariants.{Keep, Drop}
 use Rattle.salvage.specs.declared.Cursor.{Cursor}
 use Rattle.salvage.specs.declared.Turn.{Turn}
 use Rattle.salvage.proofs.Walk.{rest, ends, Turned, line-length, kept-text, kept-number, dropped-text, dropped-number, none, no_end}
@@ -29,7 +29,7 @@ unfolding kept_of dropped_numbers
 at_first file at e = rw e (record { within = omega arith; few = omega arith; less = omega arith; fewer = omega arith; bytes-are = omega arith; numbers-are = omega arith; ends-are = refl })
 
 module _ (file : List ℕ) (at : Cursor) (t : Turn) (bytes numbers : ℕ) (w : Turned file at t) (k : Counted file at bytes numbers) where
-  pub keeps : t.fate ≡ Keep → Counted file t.next (bytes + (t.next.from - at.from)) numbers
+  pub keeps : t.fate ≡ None → Counted file t.next (bytes + (t.next.from - at.from)) numbers
   keeps e =
       let o = w.on in
       let n = w.counts in
@@ -47,7 +47,7 @@ module _ (file : List ℕ) (at : Cursor) (t : Turn) (bytes numbers : ℕ) (w : T
         ends-are = sym w.ends-too ∙ k.ends-are;
       }
 
-  pub drops : (r : Refusal) → t.fate ≡ Drop r → Counted file t.next bytes (numbers + 1)
+  pub drops : (r : Refusal) → t.fate ≡ Some r → Counted file t.next bytes (numbers + 1)
   drops r e =
       let o = w.on in
       let n = w.counts in

@@ -1,5 +1,6 @@
 -- The lines of a report, one after the other.
 -- Assumes nothing.
+use Rattle.std.specs.Prelude.{None, Some}
 use Prim.Native.Nat.{ℕ, ◌+◌, ◌*◌, ◌≤◌}
 use native.Mathlib.Omega.{arith}
 use mathlib.Core.Path.{◌≡◌, refl, sym, ap, ◌∙◌}
@@ -20,7 +21,6 @@ use Rattle.text.proofs.Texts.{text-is-whole, alone-fits}
 use Rattle.salvage.specs.Lines.{has_end, gathered, sifted}
 use Rattle.salvage.specs.Mended.{is_added}
 use Rattle.salvage.specs.Printed.{dropped_line, dropped_text, added_if, report_text}
-use Rattle.salvage.specs.declared.Fate.TheVariants.{Keep, Drop}
 use Rattle.salvage.specs.declared.Cursor.{Cursor}
 use Rattle.salvage.specs.declared.Turn.{Turn}
 use Rattle.salvage.proofs.Walk.{rest, ends, Turned, gathers, none, no_end}
@@ -87,7 +87,7 @@ pub at_first : (file out : List ℕ) (at : Cursor) → at ≡ record { from = 0;
 at_first file out at e = rw e (record { within = omega arith; few = omega arith; small = omega arith; same = refl; length-is = omega arith; out-is = refl; ends-are = refl })
 
 module _ (file out₀ : List ℕ) (at : Cursor) (t : Turn) (used : ℕ) (out : List ℕ) (w : Turned file at t) (k : Told file out₀ at used out) where
-  pub keeps : t.fate ≡ Keep → Told file out₀ t.next used out
+  pub keeps : t.fate ≡ None → Told file out₀ t.next used out
   keeps e =
       let o = w.on in
       let n = w.counts in
@@ -102,7 +102,7 @@ module _ (file out₀ : List ℕ) (at : Cursor) (t : Turn) (used : ℕ) (out : L
         ends-are = sym w.ends-too ∙ k.ends-are;
       }
 
-  pub drops : (x : Refusal) (new : List ℕ) (more : ℕ) → t.fate ≡ Drop x → more ≡ length (dropped_line t.next.lines x)
+  pub drops : (x : Refusal) (new : List ℕ) (more : ℕ) → t.fate ≡ Some x → more ≡ length (dropped_line t.next.lines x)
       → new ≡ sets out used (dropped_line t.next.lines x) → Told file out₀ t.next (used + more) new
   drops x new more e m s =
       let o = w.on in

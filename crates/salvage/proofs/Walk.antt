@@ -1,5 +1,6 @@
 -- A turn of the walk over the lines.
 -- Assumes nothing.
+use Rattle.std.specs.Prelude.{None, Option, Some}
 use Prim.Native.Nat.{ℕ, ◌+◌, ◌-◌, ◌≤◌, ◌<◌}
 use native.Mathlib.Omega.{arith}
 use mathlib.Core.Path.{◌≡◌, refl, ap, ◌∙◌}
@@ -13,9 +14,17 @@ use Rattle.srecord.specs.File.{lines_of, line_end}
 use Rattle.srecord.proofs.Lines.{line-fits, next-text}
 use Rattle.salvage.specs.Lines.{is_end, has_end, Sifted, sift, gathered, line_at, turn_of}
 use Rattle.salvage.specs.Mended.{kept_text, dropped_number}
-use Rattle.salvage.specs.declared.Fate.TheVariants.{Keep, Drop}
 use Rattle.salvage.specs.declared.Cursor.{Cursor}
 use Rattle.salvage.specs.declared.Turn.{Turn}
+
+-- what no refusal drops is kept
+pub kept : (fate : Option Refusal) → ((r : Refusal) → fate ≡ Some r → ⊥) → fate ≡ None
+kept None n = refl
+kept (Some r) n = absurd (n r refl)
+
+-- the cursor before the first line, field by field
+pub start_is : (at : Cursor) → (at.from ≡ 0) × ((at.lines ≡ 0) × (at.ended ≡ false)) → at ≡ record { from = 0; lines = 0; ended = false }
+start_is at e = λ i. record { from = e.0 i; lines = e.1.0 i; ended = e.1.1 i }
 
 -- the lines from a cursor on
 abbrev pub rest : List ℕ → Cursor → List Sifted
@@ -64,13 +73,13 @@ module _ (file : List ℕ) (at : Cursor) (t : Turn) (w : Turned file at t) where
       let f = w.fits in
       length-take-le (t.next.from - at.from) (drop at.from file) (omega arith)
 
-  pub kept-text : t.fate ≡ Keep → gathered kept_text (rest file at) ≡ take (t.next.from - at.from) (drop at.from file) ++ gathered kept_text (rest file t.next)
+  pub kept-text : t.fate ≡ None → gathered kept_text (rest file at) ≡ take (t.next.from - at.from) (drop at.from file) ++ gathered kept_text (rest file t.next)
   kept-text e = gathers kept_text ∙ rw e
 
-  pub kept-number : t.fate ≡ Keep → gathered dropped_number (rest file at) ≡ gathered dropped_number (rest file t.next)
+  pub kept-number : t.fate ≡ None → gathered dropped_number (rest file at) ≡ gathered dropped_number (rest file t.next)
   kept-number e = gathers dropped_number ∙ rw e
 
-  module _ (r : Refusal) (e : t.fate ≡ Drop r) where
+  module _ (r : Refusal) (e : t.fate ≡ Some r) where
     pub dropped-text : gathered kept_text (rest file at) ≡ gathered kept_text (rest file t.next)
     dropped-text = gathers kept_text ∙ rw e
 

@@ -1,21 +1,20 @@
 -- What becomes of each line of a torn file (document 02, [14]). Lines are the reader's: cut after each line feed, the last one may have none.
 -- Assumes nothing.
-use Rattle.std.specs.Prelude.{ℕ, ◌+◌, ◌-◌, Bool, true, false, ◌||◌, List, [], ◌∷◌, ◌++◌, take, drop}
+use Rattle.std.specs.Prelude.{ℕ, ◌+◌, ◌-◌, Bool, true, false, ◌||◌, List, [], ◌∷◌, ◌++◌, take, drop, None, Option, Some}
+use Rattle.answers.specs.declared.Refusal.{Refusal}
 use Rattle.answers.specs.declared.Refusal.TheVariants.{LineShape}
 use Rattle.srecord.specs.Line.{Meaning, heading, piece, start, refused, line_of}
 use Rattle.srecord.specs.File.{lines_of, line_end}
-use Rattle.salvage.specs.declared.Fate.{Fate}
-use Rattle.salvage.specs.declared.Fate.TheVariants.{Keep, Drop}
 use Rattle.salvage.specs.declared.Cursor.{Cursor}
 use Rattle.salvage.specs.declared.Turn.{Turn}
 
--- a line that the reader accepts is kept, up to and with the first good S9; `ended` says whether that one stands before the line
-abbrev pub fate_of : Bool → Meaning → Fate
-fate_of true m = Drop LineShape
-fate_of false (heading d) = Keep
-fate_of false (piece a d) = Keep
-fate_of false (start a) = Keep
-fate_of false (refused r) = Drop r
+-- the refusal by which a line is dropped: a line that the reader accepts is kept, up to and with the first good S9; `ended` says whether that one stands before the line
+abbrev pub fate_of : Bool → Meaning → Option Refusal
+fate_of true m = Some LineShape
+fate_of false (heading d) = None
+fate_of false (piece a d) = None
+fate_of false (start a) = None
+fate_of false (refused r) = Some r
 
 abbrev pub is_end : Meaning → Bool
 is_end (heading d) = false
@@ -31,7 +30,7 @@ has_end (l ∷ ls) = is_end (line_of l) || has_end ls
 pub record Sifted : Type 0 where
   pub number : ℕ
   pub text : List ℕ
-  pub fate : Fate
+  pub fate : Option Refusal
 
 -- lines after n others, with their numbers and what becomes of them
 unfoldable pub sift : Bool → ℕ → List (List ℕ) → List Sifted
@@ -50,7 +49,7 @@ gathered f (s ∷ ss) = f s ++ gathered f ss
 
 -- ---- the code's walk
 
-abbrev pub passing : Cursor → ℕ → Fate → Bool → Turn
+abbrev pub passing : Cursor → ℕ → Option Refusal → Bool → Turn
 passing at end fate ended = record { fate = fate; next = record { from = end; lines = at.lines + 1; ended = ended } }
 
 -- the line from a place on

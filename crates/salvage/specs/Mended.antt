@@ -1,25 +1,22 @@
 -- What the salvage of a file writes: the text that is mended, and the numbers of the lines that are dropped.
 -- Assumes nothing.
-use Rattle.std.specs.Prelude.{ℕ, Bool, false, cond, not, ◌||◌, List, [], ◌∷◌, ◌++◌, ltb, length}
+use Rattle.std.specs.Prelude.{ℕ, Bool, cond, not, ◌||◌, List, [], ◌∷◌, ◌++◌, ltb, length, Err, None, Ok, Option, Result, Some}
 use Rattle.std.proofs.lemmas.List.Edits.{sets}
-use Rattle.answers.specs.declared.Answer.TheVariants.{Done, Refused}
 use Rattle.answers.specs.declared.Refusal.{Refusal}
 use Rattle.answers.specs.declared.Refusal.TheVariants.{SalvageShort}
 use Rattle.machine.specs.Record.{bytes}
 use Rattle.srecord.specs.Layout.{kind9, line_text}
 use Rattle.srecord.specs.File.{lines_of}
 use Rattle.salvage.specs.Lines.{Sifted, sifted, gathered, has_end}
-use Rattle.salvage.specs.declared.Fate.{Fate}
-use Rattle.salvage.specs.declared.Fate.TheVariants.{Keep, Drop}
 use Rattle.salvage.specs.declared.mended.Salvaged.{Salvaged}
 use Rattle.salvage.specs.declared.mended.Tally.{Tally}
 
 -- ---- the text
 
 -- the text of a line that is kept
-abbrev pub text_if_kept : Fate → List ℕ → List ℕ
-text_if_kept Keep l = l
-text_if_kept (Drop r) l = []
+abbrev pub text_if_kept : Option Refusal → List ℕ → List ℕ
+text_if_kept None l = l
+text_if_kept (Some r) l = []
 
 abbrev pub kept_text : Sifted → List ℕ
 kept_text s = text_if_kept s.fate s.text
@@ -45,9 +42,9 @@ mended file = kept_of file ++ end_if (is_added file)
 -- ---- the numbers
 
 -- the number of a line that is dropped
-abbrev pub number_if_dropped : Fate → ℕ → List ℕ
-number_if_dropped Keep n = []
-number_if_dropped (Drop r) n = n ∷ []
+abbrev pub number_if_dropped : Option Refusal → ℕ → List ℕ
+number_if_dropped None n = []
+number_if_dropped (Some r) n = n ∷ []
 
 abbrev pub dropped_number : Sifted → List ℕ
 dropped_number s = number_if_dropped s.fate s.number
@@ -73,13 +70,10 @@ tally_of file = record { bytes = length (kept_of file); numbers = length (droppe
 unfoldable pub is_short : List ℕ → List ℕ → List ℕ → Bool
 is_short file out list = ltb (length out) (length (mended file)) || ltb (length list) (length (number_bytes file))
 
-abbrev pub salvaged_not : Refusal → Salvaged
-salvaged_not r = record { bytes = 0; numbers = 0; added = false; answer = Refused r }
-
-unfoldable pub salvaged_of : List ℕ → List ℕ → List ℕ → Salvaged
+unfoldable pub salvaged_of : List ℕ → List ℕ → List ℕ → Result Salvaged Refusal
 salvaged_of file out list =
-    cond (is_short file out list) (salvaged_not SalvageShort)
-    (record { bytes = length (mended file); numbers = length (dropped_numbers file); added = is_added file; answer = Done })
+    cond (is_short file out list) (Err SalvageShort)
+    (Ok (record { bytes = length (mended file); numbers = length (dropped_numbers file); added = is_added file }))
 
 -- output and list afterwards: text and numbers at the front and the rest as it was; if refused, all as it was
 unfoldable pub output_mended : List ℕ → List ℕ → List ℕ → List ℕ

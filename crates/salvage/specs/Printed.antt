@@ -1,18 +1,14 @@
 -- What a person gets of a salvage: the mended text on standard output, and on standard error a line `dropped 3 21` for each line that is
 -- dropped, its number and that of its refusal, and a last line `added S9030000FC` where S9 is added.
 -- Assumes nothing.
-use Rattle.std.specs.Prelude.{ℕ, ◌+◌, ◌*◌, ◌≤◌, Bool, cond, List, [], ◌++◌, leb, length, replicate}
+use Rattle.std.specs.Prelude.{ℕ, ◌+◌, ◌*◌, ◌≤◌, Bool, cond, List, [], ◌++◌, leb, length, replicate, Err, None, Ok, Option, Result, Some}
 use Rattle.answers.specs.Numbers.{number_of}
-use Rattle.answers.specs.declared.Answer.{Answer}
-use Rattle.answers.specs.declared.Answer.TheVariants.{Done, Refused}
 use Rattle.answers.specs.declared.Refusal.{Refusal}
 use Rattle.answers.specs.declared.Refusal.TheVariants.{Malformed}
 use Rattle.registers.specs.ConditionCodes.{ascii}
 use Rattle.text.specs.Lines.{decimal, alone}
 use Rattle.salvage.specs.Lines.{Sifted, sifted, gathered}
-use Rattle.salvage.specs.Mended.{end_line, is_added, salvaged_not, salvaged_of, output_mended}
-use Rattle.salvage.specs.declared.Fate.{Fate}
-use Rattle.salvage.specs.declared.Fate.TheVariants.{Keep, Drop}
+use Rattle.salvage.specs.Mended.{end_line, is_added, salvaged_of, output_mended}
 use Rattle.salvage.specs.declared.mended.Salvaged.{Salvaged}
 use Rattle.salvage.specs.declared.printed.Printed.{Printed}
 
@@ -21,9 +17,9 @@ use Rattle.salvage.specs.declared.printed.Printed.{Printed}
 unfoldable pub dropped_line : ℕ → Refusal → List ℕ
 dropped_line n r = ascii "dropped " ++ (decimal n ++ (ascii " " ++ alone (number_of r)))
 
-abbrev pub tell_if_dropped : Fate → ℕ → List ℕ
-tell_if_dropped Keep n = []
-tell_if_dropped (Drop r) n = dropped_line n r
+abbrev pub tell_if_dropped : Option Refusal → ℕ → List ℕ
+tell_if_dropped None n = []
+tell_if_dropped (Some r) n = dropped_line n r
 
 abbrev pub dropped_text : Sifted → List ℕ
 dropped_text s = tell_if_dropped s.fate s.number
@@ -45,19 +41,24 @@ unfoldable pub no_numbers : List ℕ
 no_numbers = replicate (8 * 0x8000) 0
 
 -- a longer file is refused by 16; one with more lines to be dropped by `salvage`
-unfoldable pub mend_answer : List ℕ → List ℕ → Salvaged
-mend_answer file out = cond (leb (length file) longest) (salvaged_of file out no_numbers) (salvaged_not Malformed)
+unfoldable pub mend_answer : List ℕ → List ℕ → Result Salvaged Refusal
+mend_answer file out = cond (leb (length file) longest) (salvaged_of file out no_numbers) (Err Malformed)
 
 unfoldable pub output_printed : List ℕ → List ℕ → List ℕ
 output_printed file out = cond (leb (length file) longest) (output_mended file out no_numbers) out
 
 -- standard error has the report, or the number of the refusal
-abbrev pub error_text : Answer → List ℕ → List ℕ
-error_text Done file = report_text file
-error_text (Refused r) file = alone (number_of r)
+abbrev pub error_text : Result Salvaged Refusal → List ℕ → List ℕ
+error_text (Ok s) file = report_text file
+error_text (Err r) file = alone (number_of r)
+
+-- how many bytes standard output has: none if the file is refused
+abbrev pub text_length : Result Salvaged Refusal → ℕ
+text_length (Ok s) = s.bytes
+text_length (Err r) = 0
 
 unfoldable pub printed_of : List ℕ → List ℕ → Printed
-printed_of file out = record { text = (mend_answer file out).bytes; report = length (error_text (mend_answer file out).answer file) }
+printed_of file out = record { text = text_length (mend_answer file out); report = length (error_text (mend_answer file out) file) }
 
 -- ---- the law
 

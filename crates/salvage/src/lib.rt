@@ -4,7 +4,7 @@
 mod mended;
 mod printed;
 
-ghost use Rattle.std.specs.Prelude.{◌≡◌, false, ◌<◌, ◌≤◌, length};
+ghost use Rattle.std.specs.Prelude.{◌≡◌, ◌<◌, ◌≤◌, length};
 ghost use Rattle.salvage.specs.Lines.{turn_of, passing};
 
 use answers::Refusal;
@@ -12,51 +12,36 @@ pub use mended::{Salvaged, salvage};
 pub use printed::{Printed, mend};
 use srecord::Line;
 
-// What becomes of a line: it is kept, or dropped by a refusal.
-#[derive(Clone, Copy)]
-enum Fate {
-    Keep,
-    Drop(Refusal),
-}
-
 // Before a line: where it starts, how many lines stand before it, and whether the first good S9 is among them.
-#[derive(Clone, Copy)]
+#[derive(Clone, Copy, Default)]
 struct Cursor {
     pub from: usize,
     pub lines: usize,
     pub ended: bool,
 }
 
-// What becomes of a line, and the cursor after it.
+impl Cursor {
+    // Past a line that ends here.
+    fn pass(self, end: usize, fate: Option<Refusal>, ended: bool) -> Turn
+        requires { self.lines < end }
+        ensures { result ≡ passing self end fate ended }
+    {
+        Turn {
+            fate,
+            next: Cursor {
+                from: end,
+                lines: self.lines + 1,
+                ended,
+            },
+        }
+    }
+}
+
+// The refusal by which a line is dropped, none if it is kept; and the cursor after it.
 #[derive(Clone, Copy)]
 struct Turn {
-    pub fate: Fate,
+    pub fate: Option<Refusal>,
     pub next: Cursor,
-}
-
-fn first() -> Cursor
-    ensures { result ≡ record { from = 0; lines = 0; ended = false } }
-{
-    Cursor {
-        from: 0,
-        lines: 0,
-        ended: false,
-    }
-}
-
-// Past a line that ends here.
-fn pass(at: Cursor, end: usize, fate: Fate, ended: bool) -> Turn
-    requires { at.lines < end }
-    ensures { result ≡ passing at end fate ended }
-{
-    Turn {
-        fate,
-        next: Cursor {
-            from: end,
-            lines: at.lines + 1,
-            ended,
-        },
-    }
 }
 
 // After S9 no line is read.
@@ -64,18 +49,14 @@ fn next(file: &[u8], at: Cursor) -> Turn
     requires { (at.from < length file.now) × (at.lines ≤ at.from) }
     ensures { result ≡ turn_of file.now at }
 {
-    let from = at.from;
-    let end = srecord::line_end(file, from);
+    let end = srecord::line_end(file, at.from);
     if at.ended {
-        return pass(at, end, Fate::Drop(Refusal::LineShape), true);
+        return at.pass(end, Some(Refusal::LineShape), true);
     }
-    match srecord::line_of(&file[from..end]) {
-        Line::Header => pass(at, end, Fate::Keep, false),
-        Line::Data {
-            address: _,
-            count: _,
-        } => pass(at, end, Fate::Keep, false),
-        Line::End(_) => pass(at, end, Fate::Keep, true),
-        Line::Bad(refusal) => pass(at, end, Fate::Drop(refusal), false),
+    match srecord::line_of(&file[at.from..end]) {
+        Ok(Line::End(_)) => at.pass(end, None, true),
+        Ok(_) => at.pass(end, None, false),
+        // The refusal becomes the line's fate, and the walk goes on.
+        Err(refusal) => at.pass(end, Some(refusal), false),
     }
 }

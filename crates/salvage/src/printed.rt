@@ -1,4 +1,5 @@
 // What a person gets of a salvage: the mended text, and a report of the lines that are dropped and of the S9 that is added.
+// Output and place stand apart, as in `text::put`.
 ghost use Rattle.std.specs.Prelude.{◌≡◌, not, ◌*◌, ◌≤◌, length};
 ghost use Rattle.std.proofs.lemmas.List.Edits.{sets};
 ghost use Rattle.text.specs.Lines.{alone};
@@ -6,8 +7,8 @@ ghost use Rattle.answers.specs.Numbers.{number_of};
 ghost use Rattle.salvage.specs.Printed.{longest, dropped_line, added_if, report_text, no_numbers, printed_of, output_printed, error_text, mend_answer};
 
 use super::mended::salvage;
-use super::{Fate, first, next};
-use answers::{Answer, Refusal};
+use super::{Cursor, next};
+use answers::Refusal;
 
 // How long the mended text and the report are.
 #[derive(Clone, Copy)]
@@ -53,26 +54,25 @@ fn put_added(out: &mut [u8], at: usize, ended: bool) -> usize
 }
 
 // Writes the report of a file that is not too long, and returns its length.
+// The walk of `count` once more: here its turns are told.
 fn put_report(file: &[u8], out: &mut [u8]) -> usize
     requires { length file.now ≤ longest }
     ensures { (result ≡ length (report_text file.now)) × (out.new ≡ sets out.old 0 (report_text file.now)) }
 {
-    let mut at = first();
+    let mut at = Cursor::default();
     let mut used = 0;
     while at.from < file.len() {
         let turned = next(file, at);
-        let fate = turned.fate;
-        let after = turned.next;
-        match fate {
-            Fate::Keep => {}
-            Fate::Drop(refusal) => used += put_dropped(out, used, after.lines, refusal),
+        if let Some(refusal) = turned.fate {
+            used += put_dropped(out, used, turned.next.lines, refusal);
         }
-        at = after;
+        at = turned.next;
     }
     used + put_added(out, used, at.ended)
 }
 
 // Writes the number of a refusal in place of a report, and returns the length of its line.
+// Each crate that prints has this line for itself: `text` knows no refusals.
 fn put_refusal(out: &mut [u8], refusal: Refusal) -> usize
     ensures { (result ≡ length (alone (number_of refusal))) × (out.new ≡ sets out.old 0 (alone (number_of refusal))) }
 {
@@ -81,7 +81,7 @@ fn put_refusal(out: &mut [u8], refusal: Refusal) -> usize
 
 // Writes the mended text at the front of `out`, and the report at the front of `report`.
 pub fn mend(file: &[u8], out: &mut [u8], report: &mut [u8]) -> Printed
-    ensures { (result ≡ printed_of file.now out.old) × ((out.new ≡ output_printed file.now out.old) × (report.new ≡ sets report.old 0 (error_text (mend_answer file.now out.old).answer file.now))) }
+    ensures { (result ≡ printed_of file.now out.old) × ((out.new ≡ output_printed file.now out.old) × (report.new ≡ sets report.old 0 (error_text (mend_answer file.now out.old) file.now))) }
 {
     if LONGEST < file.len() {
         return Printed {
@@ -90,17 +90,15 @@ pub fn mend(file: &[u8], out: &mut [u8], report: &mut [u8]) -> Printed
         };
     }
     let mut list = no_numbers();
-    let salvaged = salvage(file, out, &mut list);
-    let text = salvaged.bytes;
-    let answer = salvaged.answer;
-    match answer {
-        Answer::Refused(refusal) => Printed {
-            text,
-            report: put_refusal(report, refusal),
-        },
-        Answer::Done => Printed {
-            text,
+    match salvage(file, out, &mut list) {
+        Ok(salvaged) => Printed {
+            text: salvaged.bytes,
             report: put_report(file, report),
+        },
+        // The refusal ends here: its number is printed.
+        Err(refusal) => Printed {
+            text: 0,
+            report: put_refusal(report, refusal),
         },
     }
 }

@@ -1,9 +1,8 @@
 // A worked example: three calls that are not recorded, and what is printed of the machine.
 use super::line::{Line, word_at};
-use super::printed::{put_byte, put_decimal, put_front, put_view, put_word, wait_number};
+use super::printed::{put_byte, put_decimal, put_front, put_view, put_word};
 use super::start;
 use super::start::{BYTES, CODE};
-use answers::Answer;
 use calls::Report;
 use machine::{Machine, Settings};
 use memory::Writes;
@@ -24,6 +23,7 @@ fn settings(line: &Line) -> Settings {
 }
 
 // One call by its letter; there is none for `-`. A refused one leaves the machine.
+// The letters are the line's: an enum would be read from them and matched at once.
 fn act(mem: &mut Memory, before: Report, settings: Settings, letter: u8) -> Report {
     let machine = before.machine;
     match letter {
@@ -42,7 +42,7 @@ fn run(mem: &mut Memory, line: &Line) -> Report {
         machine: start::machine(line, 6, CODE),
         reads: 0,
         writes: 0,
-        answer: Answer::Done,
+        answer: Ok(()),
     };
     let first = act(mem, before, settings, line[65]);
     let second = act(mem, first, settings, line[66]);
@@ -50,8 +50,7 @@ fn run(mem: &mut Memory, line: &Line) -> Report {
 }
 
 fn put_registers(out: &mut [u8], regs: Set) {
-    let cc = regs.cc;
-    put_byte(out, 7, cc.get_as_byte());
+    put_byte(out, 7, regs.cc.get_as_byte());
     put_byte(out, 10, regs.a);
     put_byte(out, 13, regs.b);
     put_byte(out, 16, regs.dp);
@@ -63,12 +62,10 @@ fn put_registers(out: &mut [u8], regs: Set) {
 }
 
 fn put_machine(out: &mut [u8], machine: Machine) {
-    let regs = machine.regs;
-    let wait = machine.wait;
-    put_registers(out, regs);
+    put_registers(out, machine.regs);
     put_decimal(out, 47, machine.cycles);
     put_decimal(out, 49, machine.instructions);
-    put_decimal(out, 60, wait_number(wait));
+    put_decimal(out, 60, machine::wait_byte(machine.wait) as u64);
 }
 
 // Its line, over a form of zeros.
@@ -79,8 +76,7 @@ fn printed(mem: &Memory, line: &Line, report: Report) -> [u8; OUT] {
         0,
         b"000 00 00 00 00 00 0000 0000 0000 0000 0000 000 0 00000000 0\n",
     );
-    let answer = report.answer;
-    put_front(&mut out, line, answer);
+    put_front(&mut out, line, report.answer);
     put_machine(&mut out, report.machine);
     put_view(&mut out, 50, mem, word_at(line, 69));
     out

@@ -9,10 +9,7 @@ pub const EXAMPLE: usize = 74;
 pub type Line = [u8; LINE];
 
 fn is_call(b: u8) -> bool {
-    match b {
-        b'S' | b'I' | b'F' | b'N' | b'R' | b'-' => true,
-        _ => false,
-    }
+    matches!(b, b'S' | b'I' | b'F' | b'N' | b'R' | b'-')
 }
 
 fn is_journal_operation(b: u8) -> bool {
@@ -27,7 +24,7 @@ fn is_journal_operation(b: u8) -> bool {
 fn fits(kind: u8, b: u8) -> bool {
     match kind {
         b'x' => text::is_digit(b),
-        b'f' => (b == b'B') | (b == b'M'),
+        b'f' => b == b'B' || b == b'M',
         b'o' => is_call(b),
         b'j' => is_journal_operation(b),
         _ => b == kind,
@@ -35,18 +32,13 @@ fn fits(kind: u8, b: u8) -> bool {
 }
 
 // 0 past the end.
+// No Option: the lines that are printed show 00 there.
 pub fn byte_of(bytes: &[u8], at: usize) -> u8 {
-    if at < bytes.len() { bytes[at] } else { 0 }
+    bytes.get(at).copied().unwrap_or(0)
 }
 
 fn has_shape(line: &Line, shape: &[u8]) -> bool {
-    let mut good = true;
-    let mut i = 0;
-    while i < LINE && i < shape.len() {
-        good = good & fits(byte_of(shape, i), line[i]);
-        i += 1;
-    }
-    good
+    line.iter().zip(shape).all(|(b, kind)| fits(*kind, *b))
 }
 
 pub fn is_example(line: &Line) -> bool {
@@ -63,6 +55,7 @@ pub fn is_scene(line: &Line) -> bool {
     )
 }
 
+// Line and place stand apart: the places are those of the README's table, another in each call.
 pub fn byte_at(line: &Line, at: usize) -> u8
     requires { at + 2 ≤ 134 }
 {

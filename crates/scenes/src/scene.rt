@@ -2,10 +2,9 @@
 ghost use Rattle.std.specs.Prelude.{◌<◌, ◌≤◌};
 
 use super::line::{Line, byte_of, length_at, long_at, word_at};
-use super::printed::{put_byte, put_decimal, put_front, put_view, put_word, wait_number};
+use super::printed::{put_byte, put_decimal, put_front, put_view, put_word};
 use super::start;
 use super::start::BYTES;
-use answers::Answer;
 use journal::{Outcome, Twin};
 use machine::{ARMED, HEADER, Machine, Settings, WAIT};
 use memory::Writes;
@@ -13,6 +12,9 @@ use registers::Flags;
 use std::io;
 
 const OUT: usize = 226;
+
+// More undos than any journal has records.
+const MOST_UNDOS: u64 = 100000;
 
 // The longest record.
 const RECORD: usize = 70;
@@ -38,13 +40,13 @@ fn started(line: &Line) -> Outcome {
         twin: twin(line),
         reads: 0,
         writes: 0,
-        answer: Answer::Done,
+        answer: Ok(()),
     }
 }
 
 fn overwrite(journal: &mut [u8], at: usize, byte: u8) {
-    if at < journal.len() {
-        journal[at] = byte;
+    if let Some(b) = journal.get_mut(at) {
+        *b = byte;
     }
 }
 
@@ -62,10 +64,7 @@ fn newest_at(journal: &[u8], bytes: usize) -> usize
 
 // A byte of the newest record overwritten, or, by o and p, the oldest record's count.
 fn damage(journal: &mut [u8], bytes: usize, letter: u8) {
-    if bytes == 0 {
-        return;
-    }
-    if bytes > BYTES {
+    if bytes == 0 || bytes > BYTES {
         return;
     }
     let at = newest_at(journal, bytes);
@@ -91,6 +90,7 @@ fn dropped(letter: u8, records: usize) -> usize {
 }
 
 // One operation by its letter; there is none for `-`.
+// The letters are the line's, here and above: an enum would be read from them and matched at once.
 fn act(
     mem: &mut [u8],
     journal: &mut [u8],
@@ -119,20 +119,16 @@ fn act(
 fn turn(mem: &mut [u8], journal: &mut [u8], before: Outcome, line: &Line) -> Outcome {
     let settings = settings(line);
     let mut outcome = before;
-    let mut i = 0;
-    while i < 8 {
-        outcome = act(mem, journal, outcome, settings, line[118 + i]);
-        i += 1;
+    for letter in &line[118..126] {
+        outcome = act(mem, journal, outcome, settings, *letter);
     }
     outcome
 }
 
 fn turns(mem: &mut [u8], journal: &mut [u8], line: &Line) -> Outcome {
     let mut outcome = started(line);
-    let mut left = word_at(line, 127);
-    while left > 0 {
+    for _ in 0..word_at(line, 127) {
         outcome = turn(mem, journal, outcome, line);
-        left -= 1;
     }
     outcome
 }
@@ -147,36 +143,36 @@ struct Ended {
 // Undo until it is refused, if the line ends in U.
 fn end(mem: &mut [u8], journal: &[u8], before: Outcome, line: &Line) -> Ended {
     let mut outcome = before;
-    let mut undos: u64 = 0;
-    let mut left: u64 = 100000;
-    let mut going = line[132] == b'U';
-    while left > 0 && going {
-        left -= 1;
-        outcome = journal::undo(mem, journal, outcome.twin);
-        let answer = outcome.answer;
-        going = answer.number() == 0;
-        undos = std::num::wrapping_add_u64(undos, going as u64);
+    if line[132] != b'U' {
+        return Ended { outcome, undos: 0 };
     }
-    Ended { outcome, undos }
+    for undos in 0..MOST_UNDOS {
+        outcome = journal::undo(mem, journal, outcome.twin);
+        if outcome.answer.is_err() {
+            return Ended { outcome, undos };
+        }
+    }
+    Ended {
+        outcome,
+        undos: MOST_UNDOS,
+    }
 }
 
 fn put_machine(out: &mut [u8], machine: Machine) {
     let regs = machine.regs;
-    let cc = regs.cc;
-    let wait = machine.wait;
     put_word(out, 46, regs.pc);
-    put_byte(out, 51, cc.get_as_byte());
-    put_decimal(out, 55, wait_number(wait));
+    put_byte(out, 51, regs.cc.get_as_byte());
+    put_decimal(out, 55, machine::wait_byte(machine.wait) as u64);
 }
 
 // Sixteen digits.
+// The bound is above every place that is used, so that no sum wraps.
 fn put_long(out: &mut [u8], at: usize, n: u64)
     requires { at ≤ 100 }
 {
-    put_word(out, at, (n / 0x1_0000_0000_0000 % 0x10000) as u16);
-    put_word(out, at + 4, (n / 0x1_0000_0000 % 0x10000) as u16);
-    put_word(out, at + 8, (n / 0x10000 % 0x10000) as u16);
-    put_word(out, at + 12, (n % 0x10000) as u16);
+    for (i, b) in n.to_be_bytes().iter().enumerate() {
+        put_byte(out, at + 2 * i, *b);
+    }
 }
 
 // How many device writes the last call reported, and the first of them.
@@ -197,33 +193,26 @@ fn put_behind(out: &mut [u8], journal: &[u8], bytes: usize) {
 // The newest record; where the part handed back is empty, and past its end, hyphens stay.
 fn put_record(out: &mut [u8], journal: &[u8], records: usize, bytes: usize) {
     let record = journal::newest(journal, records, bytes);
-    let n = record.len();
-    let mut i = 0;
-    while i < RECORD && i < n {
-        put_byte(out, 85 + 2 * i, byte_of(record, i));
-        i += 1;
+    for (i, b) in record.iter().take(RECORD).enumerate() {
+        put_byte(out, 85 + 2 * i, *b);
     }
 }
 
 fn put_outcome(out: &mut [u8], line: &Line, ended: Ended) {
     let outcome = ended.outcome;
     let twin = outcome.twin;
-    let answer = outcome.answer;
-    let devices = outcome.devices;
-    let machine = twin.machine;
-    put_front(out, line, answer);
+    put_front(out, line, outcome.answer);
     put_long(out, 7, twin.records as u64);
     put_long(out, 24, twin.bytes as u64);
     put_decimal(out, 45, ended.undos);
-    put_machine(out, machine);
-    put_devices(out, devices);
+    put_machine(out, twin.machine);
+    put_devices(out, outcome.devices);
 }
 
 // Its line, over a form of zeros and hyphens.
 fn printed(mem: &[u8], journal: &[u8], line: &Line, ended: Ended) -> [u8; OUT] {
     let mut out = [b'-'; OUT];
-    let outcome = ended.outcome;
-    let twin = outcome.twin;
+    let twin = ended.outcome.twin;
     text::put(
         &mut out,
         0,

@@ -39,22 +39,21 @@ pub fn machine(line: &Line, at: usize, pc: u16) -> Machine
 
 // A byte put raw into memory, if memory is long enough.
 fn put_one(mem: &mut [u8], at: u16, byte: u8) {
-    let p = at as usize;
-    if p < mem.len() {
-        mem[p] = byte;
+    if let Some(b) = mem.get_mut(at as usize) {
+        *b = byte;
     }
 }
 
 // Bytes of the line.
-fn put(mem: &mut [u8], at: u16, line: &Line, from: usize, count: usize)
+fn put(mem: &mut [u8], at: u16, line: &Line, from: usize, count: u16)
     requires { from + 2 * count ≤ 134 }
 {
-    let mut place = at;
-    let mut i = 0;
-    while i < count {
-        put_one(mem, place, byte_at(line, from + 2 * i));
-        place = std::num::wrapping_add_u16(place, 1);
-        i += 1;
+    for i in 0..count {
+        put_one(
+            mem,
+            at.wrapping_add(i),
+            byte_at(line, from + 2 * i as usize),
+        );
     }
 }
 
@@ -66,6 +65,7 @@ pub fn fill(mem: &mut [u8], line: &Line, at: usize)
     put(mem, word_at(line, at + 13), line, at + 18, 4);
 }
 
+// The letters are the line's, and become an enum here.
 pub fn interrupt(letter: u8) -> InterruptType {
     match letter {
         b'I' => InterruptType::Irq,

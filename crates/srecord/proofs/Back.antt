@@ -1,16 +1,16 @@
 -- What is written reads back; so one text is written of one memory and start only.
 -- Assumes nothing.
-use Rattle.std.proofs.Common.{◌≡◌, ℕ, zero, suc, ◌+◌, ◌-◌, ◌*◌, ◌/◌, ◌%◌, ◌<◌, ◌≤◌, Bool, true, false, cond, eqb, List, [], ◌∷◌, ◌++◌, map, length, take, drop, replicate, sym, refl, ap, ◌∙◌, append_assoc, append-nil, arith, length-append, length-drop, take-append-drop, drop_of_length-le, length-take-le, take_all, drop-drop, take_at, take-add, le-ltb, lt-ltb, eq-eqb, ne_eqb, eqb-true, le-leb}
+use Rattle.std.proofs.Common.{◌≡◌, ℕ, zero, suc, ◌+◌, ◌-◌, ◌*◌, ◌/◌, ◌%◌, ◌<◌, ◌≤◌, Bool, true, false, cond, eqb, List, [], ◌∷◌, ◌++◌, map, length, take, drop, replicate, sym, refl, ap, ◌∙◌, append_assoc, append-nil, arith, length-append, length-drop, take-append-drop, drop_of_length-le, length-take-le, take_all, drop-drop, take_at, take-add, le-ltb, lt-ltb, eq-eqb, ne_eqb, eqb-true, le-leb, Ok, Result}
 use native.Mathlib.Decide.{dec_lt}
 use lib.ListN.{length-replicate}
 use lib.Seq.{sets, sets-eq, drop-append-add}
 use Rattle.text.specs.Hex.{glyph}
 use Rattle.srecord.specs.Layout.{pairs, line_text}
 use Rattle.srecord.specs.Line.{Meaning, piece, start, may_hold, meant, line_of}
-use Rattle.srecord.specs.File.{lines_of, meanings_of, done, judged, landed, loaded_of, memory_loaded}
+use Rattle.srecord.specs.File.{lines_of, meanings_of, judged, landed, loaded_of, memory_loaded}
 use Rattle.srecord.specs.Written.{bytes_of_row, is_zero, row_text, rows_text, text_for}
 use Rattle.srecord.specs.Promises.{blank, ReadsBack, OneForm}
-use Rattle.srecord.specs.declared.Loaded.{Loaded}
+use Rattle.answers.specs.declared.Refusal.{Refusal}
 use Rattle.srecord.proofs.Bools.{and_parts}
 use Rattle.srecord.proofs.Shapes.{held}
 use Rattle.srecord.proofs.Rows.{row-width}
@@ -177,7 +177,7 @@ module _ (mem : List ℕ) (full : length mem ≡ 65536) (are : Each mem) where
     unfolding meanings_of lines_of
     end-means = ap meanings_of (sym (append-nil (line_text 57 a []))) ∙ line-cut 57 a [] [] low tt refl
 
-    judged-text : judged (meanings_of (text_for mem a)) ≡ done a
+    judged-text : judged (meanings_of (text_for mem a)) ≡ Ok a
     unfolding text_for judged
     judged-text = judge-rows 2048 (line_text 57 a []) (omega arith) ∙ rw end-means
 
@@ -193,12 +193,12 @@ pub reads-back : ReadsBack
 unfolding loaded_of memory_loaded
 reads-back mem a full are low =
     let j = judged-text mem full (each mem are) a low in
-    let l : loaded_of blank (text_for mem a) ≡ done a = rw (eq-eqb (length blank) 65536 blank-length) j in
+    let l : loaded_of blank (text_for mem a) ≡ Ok a = rw (eq-eqb (length blank) 65536 blank-length) j in
     (l, rw l (landed-text mem full (each mem are) a low))
 
 pub one_form : OneForm
 one_form mem other a b full whole are bytes low small e =
     let p = reads-back mem a full are low in
     let q = reads-back other b whole bytes small in
-    let l : done a ≡ done b = sym p.0 ∙ ap (loaded_of blank) e ∙ q.0 in
-    (sym p.1 ∙ ap (memory_loaded blank) e ∙ q.1, ap (λ (r : Loaded). r.start) l)
+    let l : ◌≡◌ {A = Result ℕ Refusal} (Ok a) (Ok b) = sym p.0 ∙ ap (loaded_of blank) e ∙ q.0 in
+    (sym p.1 ∙ ap (memory_loaded blank) e ∙ q.1, cc)

@@ -1,50 +1,32 @@
 -- What the two calls answer, case by case.
 -- Assumes nothing.
-use Rattle.std.proofs.Common.{◌≡◌, ℕ, zero, suc, ◌+◌, ◌*◌, ◌<◌, ◌≤◌, Bool, true, false, cond, List, [], length, drop, sym, refl, ◌∙◌, arith, length-append, length-take, le-ltb, lt-ltb, eq-eqb, ne_eqb}
+use Rattle.std.proofs.Common.{◌≡◌, ℕ, zero, suc, ◌+◌, ◌*◌, ◌<◌, ◌≤◌, Bool, true, false, cond, List, [], length, drop, sym, refl, ◌∙◌, arith, length-append, length-take, le-ltb, lt-ltb, eq-eqb, ne_eqb, Err, Ok}
 use lib.Seq.{sets}
 use Rattle.srecord.specs.Layout.{line_text}
-use Rattle.srecord.specs.File.{meanings_of, judged, failed, landed, unless_refused, loaded_of, memory_loaded}
-use Rattle.srecord.specs.Written.{bytes_of_row, is_zero, row_text, rows_text, text_for, stopped, output_written, output_after}
-use Rattle.answers.specs.Numbers.{number_of, number_of_answer}
-use Rattle.answers.specs.declared.Answer.{Answer}
-use Rattle.answers.specs.declared.Answer.TheVariants.{Done, Refused}
-use Rattle.srecord.specs.declared.Loaded.{Loaded}
+use Rattle.srecord.specs.File.{meanings_of, judged, landed, loaded_of, memory_loaded}
+use Rattle.srecord.specs.Written.{bytes_of_row, is_zero, row_text, rows_text, text_for, output_written, output_after}
 use Rattle.answers.specs.declared.Refusal.{Refusal}
 use Rattle.answers.specs.declared.Refusal.TheVariants.{MemoryLength, OutputShort}
-use Rattle.answers.proofs.Numbers.{refused-by-a-number}
-use Rattle.srecord.specs.declared.written.Written.{Written}
 use Rattle.srecord.proofs.Laying.{sets-two}
 use Rattle.srecord.proofs.Rows.{text-length}
 
--- only a call that is done has the number 0
-no_zero : (r : Refusal) → number_of r ≡ 0 → ⊥
-no_zero r e = omega (arith, refused-by-a-number r)
-
-is-done : (x : Answer) → number_of_answer x ≡ 0 → x ≡ Done
-is-done Done e = refl
-is-done (Refused r) e = absurd (no_zero r e)
-
-kept : (x : Answer) (new old : List ℕ) → (number_of_answer x ≡ 0 → ⊥) → unless_refused x new old ≡ old
-kept Done new old n = absurd (n refl)
-kept (Refused r) new old n = refl
-
 module _ (mem file : List ℕ) where
-  pub read_length : (length mem ≡ 65536 → ⊥) → (failed MemoryLength ≡ loaded_of mem file) × (mem ≡ memory_loaded mem file)
+  pub read_length : (length mem ≡ 65536 → ⊥) → (Err MemoryLength ≡ loaded_of mem file) × (mem ≡ memory_loaded mem file)
   unfolding loaded_of memory_loaded
   read_length n = rw (ne_eqb (length mem) 65536 n) (refl, refl)
 
-  module _ (e : length mem ≡ 65536) (l : Loaded) (j : l ≡ judged (meanings_of file)) where
-    loaded : loaded_of mem file ≡ l
+  module _ (e : length mem ≡ 65536) where
+    loaded : loaded_of mem file ≡ judged (meanings_of file)
     unfolding loaded_of
-    loaded = rw (eq-eqb (length mem) 65536 e) (sym j)
+    loaded = rw (eq-eqb (length mem) 65536 e)
 
-    pub read_done : number_of_answer l.answer ≡ 0 → (l ≡ loaded_of mem file) × (landed (meanings_of file) mem ≡ memory_loaded mem file)
+    pub read_done : (a : ℕ) → Ok a ≡ judged (meanings_of file) → (Ok a ≡ loaded_of mem file) × (landed (meanings_of file) mem ≡ memory_loaded mem file)
     unfolding memory_loaded
-    read_done z = (sym loaded, rw (loaded, is-done l.answer z))
+    read_done a j = let l = loaded ∙ sym j in (sym l, rw l)
 
-    pub read-refused : (number_of_answer l.answer ≡ 0 → ⊥) → (l ≡ loaded_of mem file) × (mem ≡ memory_loaded mem file)
+    pub read-refused : (r : Refusal) → Err r ≡ judged (meanings_of file) → (Err r ≡ loaded_of mem file) × (mem ≡ memory_loaded mem file)
     unfolding memory_loaded
-    read-refused n = (sym loaded, rw loaded (sym (kept l.answer (landed (meanings_of file) mem) mem n)))
+    read-refused r j = let l = loaded ∙ sym j in (sym l, rw l)
 
 row-bound : (mem : List ℕ) (k : ℕ) → length (row_text mem k) ≤ 75
 unfolding row_text
@@ -66,7 +48,7 @@ rows_bound mem (suc k) =
     simp length-append (omega arith)
 
 module _ (mem : List ℕ) (a : ℕ) (out : List ℕ) where
-  pub write-length : (length mem ≡ 65536 → ⊥) → (stopped MemoryLength ≡ output_written mem a out) × (out ≡ output_after mem a out)
+  pub write-length : (length mem ≡ 65536 → ⊥) → (Err MemoryLength ≡ output_written mem a out) × (out ≡ output_after mem a out)
   unfolding output_written output_after
   write-length n = rw (ne_eqb (length mem) 65536 n) (refl, refl)
 
@@ -75,7 +57,7 @@ module _ (mem : List ℕ) (a : ℕ) (out : List ℕ) where
   all-length = length-append (rows_text mem 2048) (line_text 57 a []) ∙ rw (text-length 57 a [])
 
   module _ (e : length mem ≡ 65536) where
-    pub write-short : length out < length (rows_text mem 2048) + 11 → (stopped OutputShort ≡ output_written mem a out) × (out ≡ output_after mem a out)
+    pub write-short : length out < length (rows_text mem 2048) + 11 → (Err OutputShort ≡ output_written mem a out) × (out ≡ output_after mem a out)
     unfolding output_written output_after
     write-short h =
         let n = all-length in
@@ -83,7 +65,7 @@ module _ (mem : List ℕ) (a : ℕ) (out : List ℕ) where
 
     pub write_done : (size at : ℕ) (mid new : List ℕ) → size ≡ length (rows_text mem 2048) + 11 → size ≤ length out → at ≡ length (rows_text mem 2048)
         → mid ≡ sets out 0 (rows_text mem 2048) → new ≡ sets mid at (line_text 57 a [])
-        → (◌≡◌ {A = Written} (record { count = size; answer = Done }) (output_written mem a out)) × (new ≡ output_after mem a out)
+        → (Ok size ≡ output_written mem a out) × (new ≡ output_after mem a out)
     unfolding output_written output_after text_for
     write_done size at mid new s h p f g =
         let n = all-length in

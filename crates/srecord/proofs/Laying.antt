@@ -3,13 +3,18 @@
 use Rattle.std.proofs.Common.{◌≡◌, ℕ, ◌+◌, ◌*◌, ◌<◌, List, [], ◌∷◌, ◌++◌, length, get_or, take, set, sym, refl, arith, length-take-le}
 use lib.Seq.{sets}
 use Rattle.text.specs.Hex.{hex2}
-use Rattle.text.proofs.Stores.{sets-append, one_more}
+use Rattle.text.proofs.Stores.{sets-append}
 use Rattle.srecord.specs.Layout.{pairs}
 use Rattle.srecord.proofs.Scan.{take-one}
 
 -- two stores, the second right after the first, are one
 pub sets-two : (a b : ℕ) (d e m : List ℕ) → b ≡ a + length d → sets (sets m a d) b e ≡ sets m a (d ++ e)
 sets-two a b d e m p = rw p (sym (sets-append m d e a))
+
+one_more : (l vs : List ℕ) (at i : ℕ) → i < length vs → set (sets l at (take i vs)) (at + i) (get_or vs i 0) ≡ sets l at (take (i + 1) vs)
+one_more l vs at i h =
+    let e : length (take i vs) ≡ i = length-take-le i vs (omega arith) in
+    rw (take-one vs i h, sets-append l (take i vs) (get_or vs i 0 ∷ []) at, e)
 
 -- one more element of a list stored from index a on
 pub sets_more : (a i v : ℕ) (l m now : List ℕ) → i < length l → now ≡ sets m a (take i l) → v ≡ get_or l i 0

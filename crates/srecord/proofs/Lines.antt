@@ -1,13 +1,12 @@
 -- A file's lines, the first one split off; and what a line's answer says of its meaning.
 -- Assumes nothing.
-use Rattle.std.proofs.Common.{◌≡◌, ℕ, suc, ◌+◌, ◌-◌, ◌<◌, ◌≤◌, Bool, true, false, leb, List, [], ◌∷◌, map, length, get_or, take, drop, sym, refl, ap, ◌∙◌, arith, length-drop, drop_of_length-le, drop-drop, eq-eqb, ne_eqb, leb-true}
+use Rattle.std.proofs.Common.{◌≡◌, ℕ, suc, ◌+◌, ◌-◌, ◌<◌, ◌≤◌, Bool, true, false, leb, List, [], ◌∷◌, map, length, get_or, take, drop, sym, refl, ap, ◌∙◌, arith, length-drop, drop_of_length-le, drop-drop, eq-eqb, ne_eqb, leb-true, Err, Ok, Result}
 use native.Mathlib.Decide.{ℕ_discrete}
 use lib.Seq.{sets, length-sets}
 use Rattle.srecord.specs.Line.{Meaning, heading, piece, start, refused, line_bytes, is_shaped, is_summed, line_address, data_of, meant, line_of, line_answer}
-use Rattle.srecord.specs.File.{in_front_of, lines_of, first, line_end, meanings_of, failed, ended, judged, landed}
+use Rattle.srecord.specs.File.{in_front_of, lines_of, first, line_end, meanings_of, ended, judged, landed}
 use Rattle.srecord.specs.declared.line.Line.{Line}
-use Rattle.srecord.specs.declared.line.Line.TheVariants.{Header, Data, End, Bad}
-use Rattle.srecord.specs.declared.Loaded.{Loaded}
+use Rattle.srecord.specs.declared.line.Line.TheVariants.{Header, Data, End}
 use Rattle.answers.specs.declared.Refusal.{Refusal}
 use Rattle.answers.specs.declared.Refusal.TheVariants.{LineShape, Checksum, PastTop}
 use Rattle.srecord.proofs.Scan.{first-joined}
@@ -76,11 +75,11 @@ unfolding meanings_of lines_of
 no_lines file from h = rw (drop_of_length-le file {i = from} h)
 
 -- the answer to a file, by what its first line shows
-abbrev pub answer_by : Line → List Meaning → Loaded
-answer_by Header ms = judged ms
-answer_by (Data a n) ms = judged ms
-answer_by (End a) ms = ended a ms
-answer_by (Bad r) ms = failed r
+abbrev pub answer_by : Result Line Refusal → List Meaning → Result ℕ Refusal
+answer_by (Ok Header) ms = judged ms
+answer_by (Ok (Data a n)) ms = judged ms
+answer_by (Ok (End a)) ms = ended a ms
+answer_by (Err r) ms = Err r
 
 judge-one : (m : Meaning) (ms : List Meaning) → judged (m ∷ ms) ≡ answer_by (line_answer m) ms
 unfolding judged
@@ -89,18 +88,17 @@ judge-one (piece a d) ms = refl
 judge-one (start a) ms = refl
 judge-one (refused r) ms = refl
 
-pub judge-by : {l : Line} (m : Meaning) (ms : List Meaning) → line_answer m ≡ l → judged (m ∷ ms) ≡ answer_by l ms
-judge-by m ms e = judge-one m ms ∙ ap (λ (l : Line). answer_by l ms) e
+pub judge-by : {l : Result Line Refusal} (m : Meaning) (ms : List Meaning) → line_answer m ≡ l → judged (m ∷ ms) ≡ answer_by l ms
+judge-by m ms e = judge-one m ms ∙ ap (λ (l : Result Line Refusal). answer_by l ms) e
 
 -- the judge goes on after any line but S9 and one that is refused
-pub passed : (l : Line) (ms : List Meaning) → ((a : ℕ) → l ≡ End a → ⊥) → ((r : Refusal) → l ≡ Bad r → ⊥) → answer_by l ms ≡ judged ms
-passed Header ms g h = refl
-passed (Data a n) ms g h = refl
-passed (End a) ms g h = absurd (g a refl)
-passed (Bad r) ms g h = absurd (h r refl)
+pub passed : (l : Line) (ms : List Meaning) → ((a : ℕ) → l ≡ End a → ⊥) → answer_by (Ok l) ms ≡ judged ms
+passed Header ms g = refl
+passed (Data a n) ms g = refl
+passed (End a) ms g = absurd (g a refl)
 
 -- any other line than S1 stores nothing
-pub idle : {l : Line} (m : Meaning) (ms : List Meaning) (mem : List ℕ) → l ≡ line_answer m → ((a n : ℕ) → l ≡ Data a n → ⊥) → landed (m ∷ ms) mem ≡ landed ms mem
+pub idle : {l : Result Line Refusal} (m : Meaning) (ms : List Meaning) (mem : List ℕ) → l ≡ line_answer m → ((a n : ℕ) → l ≡ Ok (Data a n) → ⊥) → landed (m ∷ ms) mem ≡ landed ms mem
 unfolding landed
 idle (heading d) ms mem e h = refl
 idle (piece a d) ms mem e h = absurd (h a (length d) e)
@@ -140,22 +138,22 @@ module _ (text : List ℕ) (a n : ℕ) where
     pub fits : a + n ≤ 65536
     pub room : 3 + n ≤ length (line_bytes text)
 
-  data-meant : (kind b : ℕ) (d : List ℕ) → Held (length d) kind → line_answer (meant kind b d) ≡ Data a n
+  data-meant : (kind b : ℕ) (d : List ℕ) → Held (length d) kind → line_answer (meant kind b d) ≡ Ok (Data a n)
       → (meant kind b d ≡ piece b d) × ((b ≡ a) × ((length d ≡ n) × (b + length d ≤ 65536)))
   data-meant _ b d (in-0 h) e = let z : ◌≡◌ {A = ℕ} 0 1 = cc in absurd (omega arith)
   data-meant _ b d (in-9 h) e = let z : ◌≡◌ {A = ℕ} 0 1 = cc in absurd (omega arith)
   data-meant _ b d (in-1 h k) e = go (leb (b + length d) 65536) refl
     where
       go : (w : Bool) → leb (b + length d) 65536 ≡ w → (meant 49 b d ≡ piece b d) × ((b ≡ a) × ((length d ≡ n) × (b + length d ≤ 65536)))
-      go false r = let z : Data a n ≡ Bad PastTop = sym e ∙ rw r in let y : ◌≡◌ {A = ℕ} 0 1 = cc in absurd (omega arith)
+      go false r = let z : ◌≡◌ {A = Result Line Refusal} (Ok (Data a n)) (Err PastTop) = sym e ∙ rw r in let y : ◌≡◌ {A = ℕ} 0 1 = cc in absurd (omega arith)
       go true r =
-          let z : Data a n ≡ Data b (length d) = sym e ∙ rw r in
+          let z : ◌≡◌ {A = Result Line Refusal} (Ok (Data a n)) (Ok (Data b (length d))) = sym e ∙ rw r in
           (rw r, (cc, (cc, leb-true (b + length d) 65536 r)))
 
-  pub data-line : line_answer (line_of text) ≡ Data a n → IsData
+  pub data-line : line_answer (line_of text) ≡ Ok (Data a n) → IsData
   data-line = go (line_of text) refl (found text)
     where
-      go : (m : Meaning) → line_of text ≡ m → Found text m → line_answer m ≡ Data a n → IsData
+      go : (m : Meaning) → line_of text ≡ m → Found text m → line_answer m ≡ Ok (Data a n) → IsData
       go _ f (bad r) e = let z : ◌≡◌ {A = ℕ} 0 1 = cc in absurd (omega arith)
       go _ f (good s q) e =
           let k = data-meant (get_or text 1 0) (line_address (line_bytes text)) (data_of (line_bytes text)) (rw s.width s.may) e in

@@ -1,6 +1,6 @@
 -- What a turn of each loop over characters does, and where it ends.
 -- Assumes nothing.
-use Rattle.std.proofs.Common.{◌≡◌, ℕ, ◌+◌, ◌%◌, ◌^◌, ◌<◌, ◌≤◌, Bool, true, false, ◌&&◌, eqb, List, [], ◌∷◌, ◌++◌, length, get_or, take, drop, refl, ◌∙◌, add-one, arith, drop_of_length-le, drop-cons, take-suc, eq-eqb, ne_eqb}
+use Rattle.std.proofs.Common.{◌≡◌, ℕ, ◌+◌, ◌-◌, ◌%◌, ◌^◌, ◌<◌, ◌≤◌, Bool, true, false, ◌&&◌, eqb, List, [], ◌∷◌, ◌++◌, length, get_or, take, drop, refl, ◌∙◌, add-one, arith, drop_of_length-le, drop-cons, take-suc, eq-eqb, ne_eqb, take_all, length-drop}
 use Rattle.text.specs.Hex.{is_digit}
 use Rattle.srecord.specs.Layout.{is_paired, total}
 use Rattle.srecord.specs.File.{first, in_front_of, lines_of, line_end}
@@ -81,3 +81,7 @@ pub sum_more : (l : List ℕ) (i sum b : ℕ) → i < length l → sum ≡ total
 sum_more l i sum b h e f =
     let t = total-more (take i l) (get_or l i 0) in
     rw (take-one l i h) (omega arith)
+
+-- what a pattern leaves of a text after its first two characters
+pub rest_is : (l : List ℕ) → take (length l - 2) (drop 2 l) ≡ drop 2 l
+rest_is l = take_all (length l - 2) (drop 2 l) (omega (arith, length-drop 2 l))

@@ -1,12 +1,9 @@
 -- What a file of S-records means: its lines in order, the answer, and memory afterwards.
 -- Assumes nothing.
-use Rattle.std.specs.Prelude.{ℕ, ◌+◌, cond, List, [], ◌∷◌, map, length, drop, ◌==◌}
+use Rattle.std.specs.Prelude.{ℕ, ◌+◌, cond, List, [], ◌∷◌, map, length, drop, ◌==◌, Err, Ok, Result}
 use Rattle.std.proofs.lemmas.List.Edits.{sets}
 use Rattle.text.specs.Lines.{line_feed}
 use Rattle.srecord.specs.Line.{Meaning, heading, piece, start, refused, line_of}
-use Rattle.answers.specs.declared.Answer.{Answer}
-use Rattle.answers.specs.declared.Answer.TheVariants.{Done, Refused}
-use Rattle.srecord.specs.declared.Loaded.{Loaded}
 use Rattle.answers.specs.declared.Refusal.{Refusal}
 use Rattle.answers.specs.declared.Refusal.TheVariants.{MemoryLength, LineShape, NoEnd}
 
@@ -32,24 +29,18 @@ line_end file from = from + length (first (lines_of (drop from file)))
 unfoldable pub meanings_of : List ℕ → List Meaning
 meanings_of file = map line_of (lines_of file)
 
-abbrev pub done : ℕ → Loaded
-done a = record { start = a; answer = Done }
-
-abbrev pub failed : Refusal → Loaded
-failed r = record { start = 0; answer = Refused r }
-
 -- S9 and nothing after it
-abbrev pub ended : ℕ → List Meaning → Loaded
-ended a [] = done a
-ended a (m ∷ ms) = failed LineShape
+abbrev pub ended : ℕ → List Meaning → Result ℕ Refusal
+ended a [] = Ok a
+ended a (m ∷ ms) = Err LineShape
 
 -- the first bad line decides, and a line after S9 is bad; if none is, there has to be an S9
-unfoldable pub judged : List Meaning → Loaded
-judged [] = failed NoEnd
+unfoldable pub judged : List Meaning → Result ℕ Refusal
+judged [] = Err NoEnd
 judged (heading d ∷ ms) = judged ms
 judged (piece a d ∷ ms) = judged ms
 judged (start a ∷ ms) = ended a ms
-judged (refused r ∷ ms) = failed r
+judged (refused r ∷ ms) = Err r
 
 -- memory with the data of each S1 line stored from its address on, raw and in order
 unfoldable pub landed : List Meaning → List ℕ → List ℕ
@@ -59,13 +50,14 @@ landed (piece a d ∷ ms) mem = landed ms (sets mem a d)
 landed (start a ∷ ms) mem = landed ms mem
 landed (refused r ∷ ms) mem = landed ms mem
 
-unfoldable pub loaded_of : List ℕ → List ℕ → Loaded
-loaded_of mem file = cond (length mem == 65536) (judged (meanings_of file)) (failed MemoryLength)
+-- the start, or why the file is refused
+unfoldable pub loaded_of : List ℕ → List ℕ → Result ℕ Refusal
+loaded_of mem file = cond (length mem == 65536) (judged (meanings_of file)) (Err MemoryLength)
 
 -- a refused file leaves memory as it was
-abbrev pub unless_refused : Answer → List ℕ → List ℕ → List ℕ
-unless_refused Done new old = new
-unless_refused (Refused r) new old = old
+abbrev pub unless_refused : Result ℕ Refusal → List ℕ → List ℕ → List ℕ
+unless_refused (Ok a) new old = new
+unless_refused (Err r) new old = old
 
 unfoldable pub memory_loaded : List ℕ → List ℕ → List ℕ
-memory_loaded mem file = unless_refused (loaded_of mem file).answer (landed (meanings_of file) mem) mem
+memory_loaded mem file = unless_refused (loaded_of mem file) (landed (meanings_of file) mem) mem

@@ -1,9 +1,9 @@
 -- What one line means: its kind, address and data, or why it is refused. A line is its text with its line feed.
 -- Assumes nothing.
-use Rattle.std.specs.Prelude.{ℕ, ◌+◌, ◌-◌, ◌*◌, Bool, cond, ◌&&◌, List, length, take, drop, ◌==◌, nat_le, slice_index}
+use Rattle.std.specs.Prelude.{ℕ, ◌+◌, ◌-◌, ◌*◌, Bool, cond, ◌&&◌, List, length, take, drop, ◌==◌, nat_le, slice_index, Err, Ok, Result}
 use Rattle.srecord.specs.Layout.{letter_s, kind0, kind1, kind9, is_paired, paired_bytes, checksum}
 use Rattle.srecord.specs.declared.line.Line.{Line}
-use Rattle.srecord.specs.declared.line.Line.TheVariants.{Header, Data, End, Bad}
+use Rattle.srecord.specs.declared.line.Line.TheVariants.{Header, Data, End}
 use Rattle.answers.specs.declared.Refusal.{Refusal}
 use Rattle.answers.specs.declared.Refusal.TheVariants.{LineShape, Checksum, PastTop}
 
@@ -58,8 +58,8 @@ line_of text =
     (refused LineShape)
 
 -- what `line_of` answers: the meaning, with the count of the data in place of the data
-abbrev pub line_answer : Meaning → Line
-line_answer (heading d) = Header
-line_answer (piece a d) = Data a (length d)
-line_answer (start a) = End a
-line_answer (refused r) = Bad r
+abbrev pub line_answer : Meaning → Result Line Refusal
+line_answer (heading d) = Ok Header
+line_answer (piece a d) = Ok (Data a (length d))
+line_answer (start a) = Ok (End a)
+line_answer (refused r) = Err r

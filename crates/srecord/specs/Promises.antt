@@ -1,11 +1,10 @@
 -- What is promised of reading and writing together.
 -- Assumes nothing.
-use Rattle.std.specs.Prelude.{◌≡◌, ℕ, ◌<◌, true, List, [], length, replicate, slice_index}
+use Rattle.std.specs.Prelude.{◌≡◌, ℕ, ◌<◌, true, List, [], length, replicate, slice_index, Err, Ok}
 use Rattle.srecord.specs.Layout.{kind0, kind1, kind9, line_text}
 use Rattle.srecord.specs.Line.{Meaning, heading, piece, start, refused, may_hold, meant, line_of}
-use Rattle.srecord.specs.File.{done, loaded_of, memory_loaded}
+use Rattle.srecord.specs.File.{loaded_of, memory_loaded}
 use Rattle.srecord.specs.Written.{text_for, output_written, output_after}
-use Rattle.answers.specs.declared.Answer.TheVariants.{Refused}
 use Rattle.answers.specs.declared.Refusal.{Refusal}
 
 -- every element is a byte
@@ -40,14 +39,14 @@ LineExact = (text : List ℕ) → StandsFor text (line_of text)
 
 -- what is refused leaves memory, and the output, as it was, every byte
 pub record RefusedKeeps : Type 0 where
-  pub memory : (mem file : List ℕ) (r : Refusal) → (loaded_of mem file).answer ≡ Refused r → memory_loaded mem file ≡ mem
-  pub output : (mem : List ℕ) (a : ℕ) (out : List ℕ) (r : Refusal) → (output_written mem a out).answer ≡ Refused r → output_after mem a out ≡ out
+  pub memory : (mem file : List ℕ) (r : Refusal) → loaded_of mem file ≡ Err r → memory_loaded mem file ≡ mem
+  pub output : (mem : List ℕ) (a : ℕ) (out : List ℕ) (r : Refusal) → output_written mem a out ≡ Err r → output_after mem a out ≡ out
 
 -- what is written of a memory and a start reads back, over a zeroed memory
 abbrev pub ReadsBack : Type 0
 ReadsBack =
     (mem : List ℕ) (a : ℕ) → length mem ≡ 65536 → AllBytes mem → a < 65536
-    → (loaded_of blank (text_for mem a) ≡ done a) × (memory_loaded blank (text_for mem a) ≡ mem)
+    → (loaded_of blank (text_for mem a) ≡ Ok a) × (memory_loaded blank (text_for mem a) ≡ mem)
 
 -- one text is written of one memory and start only
 abbrev pub OneForm : Type 0

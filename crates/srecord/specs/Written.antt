@@ -1,12 +1,10 @@
 -- The text that is written of a memory and a start.
 -- Assumes nothing.
-use Rattle.std.specs.Prelude.{ℕ, zero, suc, ◌*◌, Bool, true, cond, ◌&&◌, List, [], ◌∷◌, ◌++◌, length, take, drop, ◌==◌, nat_lt}
+use Rattle.std.specs.Prelude.{ℕ, zero, suc, ◌*◌, Bool, true, cond, ◌&&◌, List, [], ◌∷◌, ◌++◌, length, take, drop, ◌==◌, nat_lt, Err, Ok, Result}
 use Rattle.std.proofs.lemmas.List.Edits.{sets}
 use Rattle.srecord.specs.Layout.{kind1, kind9, line_text}
-use Rattle.answers.specs.declared.Answer.TheVariants.{Done, Refused}
 use Rattle.answers.specs.declared.Refusal.{Refusal}
 use Rattle.answers.specs.declared.Refusal.TheVariants.{MemoryLength, OutputShort}
-use Rattle.srecord.specs.declared.written.Written.{Written}
 
 -- the k-th 32 bytes of memory
 abbrev pub bytes_of_row : List ℕ → ℕ → List ℕ
@@ -29,15 +27,12 @@ rows_text mem (suc k) = rows_text mem k ++ row_text mem k
 unfoldable pub text_for : List ℕ → ℕ → List ℕ
 text_for mem a = rows_text mem 2048 ++ line_text kind9 a []
 
-abbrev pub stopped : Refusal → Written
-stopped r = record { count = 0; answer = Refused r }
-
--- the answer, and the output afterwards: the text at its front and the rest as it was; if refused, all as it was
-unfoldable pub output_written : List ℕ → ℕ → List ℕ → Written
+-- how many bytes are written, and the output afterwards: the text at its front and the rest as it was; if refused, all as it was
+unfoldable pub output_written : List ℕ → ℕ → List ℕ → Result ℕ Refusal
 output_written mem a out =
     cond (length mem == 65536)
-    (cond (nat_lt (length out) (length (text_for mem a))) (stopped OutputShort) (record { count = length (text_for mem a); answer = Done }))
-    (stopped MemoryLength)
+    (cond (nat_lt (length out) (length (text_for mem a))) (Err OutputShort) (Ok (length (text_for mem a))))
+    (Err MemoryLength)
 
 unfoldable pub output_after : List ℕ → ℕ → List ℕ → List ℕ
 output_after mem a out =

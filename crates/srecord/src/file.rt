@@ -1,59 +1,42 @@
 // A file: its lines in order, all judged, then the data stored.
+// A memory's length is a fact of the contracts and no type: any slice may be lent.
 ghost use Rattle.std.specs.Prelude.{◌≡◌, ◌+◌, ◌≤◌, length, take, drop};
 ghost use Rattle.std.proofs.lemmas.List.Edits.{sets};
 ghost use Rattle.srecord.specs.Line.{line_bytes};
-ghost use Rattle.srecord.specs.File.{line_end, failed, meanings_of, judged, landed, loaded_of, memory_loaded};
+ghost use Rattle.srecord.specs.File.{line_end, meanings_of, judged, landed, loaded_of, memory_loaded};
 
-use super::Loaded;
 use super::line::{Line, byte, line_of};
-use answers::{Answer, Refusal};
+use answers::Refusal;
 
 // Where the line that starts here ends: past its line feed, or at the end of the file.
 pub fn line_end(file: &[u8], from: usize) -> usize
     ensures { result ≡ line_end file.now from }
 {
-    let mut i = from;
-    while i < file.len() {
-        if file[i] == 10 {
+    for i in from..file.len() {
+        if file[i] == b'\n' {
             return i + 1;
         }
-        i += 1;
     }
-    i
-}
-
-fn refused(refusal: Refusal) -> Loaded
-    ensures { result ≡ failed refusal }
-{
-    Loaded {
-        start: 0,
-        answer: Answer::Refused(refusal),
-    }
+    from.max(file.len())
 }
 
 // The answer to a file, before any byte of it is stored.
-fn judge(file: &[u8]) -> Loaded
+fn judge(file: &[u8]) -> Result<u16, Refusal>
     ensures { result ≡ judged (meanings_of file.now) }
 {
+    // The walk goes from one line's end to the next, so that no range or iterator counts it.
     let mut from = 0;
     while from < file.len() {
         let end = line_end(file, from);
-        match line_of(&file[from..end]) {
-            Line::End(start) => {
-                if end < file.len() {
-                    return refused(Refusal::LineShape);
-                }
-                return Loaded {
-                    start,
-                    answer: Answer::Done,
-                };
+        if let Line::End(start) = line_of(&file[from..end])? {
+            if end < file.len() {
+                return Err(Refusal::LineShape);
             }
-            Line::Bad(refusal) => return refused(refusal),
-            _ => {}
+            return Ok(start);
         }
         from = end;
     }
-    refused(Refusal::NoEnd)
+    Err(Refusal::NoEnd)
 }
 
 // The data of an S1 line, stored from its address on.
@@ -62,10 +45,8 @@ fn store_data(mem: &mut [u8], text: &[u8], address: u16, count: usize)
     ensures { mem.new ≡ sets mem.old address (take count (drop 3 (line_bytes text.now))) }
 {
     let first = address as usize;
-    let mut i = 0;
-    while i < count {
+    for i in 0..count {
         mem[first + i] = byte(text, 3 + i);
-        i += 1;
     }
 }
 
@@ -74,11 +55,12 @@ fn store_lines(mem: &mut [u8], file: &[u8])
     requires { length mem.old ≡ 65536 }
     ensures { mem.new ≡ landed (meanings_of file.now) mem.old }
 {
+    // From one line's end to the next, as in `judge`.
     let mut from = 0;
     while from < file.len() {
         let end = line_end(file, from);
         let text = &file[from..end];
-        if let Line::Data { address, count } = line_of(text) {
+        if let Ok(Line::Data { address, count }) = line_of(text) {
             store_data(mem, text, address, count);
         }
         from = end;
@@ -86,16 +68,13 @@ fn store_lines(mem: &mut [u8], file: &[u8])
 }
 
 // All lines are judged before the first byte is stored, so that a refused file leaves memory untouched.
-pub fn read(mem: &mut [u8], file: &[u8]) -> Loaded
+pub fn read(mem: &mut [u8], file: &[u8]) -> Result<u16, Refusal>
     ensures { (result ≡ loaded_of mem.old file.now) × (mem.new ≡ memory_loaded mem.old file.now) }
 {
     if mem.len() != 65536 {
-        return refused(Refusal::MemoryLength);
+        return Err(Refusal::MemoryLength);
     }
-    let loaded = judge(file);
-    let answer = loaded.answer;
-    if answer.number() == 0 {
-        store_lines(mem, file);
-    }
-    loaded
+    let start = judge(file)?;
+    store_lines(mem, file);
+    Ok(start)
 }

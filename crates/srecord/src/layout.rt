@@ -8,25 +8,23 @@ use text::is_digit;
 pub fn paired(text: &[u8]) -> bool
     ensures { result ≡ is_paired text.now }
 {
-    let mut i = 0;
-    while text.len() - i > 1 {
-        if !(is_digit(text[i]) & is_digit(text[i + 1])) {
+    let mut rest = text;
+    while let [a, b, after @ ..] = rest {
+        if !(is_digit(*a) && is_digit(*b)) {
             return false;
         }
-        i += 2;
+        rest = after;
     }
-    if i < text.len() { text[i] == 10 } else { false }
+    matches!(rest, [b'\n'])
 }
 
 // The low byte of a sum.
 pub fn sum_of(list: &[u8]) -> u8
     ensures { result ≡ total list.now % 256 }
 {
-    let mut sum = 0;
-    let mut i = 0;
-    while i < list.len() {
-        sum = std::num::wrapping_add_u8(sum, list[i]);
-        i += 1;
+    let mut sum: u8 = 0;
+    for &b in list {
+        sum = sum.wrapping_add(b);
     }
     sum
 }

@@ -6,14 +6,6 @@ mod layout;
 mod line;
 mod written;
 
-use answers::Answer;
 pub use file::{line_end, read};
 pub use line::{Line, line_of};
-pub use written::{Written, write};
-
-// The start, 0 if the file is refused.
-#[derive(Clone, Copy)]
-pub struct Loaded {
-    pub start: u16,
-    pub answer: Answer,
-}
+pub use written::write;

@@ -12,28 +12,25 @@ pub enum Line {
     Header,
     Data { address: u16, count: usize },
     End(u16),
-    Bad(Refusal),
 }
 
 // How many bytes a line has: two digits for each, after the S and the kind.
 fn size(text: &[u8]) -> usize
     ensures { result ≡ length (line_bytes text.now) }
 {
-    if text.len() < 2 {
-        0
-    } else {
-        (text.len() - 2) / 2
-    }
+    text.len().saturating_sub(2) / 2
 }
 
 // Byte i of a line, 0 if it has none.
+// No Option: `slice_index`, which the contracts name, is 0 there, and each caller asks below `size`.
 pub fn byte(text: &[u8], i: usize) -> u8
     ensures { result ≡ slice_index (line_bytes text.now) i }
 {
-    if size(text) <= i {
-        return 0;
+    if i < size(text) {
+        text::byte(text[2 + 2 * i], text[3 + 2 * i])
+    } else {
+        0
     }
-    text::byte(text[2 + 2 * i], text[3 + 2 * i])
 }
 
 // The low byte of the sum of the first n bytes of a line.
@@ -41,11 +38,9 @@ fn sum_bytes(text: &[u8], n: usize) -> u8
     requires { n ≤ length (line_bytes text.now) }
     ensures { result ≡ total (take n (line_bytes text.now)) % 256 }
 {
-    let mut sum = 0;
-    let mut i = 0;
-    while i < n {
-        sum = std::num::wrapping_add_u8(sum, byte(text, i));
-        i += 1;
+    let mut sum: u8 = 0;
+    for i in 0..n {
+        sum = sum.wrapping_add(byte(text, i));
     }
     sum
 }
@@ -54,13 +49,14 @@ fn sum_bytes(text: &[u8], n: usize) -> u8
 const MOST: usize = 252;
 
 // Whether a line of this kind may have n data bytes.
+// The kind is the file's character; it becomes a `Line` where shape and checksum are right.
 fn may_hold(kind: u8, n: usize) -> bool
     ensures { result ≡ may_hold kind n }
 {
     match kind {
-        48 => n <= MOST,
-        49 => (0 < n) & (n <= MOST),
-        57 => n == 0,
+        b'0' => n <= MOST,
+        b'1' => 0 < n && n <= MOST,
+        b'9' => n == 0,
         _ => false,
     }
 }
@@ -69,24 +65,17 @@ fn may_hold(kind: u8, n: usize) -> bool
 fn shaped(text: &[u8]) -> bool
     ensures { result ≡ is_shaped text.now }
 {
-    if text.len() < 2 {
+    let [b'S', kind, digits @ ..] = text else {
         return false;
-    }
-    if text[0] != 83 {
-        return false;
-    }
-    if !paired(&text[2..]) {
+    };
+    if !paired(digits) {
         return false;
     }
     let n = size(text);
     if n < 4 {
         return false;
     }
-    let count = byte(text, 0) as usize;
-    if count != n - 1 {
-        return false;
-    }
-    may_hold(text[1], n - 4)
+    byte(text, 0) as usize == n - 1 && may_hold(*kind, n - 4)
 }
 
 // Whether the last byte is the checksum of those before it: the complement of the low byte of their sum.
@@ -95,42 +84,36 @@ fn summed(text: &[u8]) -> bool
     ensures { result ≡ is_summed (line_bytes text.now) }
 {
     let n = size(text) - 1;
-    let sum = sum_bytes(text, n);
-    byte(text, n) == !sum
+    byte(text, n) == !sum_bytes(text, n)
 }
 
 // What a line says whose shape and checksum are right.
-fn meaning(text: &[u8]) -> Line
+fn meaning(text: &[u8]) -> Result<Line, Refusal>
     requires { is_shaped text.now ≡ true }
     ensures { result ≡ line_answer (meant (slice_index text.now 1) (line_address (line_bytes text.now)) (data_of (line_bytes text.now))) }
 {
-    let address = 256 * byte(text, 1) as u16 + byte(text, 2) as u16;
+    let address = u16::from_be_bytes([byte(text, 1), byte(text, 2)]);
     let count = size(text) - 4;
     match text[1] {
-        48 => Line::Header,
-        57 => Line::End(address),
-        _ => {
-            if address as usize + count <= 65536 {
-                Line::Data { address, count }
-            } else {
-                Line::Bad(Refusal::PastTop)
-            }
-        }
+        b'0' => Ok(Line::Header),
+        b'9' => Ok(Line::End(address)),
+        _ if address as usize + count <= 65536 => Ok(Line::Data { address, count }),
+        _ => Err(Refusal::PastTop),
     }
 }
 
 // One line, with its line feed. The commonest S9 line is known by its text.
-pub fn line_of(text: &[u8]) -> Line
+pub fn line_of(text: &[u8]) -> Result<Line, Refusal>
     ensures { result ≡ line_answer (line_of text.now) }
 {
-    if check::same(text, b"S9030000FC\n") {
-        return Line::End(0);
+    if text == b"S9030000FC\n".as_slice() {
+        return Ok(Line::End(0));
     }
     if !shaped(text) {
-        return Line::Bad(Refusal::LineShape);
+        return Err(Refusal::LineShape);
     }
     if !summed(text) {
-        return Line::Bad(Refusal::Checksum);
+        return Err(Refusal::Checksum);
     }
     meaning(text)
 }

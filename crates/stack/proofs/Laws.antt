@@ -1,9 +1,8 @@
 -- No write is lost, and 8 is given exactly where it should be.
 -- Assumes nothing.
-use Rattle.std.proofs.Common.{◌≡◌, ℕ, ◌+◌, ◌*◌, ◌/◌, ◌%◌, ◌≤◌, Bool, true, false, cond, ltb, refl, ap, ◌∙◌, arith, le-ltb}
+use Rattle.std.proofs.Common.{◌≡◌, ℕ, Bool, true, false, cond, ltb, refl, ap, ◌∙◌, le-ltb, Err, Ok, Result}
+use Rattle.std.specs.Prelude.{⊤}
 use Rattle.answers.specs.Numbers.{number_of_answer}
-use Rattle.answers.specs.declared.Answer.{Answer}
-use Rattle.answers.specs.declared.Answer.TheVariants.{Done, Refused as NotDone}
 use Rattle.answers.specs.declared.Refusal.TheVariants.{StackTooSmall}
 use Rattle.registers.specs.ConditionCodes.{put}
 use Rattle.registers.specs.Names.{stack_word}
@@ -20,20 +19,14 @@ use Rattle.operations.specs.Codes.{with_codes}
 use Rattle.stack.specs.Pushing.{registers_named, bytes_pushed, pushes, pushed, once_pushed, jumped_to_subroutine}
 use Rattle.stack.specs.Frames.{framed}
 use Rattle.stack.specs.Laws.{NoneDropped, StackRefusesExactly}
-use Rattle.stack.proofs.Filling.{pushes-length, named-size}
-
-at_most : (a b c d e f g h : ℕ) → a ≤ 1 → b ≤ 1 → c ≤ 1 → d ≤ 1 → e ≤ 1 → f ≤ 1 → g ≤ 1 → h ≤ 1 → 2 * (a + b + c + d) + (e + f + g + h) ≤ 12
-at_most a b c d e f g h la lb lc ld le lf lg lh = omega arith
-
-bit-at-most : (n : ℕ) → n % 2 ≤ 1
-bit-at-most n = omega arith
+use Rattle.stack.proofs.Filling.{pushes-length, few-bytes, named-size}
+use Rattle.answers.specs.declared.Refusal.{Refusal}
 
 pub none_dropped : NoneDropped
 unfolding pushed
 none_dropped = record {
   bytes = λ r stack mask pointer system. pushes-length r system pointer (registers_named stack mask) ∙ named-size mask stack;
-  few = λ mask. at_most (mask / 128 % 2) (mask / 64 % 2) (mask / 32 % 2) (mask / 16 % 2) (mask / 8 % 2) (mask / 4 % 2) (mask / 2 % 2) (mask % 2)
-      (bit-at-most (mask / 128)) (bit-at-most (mask / 64)) (bit-at-most (mask / 32)) (bit-at-most (mask / 16)) (bit-at-most (mask / 8)) (bit-at-most (mask / 4)) (bit-at-most (mask / 2)) (bit-at-most mask);
+  few = few-bytes;
   listed = λ r stack mask system h. rw (le-ltb _ _ h) (listed_back (pushes r system (word_of r (stack_word stack)) (registers_named stack mask)));
 }
 
@@ -48,14 +41,14 @@ push-number r stack mask system = go (ltb (word_of r (stack_word stack)) (bytes_
     go false after ws = refl
 
 -- what follows a push is refused where the push is, if it is not itself
-pub once-number : (r : Set) (a : Answer) (e : Effect) → number_of_answer e.answer ≡ 0 → number_of_answer (once_pushed r a e).answer ≡ number_of_answer a
-once-number r Done e h = h
-once-number r (NotDone x) e h = refl
+pub once-number : (r : Set) (a : Result ⊤ Refusal) (e : Effect) → number_of_answer e.answer ≡ 0 → number_of_answer (once_pushed r a e).answer ≡ number_of_answer a
+once-number r (Ok u) e h = h
+once-number r (Err x) e h = refl
 
 -- a push handed on
-same_number : (r : Set) (p : Effect) (a : Answer) → p.answer ≡ a → number_of_answer (once_pushed r a p).answer ≡ number_of_answer a
-same_number r p Done e = ap number_of_answer e
-same_number r p (NotDone x) e = refl
+same_number : (r : Set) (p : Effect) (a : Result ⊤ Refusal) → p.answer ≡ a → number_of_answer (once_pushed r a p).answer ≡ number_of_answer a
+same_number r p (Ok u) e = ap number_of_answer e
+same_number r p (Err x) e = refl
 
 frame-number : (r : Set) (entire : Bool) → number_of_answer (framed r entire).answer ≡ cond (ltb r.s (cond entire 12 3)) 8 0
 unfolding framed

@@ -1,10 +1,9 @@
 -- Pushes and pulls are sound.
 -- Assumes nothing.
-use Rattle.std.proofs.Common.{◌≡◌, ℕ, zero, suc, ◌-◌, ◌<◌, ◌≤◌, Bool, true, false, eqb, ltb, List, [], ◌∷◌, ◌++◌, reverse, length, replicate, refl, ap, mod-lt, arith, lit<, length-append}
+use Rattle.std.proofs.Common.{◌≡◌, ℕ, zero, suc, ◌-◌, ◌<◌, ◌≤◌, Bool, true, false, eqb, ltb, List, [], ◌∷◌, ◌++◌, reverse, length, replicate, refl, ap, mod-lt, arith, lit<, length-append, Err, Ok, Result}
+use Rattle.std.specs.Prelude.{⊤}
 use Rattle.u8oru16.specs.declared.u8u16.{u8u16}
 use Rattle.u8oru16.specs.declared.u8u16.TheVariants.{u8, u16}
-use Rattle.answers.specs.declared.Answer.{Answer}
-use Rattle.answers.specs.declared.Answer.TheVariants.{Done, Refused as NotDone}
 use Rattle.answers.specs.declared.Refusal.TheVariants.{StackTooSmall}
 use Rattle.registers.specs.ConditionCodes.{coded, flag, put}
 use Rattle.registers.specs.Fits.{Fits, InWidth}
@@ -37,6 +36,7 @@ use Rattle.stack.specs.Pulling.{pulled_to, pulled_into, pulls, pulled, returned_
 use Rattle.stack.specs.Laws.{StackSound}
 use Rattle.stack.specs.declared.pulling.Pulled.{Pulled}
 use Rattle.stack.proofs.Laws.{none_dropped}
+use Rattle.answers.specs.declared.Refusal.{Refusal}
 
 -- ---- widths of writes
 
@@ -78,17 +78,17 @@ module _ (r : Set) (f : Fits r) (system : Bool) where
 -- ---- what follows a push
 
 module _ {P : Type 0} (r : Set) (h : P → Fits r) where
-  pub once-sound : {w : Wait} (a : Answer) (e : Effect) → Sound P r w e → Sound P r w (once_pushed r a e)
-  once-sound Done e s = s
-  once-sound (NotDone x) e s = refused-sound r h x
+  pub once-sound : {w : Wait} (a : Result ⊤ Refusal) (e : Effect) → Sound P r w e → Sound P r w (once_pushed r a e)
+  once-sound (Ok u) e s = s
+  once-sound (Err x) e s = refused-sound r h x
 
   -- a push of other registers q, handed on
   pub handed-on : {Q : Type 0} (q : Set) {w : Wait} (p : Effect) → (P → Q) → Sound Q q w p → Sound P r w (once_pushed r p.answer p)
   handed-on q {w} p k s = go p.answer refl
     where
-      go : (a : Answer) → p.answer ≡ a → Sound P r w (once_pushed r a p)
-      go Done e = done-sound r p e (s.waits e) (record { places = s.few }) (λ g. s.registers (k g)) (λ g. s.widths (k g))
-      go (NotDone x) e = refused-sound r h x
+      go : (a : Result ⊤ Refusal) → p.answer ≡ a → Sound P r w (once_pushed r a p)
+      go (Ok u) e = done-sound r p e (s.waits e) (record { places = s.few }) (λ g. s.registers (k g)) (λ g. s.widths (k g))
+      go (Err x) e = refused-sound r h x
 
 -- ---- pulls
 

@@ -5,6 +5,7 @@ use Rattle.answers.proofs.Determined.{Determines}
 use Rattle.stack.proofs.frames
 use Rattle.stack.proofs.pulling
 use Rattle.stack.proofs.pushing
+use Rattle.stack.proofs
 
 pub bytes_of : Determines 0 pushing.bytes_of.Kinds.ps pushing.bytes_of.Kinds.r pushing.bytes_of.Reads.Post
 bytes_of κs a x y ws vs p q = (p ∙ sym q, refl)
@@ -29,3 +30,9 @@ pull-registers κs a x y ws vs p q = (p ∙ sym q, refl)
 
 pub return-from-subroutine : Determines 1 pulling.return_from_subroutine.Kinds.ps pulling.return_from_subroutine.Kinds.r pulling.return_from_subroutine.Reads.Post
 return-from-subroutine κs a x y ws vs p q = (p ∙ sym q, refl)
+
+pub its-bit : Determines 0 proofs.bit.Kinds.ps proofs.bit.Kinds.r proofs.bit.Reads.Post
+its-bit κs a x y ws vs p q = (p ∙ sym q, refl)
+
+pub named-by-bit : Determines 0 proofs.named.Kinds.ps proofs.named.Kinds.r proofs.named.Reads.Post
+named-by-bit κs a x y ws vs p q = (p ∙ sym q, refl)

@@ -1,8 +1,6 @@
 -- PSHS and PSHU, and JSR and BSR, which push PC (manual, appendix A).
 -- Assumes nothing.
-use Rattle.std.specs.Prelude.{ℕ, ◌+◌, ◌-◌, ◌*◌, ◌/◌, ◌%◌, Bool, false, cond, List, [], ◌∷◌, ◌++◌, nat_lt}
-use Rattle.answers.specs.declared.Answer.{Answer}
-use Rattle.answers.specs.declared.Answer.TheVariants.{Done, Refused}
+use Rattle.std.specs.Prelude.{ℕ, ◌+◌, ◌-◌, ◌*◌, ◌/◌, ◌%◌, Bool, false, cond, List, [], ◌∷◌, ◌++◌, nat_lt, Err, Ok, Result, ⊤}
 use Rattle.answers.specs.declared.Refusal.TheVariants.{StackTooSmall}
 use Rattle.registers.specs.ConditionCodes.{bit_at}
 use Rattle.registers.specs.Names.{register_size, word_name, stack_word, other_stack}
@@ -17,6 +15,7 @@ use Rattle.memory.specs.declared.writes.Write.{Write}
 use Rattle.machine.specs.Effect.{stores, refuses}
 use Rattle.machine.specs.declared.Effect.{Effect}
 use Rattle.operations.specs.Branches.{jumped}
+use Rattle.answers.specs.declared.Refusal.{Refusal}
 
 -- the registers in the order of pushing, each with the bit of the post-byte that names it
 abbrev pub order : Stack → List (ℕ × Name)
@@ -51,9 +50,9 @@ pushed r stack mask system =
     (stores (with_word r (stack_word stack) (pointer - bytes_pushed mask)) (writes_of (pushes r system pointer (registers_named stack mask))))
 
 -- what follows a push; where the push was refused, nothing, and the registers are those that came
-abbrev pub once_pushed : Set → Answer → Effect → Effect
-once_pushed r Done e = e
-once_pushed r (Refused x) e = refuses r x
+abbrev pub once_pushed : Set → Result ⊤ Refusal → Effect → Effect
+once_pushed r (Ok u) e = e
+once_pushed r (Err x) e = refuses r x
 
 -- JSR, BSR: the return address is pushed on S, and is no System write; PC is the address
 unfoldable pub jumped_to_subroutine : Set → ℕ → Effect

@@ -3,7 +3,6 @@ ghost use Rattle.std.specs.Prelude.{◌≡◌};
 ghost use Rattle.stack.specs.Frames.{framed};
 
 use super::pushing::push;
-use answers::Answer;
 use machine::Effect;
 use registers::{CCBit, Set, Stack};
 
@@ -11,17 +10,12 @@ use registers::{CCBit, Set, Stack};
 pub fn frame(regs: Set, entire: bool) -> Effect
     ensures { result ≡ framed regs entire }
 {
-    let cc = regs.cc;
     let mask = if entire { 0xFF } else { 0x81 };
-    let pushed = push(
-        operations::with_codes(regs, cc.set(CCBit::E, entire)),
-        Stack::S,
-        mask,
-        true,
-    );
-    let answer = pushed.answer;
-    match answer {
-        Answer::Refused(refusal) => Effect::refuses(regs, refusal),
-        Answer::Done => pushed,
+    let codes = regs.cc.set(CCBit::E, entire);
+    let pushed = push(operations::with_codes(regs, codes), Stack::S, mask, true);
+    // An effect is no Result: a refused one gives back the registers from before. So an arm hands the refusal on, and no `?`.
+    match pushed.answer {
+        Err(refusal) => Effect::refuses(regs, refusal),
+        Ok(()) => pushed,
     }
 }

@@ -1,92 +1,47 @@
 // PSHS, PSHU, and the calls BSR and JSR, which push PC.
-ghost use Rattle.std.specs.Prelude.{◌≡◌, ◌-◌, ◌<◌, ◌≤◌, slice_index_or};
-ghost use Rattle.u8oru16.specs.Value.{value_of};
-ghost use Rattle.registers.specs.RegisterSet.{read};
-ghost use Rattle.registers.specs.declared.Name.TheVariants.{CC};
-ghost use Rattle.memory.specs.Writes.{writes_of};
-ghost use Rattle.stack.specs.Pushing.{order, registers_named, bytes_pushed, pushes, pushed, jumped_to_subroutine};
+ghost use Rattle.std.specs.Prelude.{◌≡◌, ◌≤◌};
+ghost use Rattle.memory.specs.Writes.{writes_of, added_all, value_writes};
+ghost use Rattle.stack.specs.Pushing.{registers_named, bytes_pushed, pushes, pushed, jumped_to_subroutine};
 
-use super::bit;
-use answers::{Answer, Refusal};
+use super::{bit, named};
+use answers::Refusal;
 use machine::Effect;
 use memory::{Write, Writes};
 use registers::{Set, Stack};
+use u8oru16::u8u16;
 
-// What bit 7, 6, 5 or 4 of a post-byte names.
-fn word_at(regs: Set, stack: Stack, k: u8) -> u16
-    requires { (3 < k) × (k < 8) }
-    ensures { result ≡ value_of (read regs (slice_index_or (order stack) (7 - k) (0, CC)).1) }
-{
-    match k {
-        7 => regs.pc,
-        6 => regs.word(stack.other().word()),
-        5 => regs.y,
-        _ => regs.x,
-    }
-}
-
-// What bit 3, 2, 1 or 0 names: the same on either stack.
-fn byte_at(regs: Set, stack: Stack, k: u8) -> u8
-    requires { k < 4 }
-    ensures { result ≡ value_of (read regs (slice_index_or (order stack) (7 - k) (0, CC)).1) }
-{
-    match k {
-        3 => regs.dp,
-        2 => regs.b,
-        1 => regs.a,
-        _ => regs.cc.get_as_byte(),
-    }
-}
-
-// Four words, then four bytes, downwards from the pointer. The list is filled in place: a copy of it for each register would cost more
-// than the push.
+// Downwards from the pointer, from PC to CC.
 fn push_all(regs: Set, stack: Stack, pointer: u16, mask: u8, system: bool) -> Writes
     requires { bytes_pushed mask ≤ pointer }
     ensures { result ≡ writes_of (pushes regs system pointer (registers_named stack mask)) }
 {
-    let none = Writes::none();
-    let mut list = none.list;
-    let mut count: usize = 0;
+    let mut writes = Writes::none();
     let mut at = pointer;
-    let mut k: u8 = 8;
-    while k > 4 {
-        k -= 1;
+    for k in (0..8).rev() {
         if bit(mask, k) {
-            let word = word_at(regs, stack, k);
-            at -= 2;
-            list[count] = Write {
-                at,
-                byte: (word / 256) as u8,
-                system,
-            };
-            list[count + 1] = Write {
-                at: at + 1,
-                byte: (word % 256) as u8,
-                system,
-            };
-            count += 2;
+            let value = regs.get_register(named(stack, k));
+            at -= value.size();
+            writes = with_value(writes, at, value, system);
         }
     }
-    while k > 0 {
-        k -= 1;
-        if bit(mask, k) {
-            let byte = byte_at(regs, stack, k);
-            at -= 1;
-            list[count] = Write { at, byte, system };
-            count += 1;
-        }
-    }
-    Writes { count, list }
+    writes
 }
 
-// How many bits of a digit are set.
-const BITS: [u8; 16] = [0, 1, 1, 2, 1, 2, 2, 3, 1, 2, 2, 3, 2, 3, 3, 4];
+// A byte's write, or a word's two.
+fn with_value(writes: Writes, at: u16, value: u8u16, system: bool) -> Writes
+    ensures { result ≡ added_all writes (value_writes at value system) }
+{
+    match value {
+        u8u16::u8(byte) => writes.add(Write { at, byte, system }),
+        u8u16::u16(word) => writes.add_word(at, word, system),
+    }
+}
 
-// How many bytes a post-byte names.
+// How many bytes a post-byte names: one for each bit, and one more for each of the high four.
 pub fn bytes_of(mask: u8) -> u8
     ensures { result ≡ bytes_pushed mask }
 {
-    2 * BITS[(mask / 16) as usize] + BITS[(mask % 16) as usize]
+    (mask.count_ones() + (mask / 16).count_ones()) as u8
 }
 
 pub fn push(regs: Set, stack: Stack, mask: u8, system: bool) -> Effect
@@ -106,11 +61,9 @@ pub fn jump_to_subroutine(regs: Set, ea: u16) -> Effect
     ensures { result ≡ jumped_to_subroutine regs ea }
 {
     let pushed = push(regs, Stack::S, 0x80, false);
-    let answer = pushed.answer;
-    let writes = pushed.writes;
-    let after = pushed.regs;
-    match answer {
-        Answer::Refused(refusal) => Effect::refuses(regs, refusal),
-        Answer::Done => Effect::stores(operations::jump(after, ea), writes),
+    // An effect is no Result: a refused one gives back the registers from before. So an arm hands the refusal on, and no `?`.
+    match pushed.answer {
+        Err(refusal) => Effect::refuses(regs, refusal),
+        Ok(()) => Effect::stores(operations::jump(pushed.regs, ea), pushed.writes),
     }
 }

@@ -32,16 +32,16 @@ alone κs a x y ws vs p q = (p ∙ sym q, refl)
 pub line : Determines 0 lines.line.Kinds.ps lines.line.Kinds.r lines.line.Reads.Post
 line κs a x y ws vs p q = (p ∙ sym q, refl)
 
-pub empty : Determines 0 lines.empty.Kinds.ps lines.empty.Kinds.r lines.empty.Reads.Post
+pub empty : Determines 0 lines.Text.empty.Kinds.ps lines.Text.empty.Kinds.r lines.Text.empty.Reads.Post
 empty κs a x y ws vs p q = (p ∙ sym q, refl)
 
-pub with_byte : Determines 0 lines.with_byte.Kinds.ps lines.with_byte.Kinds.r lines.with_byte.Reads.Post
+pub with_byte : Determines 0 lines.Text.with_byte.Kinds.ps lines.Text.with_byte.Kinds.r lines.Text.with_byte.Reads.Post
 with_byte κs a x y ws vs p q = (p ∙ sym q, refl)
 
-pub with-hex : Determines 0 lines.with_hex.Kinds.ps lines.with_hex.Kinds.r lines.with_hex.Reads.Post
+pub with-hex : Determines 0 lines.Text.with_hex.Kinds.ps lines.Text.with_hex.Kinds.r lines.Text.with_hex.Reads.Post
 with-hex κs a x y ws vs p q = (p ∙ sym q, refl)
 
-pub with-decimal : Determines 0 lines.with_decimal.Kinds.ps lines.with_decimal.Kinds.r lines.with_decimal.Reads.Post
+pub with-decimal : Determines 0 lines.Text.with_decimal.Kinds.ps lines.Text.with_decimal.Kinds.r lines.Text.with_decimal.Reads.Post
 with-decimal κs a x y ws vs p q = (p ∙ sym q, refl)
 
 pub text-put : Determines 1 lines.Text.put.Kinds.ps lines.Text.put.Kinds.r lines.Text.put.Reads.Post

@@ -6,8 +6,7 @@ fn digit(d: u8) -> u8
     requires { d < 16 }
     ensures { result ≡ glyph d }
 {
-    let glyphs = b"0123456789ABCDEF";
-    glyphs[d as usize]
+    b"0123456789ABCDEF"[d as usize]
 }
 
 pub fn hex2(b: u8) -> [u8; 2]
@@ -16,11 +15,11 @@ pub fn hex2(b: u8) -> [u8; 2]
     [digit(b / 16), digit(b % 16)]
 }
 
+// Not one generic function with `hex2`: it would return 2 * N letters, and no length is computed from N.
 pub fn hex4(w: u16) -> [u8; 4]
     ensures { result ≡ Hex·hex4 w }
 {
-    let high = (w / 256) as u8;
-    let low = (w % 256) as u8;
+    let [high, low] = w.to_be_bytes();
     [
         digit(high / 16),
         digit(high % 16),
@@ -32,16 +31,17 @@ pub fn hex4(w: u16) -> [u8; 4]
 pub fn is_digit(c: u8) -> bool
     ensures { result ≡ is_digit c }
 {
-    ((48 <= c) & (c <= 57)) | ((65 <= c) & (c <= 70))
+    matches!(c, b'0'..=b'9' | b'A'..=b'F')
 }
 
 // What a digit stands for, 0 for any other character.
+// No Option: `digit_value`, which the contract names, is 0 there.
 pub fn value(c: u8) -> u8
     ensures { (result ≡ digit_value c) × (result < 16) }
 {
     match c {
-        48..=57 => c - 48,
-        65..=70 => c - 55,
+        b'0'..=b'9' => c - b'0',
+        b'A'..=b'F' => c - b'A' + 10,
         _ => 0,
     }
 }

@@ -9,7 +9,8 @@ use crate::{hex2, hex4, lay, put};
 // The longest line: an answer of three digits, PC, CC, a counter of twenty digits.
 const ROOM: usize = 33;
 
-// A text of at most 33 bytes: `len` of them are used, the others are 0.
+// A text of at most 33 bytes: `len` of them are used, the others are 0. Memory is fixed here, and a text is a value that is copied: so its bytes
+// stand beside their number.
 #[derive(Clone, Copy)]
 pub struct Text {
     pub bytes: [u8; ROOM],
@@ -17,87 +18,82 @@ pub struct Text {
 }
 
 impl Text {
+    // No byte is used.
+    pub fn empty() -> Text
+        ensures { result ≡ text_of [] }
+    {
+        Text {
+            bytes: [0; ROOM],
+            len: 0,
+        }
+    }
+
+    // A text with one byte more, if there is room.
+    pub fn with_byte(mut self, b: u8) -> Text
+        ensures { result ≡ grown self (b ∷ []) }
+    {
+        if self.len < ROOM {
+            self.bytes[self.len] = b;
+            self.len += 1;
+        }
+        self
+    }
+
+    pub fn with_hex(self, b: u8) -> Text
+        ensures { result ≡ grown self (Hex·hex2 b) }
+    {
+        let [high, low] = hex2(b);
+        self.with_byte(high).with_byte(low)
+    }
+
+    pub fn with_decimal(self, n: u64) -> Text
+        ensures { result ≡ grown self (Lines·decimal n) }
+    {
+        if n < 10 {
+            return self.with_byte(b'0' + n as u8);
+        }
+        self.with_decimal(n / 10).with_byte(b'0' + (n % 10) as u8)
+    }
+
     // Writes the text at a place, and returns its length. What would lie past the end is left out.
     pub fn put(self, out: &mut [u8], at: usize) -> usize
         ensures { (result ≡ length (said self)) × (out.new ≡ sets out.old at (said self)) }
     {
-        let bytes = self.bytes;
-        let len = self.len;
-        if len < ROOM {
-            put(out, at, &bytes[..len]);
-            return len;
-        }
-        put(out, at, &bytes);
-        ROOM
+        let len = self.len.min(ROOM);
+        put(out, at, &self.bytes[..len]);
+        len
     }
-}
-
-// No byte is used.
-pub fn empty() -> Text
-    ensures { result ≡ text_of [] }
-{
-    Text {
-        bytes: [0; ROOM],
-        len: 0,
-    }
-}
-
-// A text with one byte more, if there is room.
-pub fn with_byte(text: Text, b: u8) -> Text
-    ensures { result ≡ grown text (b ∷ []) }
-{
-    let at = text.len;
-    let mut bytes = text.bytes;
-    if at < ROOM {
-        bytes[at] = b;
-        return Text { bytes, len: at + 1 };
-    }
-    text
-}
-
-pub fn with_hex(text: Text, b: u8) -> Text
-    ensures { result ≡ grown text (Hex·hex2 b) }
-{
-    let digits = hex2(b);
-    with_byte(with_byte(text, digits[0]), digits[1])
-}
-
-pub fn with_decimal(text: Text, n: u64) -> Text
-    ensures { result ≡ grown text (Lines·decimal n) }
-{
-    if n < 10 {
-        return with_byte(text, b'0' + n as u8);
-    }
-    with_byte(with_decimal(text, n / 10), b'0' + (n % 10) as u8)
 }
 
 pub fn decimal(n: u64) -> Text
     ensures { result ≡ text_of (Lines·decimal n) }
 {
-    with_decimal(empty(), n)
+    Text::empty().with_decimal(n)
 }
 
 // A number in a line of its own.
 pub fn alone(n: u8) -> Text
     ensures { result ≡ text_of (Lines·alone n) }
 {
-    with_byte(decimal(n as u64), b'\n')
+    decimal(n as u64).with_byte(b'\n')
 }
 
 // How many decimal digits a number has.
+// A while and not a for: the number says when it ends, so that no range counts the turns.
 fn digits(n: u64) -> usize
     ensures { result ≡ length (Lines·decimal n) }
 {
     let mut count = 1;
     let mut rest = n;
     while 10 <= rest {
-        rest = rest / 10;
+        rest /= 10;
         count += 1;
     }
     count
 }
 
 // Writes a number at a place that has room for it, the last digit first, and returns where it ends.
+// Beside `with_decimal`, which copies the text for each digit: `run` was slower by it (docs/PERFORMANCE.md). A while, as in `digits`.
 fn lay_decimal(out: &mut [u8], at: usize, n: u64) -> usize
     requires { at + length (Lines·decimal n) ≤ length out.old }
     ensures { (result ≡ at + length (Lines·decimal n)) × (out.new ≡ sets out.old at (Lines·decimal n)) }
@@ -107,7 +103,7 @@ fn lay_decimal(out: &mut [u8], at: usize, n: u64) -> usize
     let mut i = end - 1;
     while 10 <= rest {
         out[i] = b'0' + (rest % 10) as u8;
-        rest = rest / 10;
+        rest /= 10;
         i -= 1;
     }
     out[i] = b'0' + rest as u8;

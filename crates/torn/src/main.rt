@@ -2,6 +2,7 @@
 // text and the list (README.md has the form of both).
 #![tactic(auto)]
 
+use answers::Refusal;
 use salvage::Salvaged;
 use std::io;
 
@@ -15,17 +16,12 @@ fn print(rt: &HostRuntime, text: &[u8]) -> io::Result<()> {
     rt.write_all(text)
 }
 
-fn print_number(rt: &HostRuntime, n: usize) -> io::Result<()> {
-    print!(rt; "{n} ")
-}
-
-fn print_result(rt: &HostRuntime, salvaged: Salvaged) -> io::Result<()> {
-    let answer = salvaged.answer;
-    print_number(rt, answer.number() as usize)?;
-    print_number(rt, salvaged.bytes)?;
-    print_number(rt, salvaged.numbers)?;
-    print_number(rt, salvaged.added as usize)?;
-    print(rt, b"\n")
+// The number of the answer; the three counts are 0 where the salvage is refused.
+fn print_result(rt: &HostRuntime, salvaged: Result<Salvaged, Refusal>) -> io::Result<()> {
+    match salvaged {
+        Ok(s) => println!(rt; "0 {} {} {} ", s.bytes, s.numbers, s.added as usize),
+        Err(refusal) => println!(rt; "{} 0 0 0 ", refusal.number()),
+    }
 }
 
 // The file's text is at the front of an output of n dots, its numbers at the front of a list of m dots; all of both is printed.
@@ -45,10 +41,8 @@ fn salvage_in(
     n: usize,
     m: usize,
 ) -> io::Result<()> {
-    if n <= out.len() {
-        if m <= list.len() {
-            return salvage_into(rt, file, &mut out[..n], &mut list[..m]);
-        }
+    if n <= out.len() && m <= list.len() {
+        return salvage_into(rt, file, &mut out[..n], &mut list[..m]);
     }
     Ok(())
 }
@@ -76,7 +70,7 @@ fn read_first(rt: &HostRuntime, input: &mut [u8], n: usize) -> io::Result<usize>
 
 // The number of four hexadecimal digits.
 fn word(high: u8, next: u8, third: u8, low: u8) -> usize {
-    text::byte(high, next) as usize * 256 + text::byte(third, low) as usize
+    u16::from_be_bytes([text::byte(high, next), text::byte(third, low)]) as usize
 }
 
 // Reads one file, answers it, and says whether there may be more. Its head is three numbers of four digits, the file's length and those

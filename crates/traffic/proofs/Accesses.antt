@@ -1,5 +1,6 @@
 -- Counts mean accesses: a call that is accepted depends on the bytes at the addresses that it reads, and on no other.
 -- Assumes nothing.
+use Rattle.std.specs.Prelude.{Err, Ok, Result, Some}
 use Prim.Native.Nat.{ℕ, ◌+◌, ◌-◌, ◌≤◌, ◌<◌}
 use mathlib.Core.Bool.{Bool, true, false, cond}
 use mathlib.Core.List.{List, [], ◌++◌}
@@ -8,7 +9,6 @@ use native.Mathlib.Omega.{arith}
 use borrow.Author.Tests.{eq-eqb, eqb-true, leb-true}
 use lib.Dec.{T, eqb, leb}
 use lib.ListN.{length}
-use Rattle.answers.specs.declared.Answer.TheVariants.{Done, Refused}
 use Rattle.answers.specs.declared.Refusal.{Refusal}
 use Rattle.answers.specs.declared.Refusal.TheVariants.{MemoryLength, PastEnd}
 use Rattle.registers.specs.RegisterSet.{with_pc}
@@ -25,24 +25,20 @@ use Rattle.opcodes.specs.declared.Entry.{Entry}
 use Rattle.opcodes.specs.declared.Mode.{Mode}
 use Rattle.opcodes.specs.declared.Mode.TheVariants.{Inherent, Immediate8, Immediate16, Direct, Indexed, Extended, Relative8, Relative16}
 use Rattle.opcodes.specs.declared.Page.{Page}
-use Rattle.opcodes.specs.declared.Place.TheVariants.{Instruction as InManual}
 use Rattle.decode.specs.Decode.{decoded_at}
 use Rattle.decode.specs.Laws.{SizedAt, offset_bytes_of, DecodedFits}
 use Rattle.decode.specs.Operand.{operand_bytes}
 use Rattle.decode.specs.Origin.{OriginOf}
-use Rattle.decode.specs.declared.instruction.Decoded.{Decoded}
-use Rattle.decode.specs.declared.instruction.Decoded.TheVariants.{Instruction as Taken, Refused as NotDecoded}
 use Rattle.decode.specs.declared.instruction.Instruction.{Instruction}
 use Rattle.decode.proofs.Laws.{decode-fits}
 use Rattle.decode.proofs.Origin.{decode-origin}
 use Rattle.decode.proofs.Sizes.{entry-sizes}
 use Rattle.addressing.specs.Address.{effective_of, resolved_of}
-use Rattle.addressing.specs.declared.Resolved.{Resolved}
-use Rattle.addressing.specs.declared.Resolved.TheVariants.{At as AtAddressed, Refused as NoAddress}
 use Rattle.stack.specs.Frames.{framed}
 use Rattle.vectors.specs.Table.{address_of, is_entire}
 use Rattle.vectors.specs.declared.table.Vector.{Vector}
 use Rattle.vectors.specs.declared.table.Vector.TheVariants.{Reset}
+use Rattle.evaluate.proofs.Writes.{not_done}
 use Rattle.calls.specs.Plans.{refused_with, accepted, fenced}
 use Rattle.calls.proofs.Passing.{free-done}
 use Rattle.calls.specs.Steps.{Reached, At, NotReached, addressed, of_decoded, decoded_to, unless_waiting, reached, planned, step_plan}
@@ -58,12 +54,9 @@ use Rattle.traffic.proofs.Agreement.{Same, agree_left, agree_right, agree-within
 use Rattle.traffic.proofs.Decoding.{decode-agrees, resolve-agrees}
 use Rattle.traffic.proofs.Operations.{Alike, operation-agrees, cycles-agree, vector-agrees, vector-reads-agree}
 use Rattle.bus.proofs.Entries.{is_immediate, EntrySo, PlaceSo, OperandSo, ReadSo, each-entry, operand-so}
+use Rattle.addressing.specs.declared.Addressed.{Addressed}
 
--- a refusal is no 0
-not_done : {A : Type 0} {x : Refusal} → Refused x ≡ Done → A
-not_done e = let z : ◌≡◌ {A = ℕ} 0 1 = cc in absurd (omega arith)
-
-pub accepted-reads : (c : Call) (mem : List ℕ) (m : Machine) → (plan_of c mem m).answer ≡ Done → reads_of c mem m ≡ reads_by c mem m
+pub accepted-reads : (c : Call) (mem : List ℕ) (m : Machine) → (plan_of c mem m).answer ≡ (Ok tt) → reads_of c mem m ≡ reads_by c mem m
 unfolding reads_of
 accepted-reads c mem m e = rw e
 
@@ -73,28 +66,28 @@ accepted-reads c mem m e = rw e
 pub record Came (mem : List ℕ) (m : Machine) (i : Instruction) (r : Set) (ea : ℕ) : Type 0 where
   pub sized : length mem ≡ 65536
   pub running : m.wait ≡ Running
-  pub decoded : decoded_at mem m.regs.pc ≡ Taken i
+  pub decoded : decoded_at mem m.regs.pc ≡ Ok i
   pub resolved : addressed i (resolved_of mem m.regs i.operand i.next) ≡ At i r ea
   pub next : i.next ≤ 0xFFFF
   pub address : (effective_of i.operand mem m.regs i.next).ea ≡ ea
 
 module _ (mem : List ℕ) (m : Machine) (i : Instruction) (r : Set) (ea : ℕ) where
-  same-instruction : (j : Instruction) (a : Resolved) → addressed j a ≡ At i r ea → j ≡ i
-  same-instruction j (AtAddressed a) e = cc
-  same-instruction j (NoAddress x) e = let z : ◌≡◌ {A = ℕ} 0 1 = cc in absurd (omega arith)
+  same-instruction : (j : Instruction) (a : Result Addressed Refusal) → addressed j a ≡ At i r ea → j ≡ i
+  same-instruction j (Ok a) e = cc
+  same-instruction j (Err x) e = let z : ◌≡◌ {A = ℕ} 0 1 = cc in absurd (omega arith)
 
-  decoded-to : (d : Decoded) → of_decoded mem m.regs d ≡ At i r ea → (d ≡ Taken i) × (addressed i (resolved_of mem m.regs i.operand i.next) ≡ At i r ea)
-  decoded-to (Taken j) e =
+  decoded-to : (d : Result Instruction Refusal) → of_decoded mem m.regs d ≡ At i r ea → (d ≡ Ok i) × (addressed i (resolved_of mem m.regs i.operand i.next) ≡ At i r ea)
+  decoded-to (Ok j) e =
       let d : j ≡ i = same-instruction j (resolved_of mem m.regs j.operand j.next) e in
-      (ap Taken d, subst (λ (k : Instruction). addressed k (resolved_of mem m.regs k.operand k.next) ≡ At i r ea) d e)
-  decoded-to (NotDecoded x) e = let z : ◌≡◌ {A = ℕ} 0 1 = cc in absurd (omega arith)
+      (ap Ok d, subst (λ (k : Instruction). addressed k (resolved_of mem m.regs k.operand k.next) ≡ At i r ea) d e)
+  decoded-to (Err x) e = let z : ◌≡◌ {A = ℕ} 0 1 = cc in absurd (omega arith)
 
   next-within : addressed i (resolved_of mem m.regs i.operand i.next) ≡ At i r ea → (i.next ≤ 0xFFFF) × ((effective_of i.operand mem m.regs i.next).ea ≡ ea)
   unfolding resolved_of
   next-within e = go (leb i.next 0xFFFF) refl e
     where
       go : (t : Bool) → leb i.next 0xFFFF ≡ t
-          → addressed i (cond t (AtAddressed (record { regs = with_pc (effective_of i.operand mem m.regs i.next).regs i.next; ea = (effective_of i.operand mem m.regs i.next).ea })) (NoAddress PastEnd)) ≡ At i r ea
+          → addressed i (cond t (Ok (record { regs = with_pc (effective_of i.operand mem m.regs i.next).regs i.next; ea = (effective_of i.operand mem m.regs i.next).ea })) (Err PastEnd)) ≡ At i r ea
           → (i.next ≤ 0xFFFF) × ((effective_of i.operand mem m.regs i.next).ea ≡ ea)
       go true d q = (leb-true i.next 0xFFFF d, cc)
       go false d q = let z : ◌≡◌ {A = ℕ} 0 1 = cc in absurd (omega arith)
@@ -122,10 +115,10 @@ pub record Known (pc : ℕ) (i : Instruction) : Type 0 where
   pub entry : EntrySo i.entry
   pub operand : OperandSo i.entry.mode after i.operand i.next
 
-size-so : (page : Page) (e : Entry) → SizedAt page (InManual e) → operand_bytes e.mode < e.size
+size-so : (page : Page) (e : Entry) → SizedAt page (Some e) → operand_bytes e.mode < e.size
 size-so page e h = omega arith
 
-pub known : (mem : List ℕ) (pc : ℕ) (i : Instruction) → Bytes mem → pc < 65536 → decoded_at mem pc ≡ Taken i → Known pc i
+pub known : (mem : List ℕ) (pc : ℕ) (i : Instruction) → Bytes mem → pc < 65536 → decoded_at mem pc ≡ Ok i → Known pc i
 known mem pc i b p e =
     let o = subst (OriginOf mem) e (decode-origin mem pc b) in
     record {
@@ -192,15 +185,15 @@ module _ (mem other : List ℕ) (m : Machine) (b : Bytes mem) (p : m.regs.pc < 6
     plan : plan_of c other m ≡ plan_of c mem m
     reads : reads_by c other m ≡ reads_by c mem m
 
-  step-agrees : (s : Settings) → (step_plan mem m s).answer ≡ Done → AgreeAt mem other (reads_by (step s) mem m) → Both (step s)
+  step-agrees : (s : Settings) → (step_plan mem m s).answer ≡ (Ok tt) → AgreeAt mem other (reads_by (step s) mem m) → Both (step s)
   unfolding step_plan instruction_reads
   step-agrees s d h =
       let p = planned mem m s (reached mem m) in
-      let q : p.answer ≡ Done = sym (ap (λ (x : Plan). x.answer) (free-done s m p d)) ∙ d in
+      let q : p.answer ≡ (Ok tt) = sym (ap (λ (x : Plan). x.answer) (free-done s m p d)) ∙ d in
       let (e, f) = go (reached mem m) refl q h in
       record { plan = ap (fenced s m) e; reads = f }
     where
-      go : (a : Reached) → reached mem m ≡ a → (planned mem m s a).answer ≡ Done → AgreeAt mem other (reached_reads mem s m.regs a)
+      go : (a : Reached) → reached mem m ≡ a → (planned mem m s a).answer ≡ (Ok tt) → AgreeAt mem other (reached_reads mem s m.regs a)
           → (planned other m s (reached other m) ≡ planned mem m s a) × (reached_reads other s m.regs (reached other m) ≡ reached_reads mem s m.regs a)
       go (At i r ea) e q k =
           let c = came mem m i r ea e in
@@ -229,14 +222,14 @@ module _ (mem other : List ℕ) (m : Machine) (b : Bytes mem) (p : m.regs.pc < 6
     taken-reads-agree Sync h = vector-reads-agree mem other s (framed m.regs (is_entire v)) v (l ∙ sym z) h
     taken-reads-agree Cwai h = vector-reads-agree mem other s (changes m.regs) v (l ∙ sym z) h
 
-  interrupt-agrees : (s : Settings) (i : InterruptType) → (interrupt_plan mem m s i).answer ≡ Done → AgreeAt mem other (reads_by (interrupt s i) mem m) → Both (interrupt s i)
+  interrupt-agrees : (s : Settings) (i : InterruptType) → (interrupt_plan mem m s i).answer ≡ (Ok tt) → AgreeAt mem other (reads_by (interrupt s i) mem m) → Both (interrupt s i)
   unfolding interrupt_plan
   interrupt-agrees s i d h =
       let (e, f) = go (eqb (length mem) 65536) refl (is_held_off i m) d h in
       record { plan = rw (eq-eqb (length other) 65536 l) e; reads = f }
     where
       go : (t : Bool) → eqb (length mem) 65536 ≡ t → (u : Bool)
-          → (cond t (cond u (accepted (with_registers m m.regs (after_held_off m.wait)) 0) (taken_by m (length (taken_reads m.wait mem s m.regs (vector_of i))) (taken m.wait mem s m.regs (vector_of i)))) (refused_with m MemoryLength)).answer ≡ Done
+          → (cond t (cond u (accepted (with_registers m m.regs (after_held_off m.wait)) 0) (taken_by m (length (taken_reads m.wait mem s m.regs (vector_of i))) (taken m.wait mem s m.regs (vector_of i)))) (refused_with m MemoryLength)).answer ≡ (Ok tt)
           → AgreeAt mem other (cond u [] (taken_reads m.wait mem s m.regs (vector_of i)))
           → (cond u (accepted (with_registers m m.regs (after_held_off m.wait)) 0) (taken_by m (length (taken_reads m.wait other s m.regs (vector_of i))) (taken m.wait other s m.regs (vector_of i)))
           ≡ cond t (cond u (accepted (with_registers m m.regs (after_held_off m.wait)) 0) (taken_by m (length (taken_reads m.wait mem s m.regs (vector_of i))) (taken m.wait mem s m.regs (vector_of i)))) (refused_with m MemoryLength))
@@ -247,18 +240,18 @@ module _ (mem other : List ℕ) (m : Machine) (b : Bytes mem) (p : m.regs.pc < 6
           (rw (taken-agrees z s (vector_of i) m.wait k, taken-reads-agree z s (vector_of i) m.wait k), taken-reads-agree z s (vector_of i) m.wait k)
       go false e u q k = not_done q
 
-  reset-agrees : (s : Settings) → (reset_plan mem m).answer ≡ Done → AgreeAt mem other (reads_by (reset s) mem m) → Both (reset s)
+  reset-agrees : (s : Settings) → (reset_plan mem m).answer ≡ (Ok tt) → AgreeAt mem other (reads_by (reset s) mem m) → Both (reset s)
   unfolding reset_plan
   reset-agrees s d h = record { plan = rw (eq-eqb (length other) 65536 l) (go (eqb (length mem) 65536) d); reads = refl }
     where
-      go : (t : Bool) → (cond t (reset_to m (word_at mem (address_of Reset))) (refused_with m MemoryLength)).answer ≡ Done
+      go : (t : Bool) → (cond t (reset_to m (word_at mem (address_of Reset))) (refused_with m MemoryLength)).answer ≡ (Ok tt)
           → reset_to m (word_at other (address_of Reset)) ≡ cond t (reset_to m (word_at mem (address_of Reset))) (refused_with m MemoryLength)
       go true q = ap (reset_to m) (word-agrees mem other (address_of Reset) h)
       go false q = not_done q
 
   -- ---- each call
 
-  call-agrees : (c : Call) → (plan_of c mem m).answer ≡ Done → AgreeAt mem other (reads_by c mem m) → Both c
+  call-agrees : (c : Call) → (plan_of c mem m).answer ≡ (Ok tt) → AgreeAt mem other (reads_by c mem m) → Both c
   call-agrees (step t) = step-agrees t
   call-agrees (interrupt t i) = interrupt-agrees t i
   call-agrees (reset t) = reset-agrees t
@@ -267,5 +260,5 @@ pub counts-mean-accesses : CountsMeanAccesses
 counts-mean-accesses c mem other m b p l d h =
     let e = accepted-reads c mem m d in
     let k = call-agrees mem other m b p l c d (rw e at h) in
-    let q : (plan_of c other m).answer ≡ Done = ap (λ (p : Plan). p.answer) k.plan ∙ d in
+    let q : (plan_of c other m).answer ≡ (Ok tt) = ap (λ (p : Plan). p.answer) k.plan ∙ d in
     record { plan = k.plan; reads = accepted-reads c other m q ∙ (k.reads ∙ sym e) }

@@ -1,5 +1,6 @@
 -- The ceilings: from the most that an entry of the opcode table can read and write.
 -- Assumes nothing.
+use Rattle.std.specs.Prelude.{Err, Ok, Result, ⊤}
 use Prim.Native.Nat.{ℕ, ◌+◌, ◌-◌, ◌≤◌, ◌<◌}
 use mathlib.Core.Bool.{Bool, true, false, cond}
 use mathlib.Core.List.{List, [], ◌++◌}
@@ -7,8 +8,6 @@ use mathlib.Core.Path.{◌≡◌, refl, ap}
 use native.Mathlib.Omega.{arith}
 use lib.Dec.{eqb, lit≤}
 use lib.ListN.{length, length-append}
-use Rattle.answers.specs.declared.Answer.{Answer}
-use Rattle.answers.specs.declared.Answer.TheVariants.{Done, Refused}
 use Rattle.answers.specs.declared.Refusal.{Refusal}
 use Rattle.answers.specs.declared.Refusal.TheVariants.{MemoryLength, Fenced}
 use Rattle.registers.specs.ConditionCodes.{coded, flag}
@@ -96,7 +95,7 @@ module _ (mem : List ℕ) (s : Settings) (r : Set) (ea : ℕ) where
   made-most (Memory (Push own)) = none_dropped.few (byte_at mem ea)
   made-most (Memory (Pull own)) = lit≤ tt
 
-  written-most : (op : Op) → (evaluate_of op s mem r ea).answer ≡ Done → length (listed (evaluate_of op s mem r ea).writes) ≤ written_most op
+  written-most : (op : Op) → (evaluate_of op s mem r ea).answer ≡ (Ok tt) → length (listed (evaluate_of op s mem r ea).writes) ≤ written_most op
   written-most op d =
       let n = no-write-lost op s mem r ea in
       omega (arith, ap length (n.all d), n.many, made-most op)
@@ -105,22 +104,22 @@ module _ (mem : List ℕ) (s : Settings) (r : Set) (ea : ℕ) where
 
 -- a refused plan writes nothing
 abbrev NoWrites : Plan → Type 0
-NoWrites p = (x : Refusal) → p.answer ≡ Refused x → length (listed p.writes) ≡ 0
+NoWrites p = (x : Refusal) → p.answer ≡ Err x → length (listed p.writes) ≡ 0
 
-not-refused : {A : Type 0} {x : Refusal} → Done ≡ Refused x → A
+not-refused : {A : Type 0} {x : Refusal} → ◌≡◌ {A = Result ⊤ Refusal} (Ok tt) (Err x) → A
 not-refused e = let z : ◌≡◌ {A = ℕ} 0 1 = cc in absurd (omega arith)
 
 module _ (m : Machine) where
   none : (y : Refusal) → NoWrites (refused_with m y)
   none y x e = ap length (listed_back [])
 
-  finished-none : (cycles : ℕ) (armed : Bool) (reads : ℕ) (e : Effect) (a : Answer) → NoWrites (finished_as a m cycles armed reads e)
-  finished-none cycles armed reads e Done x d = not-refused d
-  finished-none cycles armed reads e (Refused y) x d = none y x d
+  finished-none : (cycles : ℕ) (armed : Bool) (reads : ℕ) (e : Effect) (a : Result ⊤ Refusal) → NoWrites (finished_as a m cycles armed reads e)
+  finished-none cycles armed reads e (Ok u) x d = not-refused d
+  finished-none cycles armed reads e (Err y) x d = none y x d
 
-  taken_none : (reads : ℕ) (e : Effect) (a : Answer) → NoWrites (of_effect m reads e a)
-  taken_none reads e Done x d = not-refused d
-  taken_none reads e (Refused y) x d = none y x d
+  taken_none : (reads : ℕ) (e : Effect) (a : Result ⊤ Refusal) → NoWrites (of_effect m reads e a)
+  taken_none reads e (Ok u) x d = not-refused d
+  taken_none reads e (Err y) x d = none y x d
 
   module _ (mem : List ℕ) (s : Settings) where
     planned-none : (a : Reached) → NoWrites (planned mem m s a)
@@ -179,15 +178,15 @@ module _ (mem : List ℕ) (m : Machine) (s : Settings) (b : Bytes mem) (p : m.re
         fetched-most mem s r ea i.entry.op,
       )
 
-  finished-within : (i : Instruction) (r : Set) (ea : ℕ) → Came mem m i r ea → (a : Answer) → (evaluate_of i.entry.op s mem r ea).answer ≡ a
+  finished-within : (i : Instruction) (r : Set) (ea : ℕ) → Came mem m i r ea → (a : Result ⊤ Refusal) → (evaluate_of i.entry.op s mem r ea).answer ≡ a
       → Within (length (if_accepted (finished_as a m (cycles_of i mem r ea) (arms i.entry.op (byte_at mem ea)) (length (instruction_reads i mem s m.regs r ea)) (evaluate_of i.entry.op s mem r ea)).answer (instruction_reads i mem s m.regs r ea)))
       (length (listed (finished_as a m (cycles_of i mem r ea) (arms i.entry.op (byte_at mem ea)) (length (instruction_reads i mem s m.regs r ea)) (evaluate_of i.entry.op s mem r ea)).writes))
-  finished-within i r ea c Done d =
+  finished-within i r ea c (Ok u) d =
       let k = (known mem m.regs.pc i b p c.decoded).entry in
       let n = reads-most i r ea c in
       let w = written-most mem s r ea i.entry.op d in
       record { fourteen = omega (arith, k.reads); seventeen = omega (arith, k.together) }
-  finished-within i r ea c (Refused x) d = record { fourteen = lit≤ tt; seventeen = lit≤ tt }
+  finished-within i r ea c (Err x) d = record { fourteen = lit≤ tt; seventeen = lit≤ tt }
 
   step-within : Within (read_count (step s) mem m) (write_count (step s) mem m)
   unfolding step_plan reads_of finished
@@ -216,10 +215,10 @@ module _ (mem : List ℕ) (m : Machine) (s : Settings) where
   unfolding reads_of
   interrupt-within i = go (interrupt_plan mem m s i).answer (is_held_off i m)
     where
-      go : (a : Answer) (k : Bool) → length (if_accepted a (cond k [] (taken_reads m.wait mem s m.regs (vector_of i)))) ≤ 3
-      go Done true = lit≤ tt
-      go Done false = omega (arith, taken-reads mem s m.regs m.wait (vector_of i))
-      go (Refused x) k = lit≤ tt
+      go : (a : Result ⊤ Refusal) (k : Bool) → length (if_accepted a (cond k [] (taken_reads m.wait mem s m.regs (vector_of i)))) ≤ 3
+      go (Ok u) true = lit≤ tt
+      go (Ok u) false = omega (arith, taken-reads mem s m.regs m.wait (vector_of i))
+      go (Err x) k = lit≤ tt
 
 pub interrupts-bounded : InterruptsBounded
 interrupts-bounded mem m s i = omega (arith, interrupt-within mem m s i, few-writes (interrupt s i) mem m)

@@ -1,5 +1,6 @@
 -- Decoding and the address: two memories that agree at the program's bytes decode to the same instruction, and with the pointer's to the same address.
 -- Assumes nothing.
+use Rattle.std.specs.Prelude.{Err, None, Ok, Option, Result, Some}
 use Prim.Native.Nat.{ℕ, zero, suc, ◌+◌, ◌%◌, ◌≤◌, ◌<◌}
 use mathlib.Core.Bool.{Bool, true, false, cond}
 use mathlib.Core.List.{List, []}
@@ -17,30 +18,24 @@ use Rattle.opcodes.specs.declared.Mode.{Mode}
 use Rattle.opcodes.specs.declared.Mode.TheVariants.{Inherent, Immediate8, Immediate16, Direct, Indexed, Extended, Relative8, Relative16}
 use Rattle.opcodes.specs.declared.Page.{Page}
 use Rattle.opcodes.specs.declared.Page.TheVariants.{Plain, Ten, Eleven}
-use Rattle.opcodes.specs.declared.Place.{Place}
-use Rattle.opcodes.specs.declared.Place.TheVariants.{Instruction as InManual, None}
 use Rattle.decode.specs.Decode.{second_byte, located, with_operand, decoded_as, from_located, decoded_at}
 use Rattle.decode.specs.Laws.{offset_bytes_of}
 use Rattle.decode.specs.Operand.{operand_number, reading, with_form, after_post_byte, operand_bytes, operand_of, operand_at}
 use Rattle.decode.specs.PostByte.{is_indirect, form_of, offset_bytes}
-use Rattle.decode.specs.declared.instruction.Decoded.TheVariants.{Instruction as Taken, Refused as NotDecoded}
 use Rattle.decode.specs.declared.instruction.Instruction.{Instruction}
 use Rattle.decode.specs.declared.operand.Operand.{Operand}
 use Rattle.decode.specs.declared.operand.Operand.TheVariants.{Inherent as Nothing, Immediate as ByValue, Direct as InPage, Indexed as ByIndex, Extended as AtAddress, Relative as ByOffset}
-use Rattle.decode.specs.declared.operand.OperandRead.{OperandRead}
-use Rattle.decode.specs.declared.operand.OperandRead.TheVariants.{Operand as Read, Refused as NotRead}
 use Rattle.decode.specs.declared.postbyte.Form.{Form}
-use Rattle.decode.specs.declared.postbyte.PostByte.{PostByte}
-use Rattle.decode.specs.declared.postbyte.PostByte.TheVariants.{Form as Formed, Refused as NoForm}
 use Rattle.decode.proofs.Sound.{SoundRead, operand_sound}
 use Rattle.addressing.specs.Address.{at_address, through_pointer, indexed_before, indexed_address, effective_of, advanced, resolved_of}
 use Rattle.addressing.specs.declared.Addressed.{Addressed}
 use Rattle.bus.specs.Reads.{bytes_from, pointer_reads}
 use Rattle.traffic.specs.Laws.{AgreeAt}
 use Rattle.traffic.proofs.Agreement.{Same, word-agrees}
+use Rattle.answers.specs.declared.Refusal.{Refusal}
 
 -- two constructors are never equal
-no_operand : {A : Type 0} {x : _} {o : Operand} {next : ℕ} → NotRead x ≡ Read o next → A
+no_operand : {A : Type 0} {x : Refusal} {o : Operand} {next : ℕ} → ◌≡◌ {A = Result (Operand × ℕ) Refusal} (Err x) (Ok (o, next)) → A
 no_operand e = let z : ◌≡◌ {A = ℕ} 0 1 = cc in absurd (omega arith)
 
 module _ (mem other : List ℕ) where
@@ -51,46 +46,46 @@ module _ (mem other : List ℕ) where
   number-agrees (suc zero) at end l h = h at (omega arith) (omega arith)
   number-agrees (suc (suc n)) at end l h = rw (h at (omega arith) (omega arith), h (at + 1) (omega arith) (omega arith))
 
-  reading-agrees : (n at end : ℕ) (says : ℕ → ℕ → OperandRead) → at + n ≤ end → Same mem other at end → reading n other at says ≡ reading n mem at says
+  reading-agrees : (n at end : ℕ) (says : ℕ → ℕ → (Result (Operand × ℕ) Refusal)) → at + n ≤ end → Same mem other at end → reading n other at says ≡ reading n mem at says
   reading-agrees zero at end says l h = refl
   reading-agrees (suc n) at end says l h =
-      ap (λ (k : ℕ). cond (leb (at + suc n) 0x10000) (says k (at + suc n)) (NotRead PastEnd)) (number-agrees (suc n) at end l h)
+      ap (λ (k : ℕ). cond (leb (at + suc n) 0x10000) (says k (at + suc n)) (Err PastEnd)) (number-agrees (suc n) at end l h)
 
   -- where the bytes end
-  ends : (n at : ℕ) (f : ℕ → Operand) (o : Operand) (next : ℕ) → reading n mem at (λ k end. Read (f k) end) ≡ Read o next → next ≡ at + n
-  ends zero at f o next e = let d : at ≡ next = cc in omega arith
+  ends : (n at : ℕ) (f : ℕ → Operand) (o : Operand) (next : ℕ) → reading n mem at (λ k end. Ok (f k, end)) ≡ Ok (o, next) → next ≡ at + n
+  ends zero at f o next e = let d : ◌≡◌ {A = Operand × ℕ} (f 0, at) (o, next) = cc in let k : at ≡ next = ap (λ (p : Operand × ℕ). p.1) d in omega arith
   ends (suc n) at f o next e = go (leb (at + suc n) 0x10000) e
     where
-      go : (t : Bool) → cond t (Read (f (operand_number (suc n) mem at)) (at + suc n)) (NotRead PastEnd) ≡ Read o next → next ≡ at + suc n
-      go true q = let d : at + suc n ≡ next = cc in sym d
+      go : (t : Bool) → cond {A = Result (Operand × ℕ) Refusal} t (Ok (f (operand_number (suc n) mem at), at + suc n)) (Err PastEnd) ≡ Ok (o, next) → next ≡ at + suc n
+      go true q = let d : ◌≡◌ {A = Operand × ℕ} (f (operand_number (suc n) mem at), at + suc n) (o, next) = cc in sym (ap (λ (p : Operand × ℕ). p.1) d)
       go false q = no_operand q
 
-  form-agrees : (form : Form) (post at : ℕ) (o : Operand) (next : ℕ) → with_form form mem post at ≡ Read o next → Same mem other at next → with_form form other post at ≡ Read o next
+  form-agrees : (form : Form) (post at : ℕ) (o : Operand) (next : ℕ) → with_form form mem post at ≡ Ok (o, next) → Same mem other at next → with_form form other post at ≡ Ok (o, next)
   unfolding with_form
   form-agrees form post at o next e h =
       let d = ends (offset_bytes form) at _ o next e in
       reading-agrees (offset_bytes form) at next _ (omega arith) h ∙ e
 
-  post-byte-agrees : (p : PostByte) (post at : ℕ) (o : Operand) (next : ℕ) → after_post_byte p mem post at ≡ Read o next → Same mem other at next → after_post_byte p other post at ≡ Read o next
-  post-byte-agrees (Formed form) post at o next e h = form-agrees form post at o next e h
-  post-byte-agrees (NoForm x) post at o next e h = e
+  post-byte-agrees : (p : Result Form Refusal) (post at : ℕ) (o : Operand) (next : ℕ) → after_post_byte p mem post at ≡ Ok (o, next) → Same mem other at next → after_post_byte p other post at ≡ Ok (o, next)
+  post-byte-agrees (Ok form) post at o next e h = form-agrees form post at o next e h
+  post-byte-agrees (Err x) post at o next e h = e
 
   -- an indexed operand: the post-byte, then what it asks for
-  indexed-agrees : (at : ℕ) (o : Operand) (next : ℕ) → at + 1 ≤ next → operand_at Indexed mem at ≡ Read o next → Same mem other at next → operand_at Indexed other at ≡ Read o next
+  indexed-agrees : (at : ℕ) (o : Operand) (next : ℕ) → at + 1 ≤ next → operand_at Indexed mem at ≡ Ok (o, next) → Same mem other at next → operand_at Indexed other at ≡ Ok (o, next)
   unfolding operand_at
   indexed-agrees at o next l e h = rw (h at (omega arith) (omega arith)) (go (leb (at + 1) 0x10000) e)
     where
       go : (t : Bool)
-          → cond t (after_post_byte (form_of (byte_at mem at)) mem (byte_at mem at) (at + 1)) (NotRead PastEnd) ≡ Read o next
-          → cond t (after_post_byte (form_of (byte_at mem at)) other (byte_at mem at) (at + 1)) (NotRead PastEnd) ≡ Read o next
+          → cond t (after_post_byte (form_of (byte_at mem at)) mem (byte_at mem at) (at + 1)) (Err PastEnd) ≡ Ok (o, next)
+          → cond t (after_post_byte (form_of (byte_at mem at)) other (byte_at mem at) (at + 1)) (Err PastEnd) ≡ Ok (o, next)
       go true q = post-byte-agrees (form_of (byte_at mem at)) (byte_at mem at) (at + 1) o next q (λ a p. h a (omega arith))
       go false q = q
 
-  operand_agrees : (mode : Mode) (at : ℕ) (o : Operand) (next : ℕ) → operand_at mode mem at ≡ Read o next → Same mem other at next → operand_at mode other at ≡ Read o next
+  operand_agrees : (mode : Mode) (at : ℕ) (o : Operand) (next : ℕ) → operand_at mode mem at ≡ Ok (o, next) → Same mem other at next → operand_at mode other at ≡ Ok (o, next)
   unfolding operand_at
   operand_agrees mode at o next e h = go mode (subst (SoundRead mem at (operand_bytes mode)) e (operand_sound mem mode at)).length e
     where
-      go : (mode : Mode) → next ≡ at + operand_bytes mode + offset_bytes_of o → operand_at mode mem at ≡ Read o next → operand_at mode other at ≡ Read o next
+      go : (mode : Mode) → next ≡ at + operand_bytes mode + offset_bytes_of o → operand_at mode mem at ≡ Ok (o, next) → operand_at mode other at ≡ Ok (o, next)
       go Inherent d q = q
       go Immediate8 d q = reading-agrees 1 at next (operand_of Immediate8 mem at) (omega arith) h ∙ q
       go Immediate16 d q = reading-agrees 2 at next (operand_of Immediate16 mem at) (omega arith) h ∙ q
@@ -104,44 +99,44 @@ module _ (mem other : List ℕ) where
 
   module _ (i : Instruction) where
     -- its operand ends at the next address, and agreement up to there is enough
-    record Decodes (p : Place) (at : ℕ) : Type 0 where
+    record Decodes (p : Option Entry) (at : ℕ) : Type 0 where
       starts : at ≤ i.next
-      agrees : Same mem other at i.next → decoded_as p other at ≡ Taken i
+      agrees : Same mem other at i.next → decoded_as p other at ≡ Ok i
 
-    of-operand : (e : Entry) (at : ℕ) (r : OperandRead) → operand_at e.mode mem at ≡ r → with_operand e r ≡ Taken i → Decodes (InManual e) at
+    of-operand : (e : Entry) (at : ℕ) (r : Result (Operand × ℕ) Refusal) → operand_at e.mode mem at ≡ r → with_operand e r ≡ Ok i → Decodes (Some e) at
     unfolding decoded_as
-    of-operand e at (Read o next) q t =
+    of-operand e at (Ok (o, next)) q t =
         let d : record { entry = e; operand = o; next = next } ≡ i = cc in
         let n : next ≡ i.next = ap (λ (j : Instruction). j.next) d in
         let k = (subst (SoundRead mem at (operand_bytes e.mode)) q (operand_sound mem e.mode at)).length in
         record { starts = omega arith; agrees = λ h. ap (with_operand e) (operand_agrees e.mode at o next q (λ a p g. h a p (omega arith))) ∙ t }
-    of-operand e at (NotRead x) q t = let z : ◌≡◌ {A = ℕ} 0 1 = cc in absurd (omega arith)
+    of-operand e at (Err x) q t = let z : ◌≡◌ {A = ℕ} 0 1 = cc in absurd (omega arith)
 
-    of-place : (p : Place) (at : ℕ) → decoded_as p mem at ≡ Taken i → Decodes p at
+    of-place : (p : Option Entry) (at : ℕ) → decoded_as p mem at ≡ Ok i → Decodes p at
     unfolding decoded_as
-    of-place (InManual e) at t = of-operand e at (operand_at e.mode mem at) refl t
+    of-place (Some e) at t = of-operand e at (operand_at e.mode mem at) refl t
     of-place None at t = let z : ◌≡◌ {A = ℕ} 0 1 = cc in absurd (omega arith)
 
     -- by the first byte: a prefix, with the opcode after it, or the opcode itself
     module _ (pc : ℕ) where
-      second : (page : Page) → from_located (second_byte page mem pc) mem ≡ Taken i → (pc < i.next) × (Same mem other pc i.next → from_located (second_byte page other pc) other ≡ Taken i)
+      second : (page : Page) → from_located (second_byte page mem pc) mem ≡ Ok i → (pc < i.next) × (Same mem other pc i.next → from_located (second_byte page other pc) other ≡ Ok i)
       second page t = go (dec_lt pc 0xFFFF) t
         where
-          go : Dec (pc < 0xFFFF) → from_located (second_byte page mem pc) mem ≡ Taken i → (pc < i.next) × (Same mem other pc i.next → from_located (second_byte page other pc) other ≡ Taken i)
+          go : Dec (pc < 0xFFFF) → from_located (second_byte page mem pc) mem ≡ Ok i → (pc < i.next) × (Same mem other pc i.next → from_located (second_byte page other pc) other ≡ Ok i)
           go (yes l) q =
               let d = of-place (entry_of page (byte_at mem (low_at pc))) (pc + 2) (rw (lt-ltb pc 0xFFFF l) at q) in
               let n = d.starts in
               let low : (pc + 1) % 65536 ≡ pc + 1 = omega arith in
               (omega arith, λ h. rw (lt-ltb pc 0xFFFF l, h (low_at pc) (omega arith) (omega arith)) (d.agrees (λ a p g. h a (omega arith) g)))
           go (no n) q =
-              let k : NotDecoded PastEnd ≡ Taken i = rw (le-ltb pc 0xFFFF (omega arith)) at q in
+              let k : Err PastEnd ≡ Ok i = rw (le-ltb pc 0xFFFF (omega arith)) at q in
               let z : ◌≡◌ {A = ℕ} 0 1 = cc in absurd (omega arith)
 
-      pub decode-agrees : decoded_at mem pc ≡ Taken i → (pc < i.next) × (Same mem other pc i.next → decoded_at other pc ≡ Taken i)
+      pub decode-agrees : decoded_at mem pc ≡ Ok i → (pc < i.next) × (Same mem other pc i.next → decoded_at other pc ≡ Ok i)
       unfolding decoded_at located
       decode-agrees e = go (eqb (byte_at mem pc) 0x10) refl (eqb (byte_at mem pc) 0x11) refl
         where
-          go : (t : Bool) → eqb (byte_at mem pc) 0x10 ≡ t → (u : Bool) → eqb (byte_at mem pc) 0x11 ≡ u → (pc < i.next) × (Same mem other pc i.next → decoded_at other pc ≡ Taken i)
+          go : (t : Bool) → eqb (byte_at mem pc) 0x10 ≡ t → (u : Bool) → eqb (byte_at mem pc) 0x11 ≡ u → (pc < i.next) × (Same mem other pc i.next → decoded_at other pc ≡ Ok i)
           go true p u q =
               let d = second Ten (rw p at e) in
               (d.0, λ h. rw (h pc (omega arith) d.0, p) (d.1 h))

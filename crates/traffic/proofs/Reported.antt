@@ -1,13 +1,12 @@
 -- What a call reports is what it counts.
 -- Assumes nothing.
+use Rattle.std.specs.Prelude.{Err, Ok, Result, ⊤}
 use Prim.Native.Nat.{ℕ}
 use mathlib.Core.Bool.{Bool, true, false, cond}
 use mathlib.Core.List.{List, []}
 use mathlib.Core.Path.{◌≡◌, refl}
 use lib.Dec.{eqb}
 use lib.ListN.{length}
-use Rattle.answers.specs.declared.Answer.{Answer}
-use Rattle.answers.specs.declared.Answer.TheVariants.{Done, Refused}
 use Rattle.answers.specs.declared.Refusal.TheVariants.{MemoryLength, Fenced}
 use Rattle.memory.specs.Map.{byte_at, word_at}
 use Rattle.memory.specs.Writes.{listed}
@@ -30,19 +29,20 @@ use Rattle.calls.specs.Calls.{Call, step, interrupt, reset, plan_of}
 use Rattle.calls.specs.declared.Plan.{Plan}
 use Rattle.traffic.specs.Counts.{reached_reads, if_accepted, reads_of, read_count}
 use Rattle.traffic.specs.Laws.{CountsReported}
+use Rattle.answers.specs.declared.Refusal.{Refusal}
 
 -- a plan counts these reads, if it is accepted
 abbrev Counts : Plan → List ℕ → Type 0
 Counts p reads = p.reads ≡ length (if_accepted p.answer reads)
 
 module _ (m : Machine) where
-  as-finished : (a : Answer) (cycles : ℕ) (mark : Bool) (reads : List ℕ) (e : Effect) → Counts (finished_as a m cycles mark (length reads) e) reads
-  as-finished Done cycles mark reads e = refl
-  as-finished (Refused x) cycles mark reads e = refl
+  as-finished : (a : Result ⊤ Refusal) (cycles : ℕ) (mark : Bool) (reads : List ℕ) (e : Effect) → Counts (finished_as a m cycles mark (length reads) e) reads
+  as-finished (Ok u) cycles mark reads e = refl
+  as-finished (Err x) cycles mark reads e = refl
 
-  as-taken : (reads : List ℕ) (e : Effect) (a : Answer) → Counts (of_effect m (length reads) e a) reads
-  as-taken reads e Done = refl
-  as-taken reads e (Refused x) = refl
+  as-taken : (reads : List ℕ) (e : Effect) (a : Result ⊤ Refusal) → Counts (of_effect m (length reads) e a) reads
+  as-taken reads e (Ok u) = refl
+  as-taken reads e (Err x) = refl
 
   module _ (mem : List ℕ) where
     as-planned : (s : Settings) (a : Reached) → Counts (planned mem m s a) (reached_reads mem s m.regs a)

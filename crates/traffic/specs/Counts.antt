@@ -1,9 +1,7 @@
 -- How many bytes a call reads and writes (document 02, [11]). A refused call counts neither: what it looked at to find its refusal is not
 -- counted, and it writes nothing. The journal's bytes, and the old bytes that a record keeps, are no traffic of the machine's bus.
 -- Assumes nothing.
-use Rattle.std.specs.Prelude.{ℕ, cond, List, [], length}
-use Rattle.answers.specs.declared.Answer.{Answer}
-use Rattle.answers.specs.declared.Answer.TheVariants.{Done, Refused}
+use Rattle.std.specs.Prelude.{ℕ, cond, List, [], length, Err, Ok, Result, ⊤}
 use Rattle.registers.specs.declared.Set.{Set}
 use Rattle.memory.specs.Writes.{listed}
 use Rattle.machine.specs.declared.Machine.{Machine}
@@ -14,6 +12,7 @@ use Rattle.calls.specs.Interrupts.{vector_of, is_held_off, taken_reads}
 use Rattle.calls.specs.Resets.{reset_reads}
 use Rattle.calls.specs.Calls.{Call, step, interrupt, reset, plan_of}
 use Rattle.bus.specs.Reads.{instruction_reads}
+use Rattle.answers.specs.declared.Refusal.{Refusal}
 
 -- a step: the instruction that was reached; r are the registers before it
 abbrev pub reached_reads : List ℕ → Settings → Set → Reached → List ℕ
@@ -26,9 +25,9 @@ reads_by (step t) mem m = reached_reads mem t m.regs (reached mem m)
 reads_by (interrupt t i) mem m = cond (is_held_off i m) [] (taken_reads m.wait mem t m.regs (vector_of i))
 reads_by (reset t) mem m = reset_reads
 
-abbrev pub if_accepted : Answer → List ℕ → List ℕ
-if_accepted Done reads = reads
-if_accepted (Refused x) reads = []
+abbrev pub if_accepted : Result ⊤ Refusal → List ℕ → List ℕ
+if_accepted (Ok u) reads = reads
+if_accepted (Err x) reads = []
 
 -- the addresses that a call reads
 unfoldable pub reads_of : Call → List ℕ → Machine → List ℕ

@@ -1,7 +1,6 @@
 -- Laws of the two counts: what the bytes at the counted addresses decide, and the ceilings.
 -- Assumes nothing.
-use Rattle.std.specs.Prelude.{ℕ, ◌+◌, ◌≤◌, ◌<◌, List, [], ◌∷◌, ◌≡◌, length}
-use Rattle.answers.specs.declared.Answer.TheVariants.{Done, Refused}
+use Rattle.std.specs.Prelude.{ℕ, ◌+◌, ◌≤◌, ◌<◌, List, [], ◌∷◌, ◌≡◌, length, Err, Ok}
 use Rattle.answers.specs.declared.Refusal.{Refusal}
 use Rattle.memory.specs.Fits.{Bytes}
 use Rattle.memory.specs.Map.{byte_at}
@@ -40,7 +39,7 @@ pub record SameCall (c : Call) (mem other : List ℕ) (m : Machine) : Type 0 whe
 abbrev pub CountsMeanAccesses : Type 0
 CountsMeanAccesses =
     (c : Call) (mem other : List ℕ) (m : Machine)
-    → Bytes mem → m.regs.pc < 65536 → length other ≡ 65536 → (plan_of c mem m).answer ≡ Done
+    → Bytes mem → m.regs.pc < 65536 → length other ≡ 65536 → (plan_of c mem m).answer ≡ (Ok tt)
     → AgreeAt mem other (reads_of c mem m) → SameCall c mem other m
 
 -- a step's counts are those of the instruction that it reaches, for any memory of 65,536 bytes and a machine that runs
@@ -70,4 +69,4 @@ InterruptsBounded =
 abbrev pub RefusedCounts : Type 0
 RefusedCounts =
     (c : Call) (mem : List ℕ) (m : Machine) (x : Refusal)
-    → (plan_of c mem m).answer ≡ Refused x → (read_count c mem m ≡ 0) × (write_count c mem m ≡ 0)
+    → (plan_of c mem m).answer ≡ Err x → (read_count c mem m ≡ 0) × (write_count c mem m ≡ 0)

@@ -24,11 +24,3 @@ record-step κs a x y ws vs p q =
 pub call : Determines 2 proofs.recorded.call.Kinds.ps proofs.recorded.call.Kinds.r proofs.recorded.call.Reads.Post
 call κs a x y ws vs p q =
     (p.0.result ∙ sym q.0.result, λ i. ((p.0.memory-is ∙ sym q.0.memory-is) i, ((p.0.journal-is ∙ sym q.0.journal-is) i, (tt, (tt, (tt, tt))))))
-
-pub step-on : Determines 2 proofs.engines.step_on.Kinds.ps proofs.engines.step_on.Kinds.r proofs.engines.step_on.Reads.Post
-step-on κs a x y ws vs p q =
-    (p.0.result ∙ sym q.0.result, λ i. ((p.0.memory-is ∙ sym q.0.memory-is) i, ((p.0.journal-is ∙ sym q.0.journal-is) i, (tt, (tt, (tt, tt))))))
-
-pub call-on : Determines 2 proofs.engines.call_on.Kinds.ps proofs.engines.call_on.Kinds.r proofs.engines.call_on.Reads.Post
-call-on κs a x y ws vs p q =
-    (p.0.result ∙ sym q.0.result, λ i. ((p.0.memory-is ∙ sym q.0.memory-is) i, ((p.0.journal-is ∙ sym q.0.journal-is) i, (tt, (tt, (tt, (tt, tt)))))))

@@ -10,7 +10,8 @@ use machine::Settings;
 use opcodes::{MemoryOp, Op};
 use registers::Set;
 
-// Of the operand, an immediate one too, which is not read a second time.
+// Of the operand, an immediate one too, which is not read a second time. It is no `From`: an operation takes bytes, and is no number of
+// them.
 fn taken(op: Op) -> u8
     ensures { result ≡ operand_taken op }
 {
@@ -44,12 +45,9 @@ pub fn count_reads(mem: &[u8], instruction: Instruction, was: Set, regs: Set, ea
     requires { (was.pc ≤ instruction.next) × (instruction.next ≤ was.pc + 5) }
     ensures { (s : Settings) → result ≡ length (instruction_reads instruction mem.now s was regs ea) }
 {
-    let entry = instruction.entry;
-    let operand = instruction.operand;
-    let op = entry.op;
-    let mode = entry.mode;
+    let op = instruction.entry.op;
     let own = (instruction.next - was.pc as u32) as u8;
-    let pointer = bus::pointer_count(operand);
-    let read = bus::operand_count(mode, taken(op));
+    let pointer = bus::pointer_count(instruction.operand);
+    let read = bus::operand_count(instruction.entry.mode, taken(op));
     own + (pointer + (read + fetched(op, mem, regs, ea)))
 }

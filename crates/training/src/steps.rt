@@ -1,18 +1,16 @@
 // One step of the second engine. What it will do is found first, as a plan, and then done: a refusal has nothing to take back.
-ghost use Rattle.std.specs.Prelude.{◌≡◌, ◌+◌, ◌≤◌};
+ghost use Rattle.std.specs.Prelude.{◌≡◌, ◌+◌, ◌≤◌, Ok};
 ghost use Rattle.memory.specs.Map.{byte_at};
 ghost use Rattle.evaluate.specs.Arming.{arms};
-ghost use Rattle.decode.specs.declared.instruction.Decoded.TheVariants.{Instruction as Decodes};
 ghost use Rattle.calls.specs.Steps.{of_decoded, decoded_to, operated, planned, step_plan, step_of, memory_after_step};
 
 use super::costs::operation_extra;
 use super::counts::count_reads;
 use super::decoding::decode;
-use addressing::Resolved;
 use answers::Refusal;
 use calls::{Plan, Report, carry_out, fence, finish, refused};
 use cycles::{cost, operand_extra};
-use decode::{Decoded, Instruction};
+use decode::Instruction;
 use machine::{Machine, Settings, Wait};
 use opcodes::Op;
 use registers::Set;
@@ -27,8 +25,8 @@ fn arms(op: Op, mem: &[u8], ea: u16) -> bool
     }
 }
 
-// The operation: what it costs, whether it lets NMI in, how many bytes are read, what it does. `regs` have PC at the next instruction, `ea` is
-// the effective address.
+// The operation: what it costs, whether it lets NMI in, how many bytes are read, what it does. `regs` have PC at the next instruction, `ea`
+// is the effective address. How far an instruction's end may lie from PC joins two values, so that no type of one of them can hold it.
 fn operate(
     mem: &[u8],
     machine: Machine,
@@ -41,29 +39,23 @@ fn operate(
     ensures { result ≡ operated mem.now machine settings instruction regs ea }
 {
     let entry = instruction.entry;
-    let operand = instruction.operand;
     let op = entry.op;
-    let mode = entry.mode;
-    let extra = operation_extra(op, mode, mem, regs, ea);
-    let cycles = cost(entry.cycles, operand_extra(operand), extra);
+    let extra = operation_extra(op, entry.mode, mem, regs, ea);
+    let cycles = cost(entry.cycles, operand_extra(instruction.operand), extra);
     let armed = arms(op, mem, ea);
     let reads = count_reads(mem, instruction, machine.regs, regs, ea);
     let effect = effects::evaluate(op, settings, mem, regs, ea);
     finish(machine, cycles, armed, reads, effect)
 }
 
-// The effective address, and then the operation.
+// The effective address, and then the operation. A plan is no Result (crate calls), so that an arm hands a refusal on here and below.
 fn execute(mem: &[u8], machine: Machine, settings: Settings, instruction: Instruction) -> Plan
     requires { (machine.regs.pc ≤ instruction.next) × (instruction.next ≤ machine.regs.pc + 5) }
-    ensures { result ≡ planned mem.now machine settings (of_decoded mem.now machine.regs (Decodes instruction)) }
+    ensures { result ≡ planned mem.now machine settings (of_decoded mem.now machine.regs (Ok instruction)) }
 {
-    let operand = instruction.operand;
-    match addressing::resolve(mem, machine.regs, operand, instruction.next) {
-        Resolved::Refused(refusal) => refused(machine, refusal),
-        Resolved::At(found) => {
-            let regs = found.regs;
-            operate(mem, machine, settings, instruction, regs, found.ea)
-        }
+    match addressing::resolve(mem, machine.regs, instruction.operand, instruction.next) {
+        Err(refusal) => refused(machine, refusal),
+        Ok(found) => operate(mem, machine, settings, instruction, found.regs, found.ea),
     }
 }
 
@@ -71,10 +63,9 @@ fn execute(mem: &[u8], machine: Machine, settings: Settings, instruction: Instru
 fn plan_running(mem: &[u8], machine: Machine, settings: Settings) -> Plan
     ensures { result ≡ planned mem.now machine settings (decoded_to mem.now machine.regs) }
 {
-    let regs = machine.regs;
-    match decode(mem, regs.pc) {
-        Decoded::Refused(refusal) => refused(machine, refusal),
-        Decoded::Instruction(instruction) => execute(mem, machine, settings, instruction),
+    match decode(mem, machine.regs.pc) {
+        Err(refusal) => refused(machine, refusal),
+        Ok(instruction) => execute(mem, machine, settings, instruction),
     }
 }
 
@@ -85,11 +76,9 @@ pub fn plan_step(mem: &[u8], machine: Machine, settings: Settings) -> Plan
     if mem.len() != 65536 {
         return refused(machine, Refusal::MemoryLength);
     }
-    let wait = machine.wait;
-    match wait {
+    match machine.wait {
         Wait::Running => fence(settings, machine, plan_running(mem, machine, settings)),
-        Wait::Cwai => refused(machine, Refusal::Waiting),
-        Wait::Sync => refused(machine, Refusal::Waiting),
+        Wait::Cwai | Wait::Sync => refused(machine, Refusal::Waiting),
     }
 }
 

@@ -1,8 +1,7 @@
 -- A number read as signed: from h on it is less by 2h, sign extension keeps it, and it is what 16 bits hold in two's complement.
 -- Assumes nothing.
-use Rattle.std.proofs.Common.{◌≡◌, ℕ, zero, suc, ◌+◌, ◌-◌, ◌<◌, ◌≤◌, Bool, true, false, cond, ltb, ℤ, pos, negsuc, ◌-ℤ◌, sym, refl, ap, ◌∙◌, arith, to_z-of_z, w16, SFits, to_z, of_z, ltb-false, ltb-true, le-ltb, lt-ltb}
+use Rattle.std.proofs.Common.{◌≡◌, ℕ, zero, suc, ◌+◌, ◌-◌, ◌<◌, ◌≤◌, Bool, true, false, cond, ltb, pos, negsuc, ◌-ℤ◌, sym, refl, ap, ◌∙◌, arith, w16, to_z, ltb-false, ltb-true, le-ltb, lt-ltb}
 use mir.Val.{sel}
-use mir.Facts.{to_z_pos}
 use Rattle.u8oru16.specs.Signed.{signed}
 use Rattle.u8oru16.specs.Value.{value_of, signed_of}
 use Rattle.u8oru16.specs.Negated.{sign_extended}
@@ -27,19 +26,6 @@ to-signed n l = go (ltb n 32768) refl
     go : (t : Bool) → ltb n 32768 ≡ t → sel t (pos n) (negsuc (65536 - suc n)) ≡ signed 0x8000 n
     go true e = sym (signed_low 0x8000 n (ltb-true n 32768 e))
     go false e = sym (signed_high 0x8000 n (ltb-false n 32768 e) l)
-
--- -1 less the distance from FFFF
-pub from-top : (n : ℕ) → 0x8000 ≤ n → n < 65536 → negsuc 0 -ℤ to_z w16 (65535 - n) ≡ to_z w16 n
-from-top n l u =
-    ap (λ (z : ℤ). negsuc 0 -ℤ z) (to_z_pos w16 {n = 65535 - n} (omega arith))
-    ∙ less (65535 - n)
-    ∙ ap negsuc (omega arith)
-    ∙ sym (signed_high 0x8000 n l u)
-    ∙ sym (to-signed n u)
-  where
-    less : (k : ℕ) → negsuc 0 -ℤ pos k ≡ negsuc k
-    less zero = refl
-    less (suc k) = ap negsuc (omega arith)
 
 -- a byte and its extension to a word are one signed number
 extended-byte : (b : ℕ) → signed 0x8000 (cond (ltb b 0x80) b (0xFF00 + b)) ≡ signed 0x80 b

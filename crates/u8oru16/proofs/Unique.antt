@@ -2,15 +2,7 @@
 -- Assumes nothing.
 use Rattle.std.proofs.Common.{ℕ, List, sym, refl, ap, ◌∙◌}
 use Rattle.answers.proofs.Determined.{Determines}
-use Rattle.u8oru16.proofs.Valued
-use Rattle.u8oru16.proofs.Written
 use Rattle.u8oru16.proofs.u8u16
-
-pub valued_number : Determines 0 Valued.number.Kinds.ps Valued.number.Kinds.r Valued.number.Reads.Post
-valued_number κs a x y ws vs p q = (p ∙ sym q, refl)
-
-pub written-number : Determines 0 Written.number.Kinds.ps Written.number.Kinds.r Written.number.Reads.Post
-written-number κs a x y ws vs p q = (p ∙ sym q, refl)
 
 pub new : Determines 0 u8u16.new.Kinds.ps u8u16.new.Kinds.r u8u16.new.Reads.Post
 new κs a x y ws vs p q = (p ∙ sym q, refl)

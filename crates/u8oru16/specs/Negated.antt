@@ -1,6 +1,6 @@
 -- Negation and sign extension.
 -- Assumes nothing.
-use Rattle.std.specs.Prelude.{ℕ, ◌+◌, ◌-◌, ◌%◌, Bool, true, false, cond, nat_lt}
+use Rattle.std.specs.Prelude.{◌+◌, ◌-◌, ◌%◌, Bool, true, false, cond, nat_lt}
 use Rattle.u8oru16.specs.declared.u8u16.{u8u16}
 use Rattle.u8oru16.specs.declared.u8u16.TheVariants.{u8, u16}
 use Rattle.u8oru16.specs.declared.Negated.{Negated}

@@ -1,11 +1,9 @@
 -- A value of one or two bytes: its size, its number read unsigned and signed, its bytes.
 -- Assumes nothing.
-use Rattle.std.specs.Prelude.{ℕ, ◌+◌, ◌*◌, ◌/◌, ◌%◌, Bool, true, false, cond, List, [], ◌∷◌, ℤ, nat_lt}
+use Rattle.std.specs.Prelude.{ℕ, ◌+◌, ◌*◌, ◌/◌, ◌%◌, Bool, true, false, cond, List, [], ◌∷◌, ℤ, nat_lt, None, Option, Some}
 use Rattle.u8oru16.specs.Signed.{signed}
 use Rattle.u8oru16.specs.declared.u8u16.{u8u16}
 use Rattle.u8oru16.specs.declared.u8u16.TheVariants.{u8, u16}
-use Rattle.u8oru16.specs.declared.OptionU8.{OptionU8}
-use Rattle.u8oru16.specs.declared.OptionU8.TheVariants.{None, Some}
 
 -- its size in bytes
 abbrev pub size_of : u8u16 → ℕ
@@ -31,7 +29,7 @@ abbrev pub low_byte : u8u16 → ℕ
 low_byte (u8 b) = b
 low_byte (u16 w) = w % 256
 
-abbrev pub high_byte : u8u16 → OptionU8
+abbrev pub high_byte : u8u16 → Option ℕ
 high_byte (u8 b) = None
 high_byte (u16 w) = Some (w / 256)
 
@@ -41,7 +39,7 @@ bytes_of (u8 b) = b ∷ []
 bytes_of (u16 w) = w / 256 ∷ w % 256 ∷ []
 
 -- of a low byte and, where there is one, a high byte
-abbrev pub joined : ℕ → OptionU8 → u8u16
+abbrev pub joined : ℕ → Option ℕ → u8u16
 joined lsb None = u8 lsb
 joined lsb (Some msb) = u16 (256 * msb + lsb)
 

@@ -4,72 +4,31 @@
 ghost use Rattle.std.specs.Prelude.{◌≡◌};
 ghost use Rattle.u8oru16.specs.Value.{size_of, value_of, is_byte, low_byte, high_byte, joined, shrunk, signed_of};
 ghost use Rattle.u8oru16.specs.Negated.{negated, negated_wide, forced, sign_extended};
-ghost use Rattle.u8oru16.specs.Answers.{number_of_valued, number_of_written, offset_by, divided, remainder, written_of, bytes_written};
+ghost use Rattle.u8oru16.specs.Answers.{offset_by, divided, remainder, written_of, bytes_written};
 
 use answers::Refusal;
 
-#[derive(Clone, Copy)]
+#[derive(Clone, Copy, PartialEq, Eq)]
 pub enum u8u16 {
     u8(u8),
     u16(u16),
 }
 
-// A byte that may be missing.
-#[derive(Clone, Copy)]
-pub enum OptionU8 {
-    None,
-    Some(u8),
-}
-
-// What `signed_offset`, `div` and `modulo` answer.
-#[derive(Clone, Copy)]
-pub enum Valued {
-    Value(u8u16),
-    Refused(Refusal),
-}
-
-// What `get_as_bytes` answers.
-#[derive(Clone, Copy)]
-pub enum Written {
-    Bytes(usize),
-    Refused(Refusal),
-}
-
 // A value, and whether it left the range of its sign.
-#[derive(Clone, Copy)]
+// No `Option`: the value is told in both cases.
+#[derive(Clone, Copy, PartialEq, Eq)]
 pub struct Negated {
     pub value: u8u16,
     pub overflow: bool,
 }
 
-impl Valued {
-    pub fn number(self) -> u8
-        ensures { result ≡ number_of_valued self }
-    {
-        match self {
-            Valued::Value(_) => 0,
-            Valued::Refused(refusal) => refusal.number(),
-        }
-    }
-}
-
-impl Written {
-    pub fn number(self) -> u8
-        ensures { result ≡ number_of_written self }
-    {
-        match self {
-            Written::Bytes(_) => 0,
-            Written::Refused(refusal) => refusal.number(),
-        }
-    }
-}
-
+// The functions keep the names of u8oru16.rs, and are no `From`: they are laid beside it (docs/DECISIONS.md, names).
 impl u8u16 {
-    pub fn new(lsb: u8, msb: OptionU8) -> Self
+    pub fn new(lsb: u8, msb: Option<u8>) -> Self
         ensures { result ≡ joined lsb msb }
     {
-        if let OptionU8::Some(hi) = msb {
-            u8u16::u16(((hi as u16) << 8) | (lsb as u16))
+        if let Some(hi) = msb {
+            u8u16::u16(u16::from_be_bytes([hi, lsb]))
         } else {
             u8u16::u8(lsb)
         }
@@ -97,10 +56,7 @@ impl u8u16 {
     pub fn is_u8(self) -> bool
         ensures { result ≡ is_byte self }
     {
-        match self {
-            u8u16::u8(_) => true,
-            u8u16::u16(_) => false,
-        }
+        matches!(self, u8u16::u8(_))
     }
 
     pub fn u16(self) -> u16
@@ -117,7 +73,7 @@ impl u8u16 {
     {
         match self {
             u8u16::u8(val) => val,
-            u8u16::u16(val) => (val % 256) as u8,
+            u8u16::u16(val) => val.to_be_bytes()[1],
         }
     }
 
@@ -127,32 +83,33 @@ impl u8u16 {
         self.u8()
     }
 
-    pub fn msb(self) -> OptionU8
+    pub fn msb(self) -> Option<u8>
         ensures { result ≡ high_byte self }
     {
         match self {
-            u8u16::u8(_) => OptionU8::None,
-            u8u16::u16(w) => OptionU8::Some((w / 256) as u8),
+            u8u16::u8(_) => None,
+            u8u16::u16(w) => Some(w.to_be_bytes()[0]),
         }
     }
 
     // The Rust writes a word's high byte before it finds no room for the low one: here the room is tested first.
-    pub fn get_as_bytes(self, buf: &mut [u8]) -> Written
+    pub fn get_as_bytes(self, buf: &mut [u8]) -> Result<usize, Refusal>
         ensures value { result ≡ written_of self buf.old }
         ensures buf_after { buf.new ≡ bytes_written self buf.old }
     {
         if buf.len() < self.size() as usize {
-            return Written::Refused(Refusal::NoRoom);
+            return Err(Refusal::NoRoom);
         }
         match self {
             u8u16::u8(b) => {
                 buf[0] = b;
-                Written::Bytes(1)
+                Ok(1)
             }
             u8u16::u16(w) => {
-                buf[0] = (w / 256) as u8;
-                buf[1] = (w % 256) as u8;
-                Written::Bytes(2)
+                let [high, low] = w.to_be_bytes();
+                buf[0] = high;
+                buf[1] = low;
+                Ok(2)
             }
         }
     }
@@ -160,20 +117,15 @@ impl u8u16 {
     pub fn i16(self) -> i16
         ensures { result ≡ signed_of self }
     {
-        let w = self.sign_extended().u16();
-        if w < 0x8000 {
-            w as i16
-        } else {
-            -1 - (0xFFFF - w) as i16
-        }
+        self.sign_extended().u16().cast_signed()
     }
 
     pub fn twos_complement(self) -> Self
         ensures { result ≡ negated self }
     {
         match self {
-            u8u16::u8(b) => u8u16::u8(std::num::wrapping_add_u8(!b, 1)),
-            u8u16::u16(w) => u8u16::u16(std::num::wrapping_add_u16(!w, 1)),
+            u8u16::u8(b) => u8u16::u8(b.wrapping_neg()),
+            u8u16::u16(w) => u8u16::u16(w.wrapping_neg()),
         }
     }
 
@@ -223,46 +175,41 @@ impl u8u16 {
             u8u16::u16(_) => self,
             u8u16::u8(b) => {
                 let hi = if b < 0x80 { 0 } else { 0xFF };
-                u8u16::new(b, OptionU8::Some(hi))
+                u8u16::new(b, Some(hi))
             }
         }
     }
 
-    pub fn signed_offset(self, rhs: Self) -> Valued
+    pub fn signed_offset(self, rhs: Self) -> Result<u8u16, Refusal>
         ensures { result ≡ offset_by self rhs }
     {
         match self {
-            u8u16::u8(_) => Valued::Refused(Refusal::LeftByte),
+            u8u16::u8(_) => Err(Refusal::LeftByte),
             u8u16::u16(w) => {
                 let off = rhs.sign_extended().u16();
-                Valued::Value(u8u16::u16(std::num::wrapping_add_u16(w, off)))
+                Ok(u8u16::u16(w.wrapping_add(off)))
             }
         }
     }
 
-    pub fn div(self, rhs: Self) -> Valued
+    pub fn div(self, rhs: Self) -> Result<u8u16, Refusal>
         ensures { result ≡ divided self rhs }
     {
-        if rhs.u16() == 0 {
-            return Valued::Refused(Refusal::DivisionByZero);
-        }
-        if self.is_u8() & rhs.is_u8() {
-            Valued::Value(u8u16::u8(self.u8() / rhs.u8()))
-        } else {
-            Valued::Value(u8u16::u16(self.u16() / rhs.u16()))
-        }
+        let parted = match (self, rhs) {
+            (u8u16::u8(a), u8u16::u8(b)) => a.checked_div(b).map(u8u16::u8),
+            _ => self.u16().checked_div(rhs.u16()).map(u8u16::u16),
+        };
+        parted.ok_or(Refusal::DivisionByZero)
     }
 
-    pub fn modulo(self, rhs: Self) -> Valued
+    // Beside `div`: one for both would take a closure for bytes and one for words, and be no plainer.
+    pub fn modulo(self, rhs: Self) -> Result<u8u16, Refusal>
         ensures { result ≡ remainder self rhs }
     {
-        if rhs.u16() == 0 {
-            return Valued::Refused(Refusal::DivisionByZero);
-        }
-        if self.is_u8() & rhs.is_u8() {
-            Valued::Value(u8u16::u8(self.u8() % rhs.u8()))
-        } else {
-            Valued::Value(u8u16::u16(self.u16() % rhs.u16()))
-        }
+        let parted = match (self, rhs) {
+            (u8u16::u8(a), u8u16::u8(b)) => a.checked_rem(b).map(u8u16::u8),
+            _ => self.u16().checked_rem(rhs.u16()).map(u8u16::u16),
+        };
+        parted.ok_or(Refusal::DivisionByZero)
     }
 }

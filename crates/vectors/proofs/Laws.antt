@@ -1,5 +1,6 @@
 -- 8, 28 and 9 are given exactly where they should be, and no vector wraps.
 -- Assumes nothing.
+use Rattle.std.specs.Prelude.{Err, Ok, Result, ⊤}
 use Prim.Native.Nat.{ℕ}
 use mathlib.Core.Bool.{Bool, true, false, cond}
 use mathlib.Core.List.{List, []}
@@ -8,8 +9,6 @@ use native.Mathlib.Omega.{arith}
 use lib.Dec.{eqb, ltb}
 use Rattle.answers.specs.Numbers.{number_of_answer}
 use Rattle.answers.proofs.Numbers.{refused-by-a-number}
-use Rattle.answers.specs.declared.Answer.{Answer}
-use Rattle.answers.specs.declared.Answer.TheVariants.{Done, Refused}
 use Rattle.answers.specs.declared.Refusal.TheVariants.{Fenced, ZeroAtVector}
 use Rattle.registers.specs.declared.Set.{Set}
 use Rattle.memory.specs.Map.{byte_at, word_at}
@@ -30,6 +29,7 @@ use Rattle.vectors.specs.Table.{address_of, masks_of, is_entire}
 use Rattle.vectors.specs.Waits.{waiting}
 use Rattle.vectors.specs.declared.table.Vector.{Vector}
 use Rattle.vectors.specs.declared.table.Vector.TheVariants.{Swi3, Swi2, Firq, Irq, Swi, Nmi, Reset}
+use Rattle.answers.specs.declared.Refusal.{Refusal}
 
 pub no-vector-wraps : NoVectorWraps
 unfolding word_at
@@ -48,11 +48,11 @@ zero r q ws false true = refl
 zero r q ws false false = refl
 
 -- the frame's number, or what follows
-once : (r : Set) (a : Answer) (e : Effect) (b : Bool) (n : ℕ) → number_of_answer a ≡ cond b 8 0 → number_of_answer e.answer ≡ n → number_of_answer (once_pushed r a e).answer ≡ cond b 8 n
-once r Done e true n h k = absurd (omega arith)
-once r Done e false n h k = k
-once r (Refused x) e true n h k = h
-once r (Refused x) e false n h k = absurd (omega (arith, refused-by-a-number x))
+once : (r : Set) (a : Result ⊤ Refusal) (e : Effect) (b : Bool) (n : ℕ) → number_of_answer a ≡ cond b 8 0 → number_of_answer e.answer ≡ n → number_of_answer (once_pushed r a e).answer ≡ cond b 8 n
+once r (Ok u) e true n h k = absurd (omega arith)
+once r (Ok u) e false n h k = k
+once r (Err x) e true n h k = h
+once r (Err x) e false n h k = absurd (omega (arith, refused-by-a-number x))
 
 running : (mem : List ℕ) (s : Settings) (r : Set) (v : Vector)
     → number_of_answer (served mem s r v).answer ≡ cond (ltb r.s (cond (is_entire v) 12 3)) 8 (cond (bars s (listed (framed r (is_entire v)).writes)) 28 (zero_number (stored s.ram_top (listed (framed r (is_entire v)).writes) mem) v))

@@ -1,5 +1,6 @@
 -- The frame may overwrite the vector: the vector is read after stacking.
 -- Assumes nothing.
+use Rattle.std.specs.Prelude.{Ok}
 use Prim.Native.Nat.{ℕ, ◌+◌, ◌*◌, ◌/◌, ◌%◌}
 use mathlib.Core.Path.{◌≡◌, refl}
 use mathlib.Core.Bool.{Bool, true, false, ◌&&◌}
@@ -9,7 +10,6 @@ use borrow.Author.Tests.{ne_eqb}
 use lib.ListN.{length}
 use Rattle.registers.specs.ConditionCodes.{bit_at}
 use Rattle.registers.specs.declared.Set.{Set}
-use Rattle.answers.specs.declared.Answer.TheVariants.{Done}
 use Rattle.memory.specs.Map.{place_of, byte_at, word_at, landing_of}
 use Rattle.memory.specs.Writes.{twelve, listed, stored}
 use Rattle.memory.specs.declared.writes.Write.{Write}
@@ -43,7 +43,7 @@ vector top r mem l =
     let e : 256 * (r.pc / 256) + r.pc % 256 ≡ r.pc = omega arith in
     rw (read-stored top (frame r) mem 0xFFF8, read-stored top (frame r) mem 0xFFF9, l, high top r (byte_at mem 0xFFF8), low top r (byte_at mem 0xFFF9), e)
 
-stacked : (r : Set) → (framed (at_vector r) true).answer ≡ Done
+stacked : (r : Set) → (framed (at_vector r) true).answer ≡ (Ok tt)
 unfolding framed pushed
 stacked r = refl
 

@@ -1,11 +1,11 @@
 -- Interrupts that are served, and the waits, are sound.
 -- Assumes nothing.
+use Rattle.std.specs.Prelude.{Ok}
 use Prim.Native.Nat.{ℕ, ◌<◌}
 use mathlib.Core.Bool.{true}
 use mathlib.Core.List.{List}
 use mathlib.Core.Path.{refl}
 use lib.Dec.{eqb, lit<}
-use Rattle.answers.specs.declared.Answer.TheVariants.{Done}
 use Rattle.answers.specs.declared.Refusal.TheVariants.{Fenced, ZeroAtVector}
 use Rattle.registers.specs.declared.Set.{Set}
 use Rattle.memory.specs.Map.{byte_at, word_at}
@@ -62,7 +62,7 @@ module _ (mem : List ℕ) (s : Settings) (r : Set) (ea : ℕ) where
       let frame = framed (and_codes r m) true in
       let f = (stack-sound mem (and_codes r m) ea).frame true in
       let k : Given mem r ea → Given mem (and_codes r m) ea = λ g. record { registers = and-fits r g.registers m (byte_fits mem g.bytes ea); bytes = g.bytes; address = g.address } in
-      let e : Effect = record { writes = frame.writes; regs = frame.regs; wait = Cwai; answer = Done } in
+      let e : Effect = record { writes = frame.writes; regs = frame.regs; wait = Cwai; answer = (Ok tt) } in
       once-sound r (λ g. g.registers) frame.answer e (done-sound r e refl refl (record { places = f.few }) (λ g. f.registers (k g)) (λ g. f.widths (k g)))
 
 pub vectors-sound : (mem : List ℕ) (s : Settings) (r : Set) (ea : ℕ) → VectorsSound mem s r ea

@@ -1,8 +1,7 @@
 -- What is known of every interrupt that is served and of the waits: what is refused, and that all fits its width.
 -- Assumes nothing.
-use Rattle.std.specs.Prelude.{ℕ, ◌+◌, ◌*◌, true, false, cond, List, ◌≢◌, ◌≡◌, eqb, ltb, length}
+use Rattle.std.specs.Prelude.{ℕ, ◌+◌, ◌*◌, true, false, cond, List, ◌≢◌, ◌≡◌, eqb, ltb, length, Ok}
 use Rattle.answers.specs.Numbers.{number_of_answer}
-use Rattle.answers.specs.declared.Answer.TheVariants.{Done}
 use Rattle.registers.specs.RegisterSet.{with_word}
 use Rattle.registers.specs.declared.Set.{Set}
 use Rattle.registers.specs.declared.Word.TheVariants.{S}
@@ -55,4 +54,4 @@ abbrev pub FrameOverVector : Type 0
 FrameOverVector =
     (mem : List ℕ) (s : Settings) (r : Set) → length mem ≡ 65536 → bars s (listed (framed (at_vector r) true).writes) ≡ false
     → byte_at (stored s.ram_top (listed (framed (at_vector r) true).writes) mem) r.pc ≢ 0
-    → ((served mem s (at_vector r) Irq).answer ≡ Done) × ((served mem s (at_vector r) Irq).regs.pc ≡ r.pc)
+    → ((served mem s (at_vector r) Irq).answer ≡ (Ok tt)) × ((served mem s (at_vector r) Irq).regs.pc ≡ r.pc)

@@ -45,13 +45,9 @@ impl Vector {
         ensures { result ≡ masks_of self }
     {
         match self {
-            Vector::Swi3 => 0,
-            Vector::Swi2 => 0,
-            Vector::Firq => 0x50,
+            Vector::Swi3 | Vector::Swi2 => 0,
             Vector::Irq => 0x10,
-            Vector::Swi => 0x50,
-            Vector::Nmi => 0x50,
-            Vector::Reset => 0x50,
+            Vector::Firq | Vector::Swi | Vector::Nmi | Vector::Reset => 0x50,
         }
     }
 
@@ -59,14 +55,6 @@ impl Vector {
     pub fn is_entire(self) -> bool
         ensures { result ≡ is_entire self }
     {
-        match self {
-            Vector::Swi3 => true,
-            Vector::Swi2 => true,
-            Vector::Firq => false,
-            Vector::Irq => true,
-            Vector::Swi => true,
-            Vector::Nmi => true,
-            Vector::Reset => false,
-        }
+        !matches!(self, Vector::Firq | Vector::Reset)
     }
 }

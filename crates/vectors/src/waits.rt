@@ -2,9 +2,7 @@
 ghost use Rattle.std.specs.Prelude.{◌≡◌};
 ghost use Rattle.vectors.specs.Waits.{waiting, synchronized};
 
-use answers::Answer;
 use machine::{Effect, Wait};
-use memory::Writes;
 use registers::Set;
 
 // CWAI: the condition codes are masked, E is set, and all registers are stacked before the wait.
@@ -12,16 +10,12 @@ pub fn wait_for_interrupt(regs: Set, m: u8) -> Effect
     ensures { result ≡ waiting regs m }
 {
     let frame = stack::frame(operations::and_codes(regs, m), true);
-    let answer = frame.answer;
-    let writes = frame.writes;
-    let stacked = frame.regs;
-    match answer {
-        Answer::Refused(refusal) => Effect::refuses(regs, refusal),
-        Answer::Done => Effect {
-            writes,
-            regs: stacked,
+    // An effect is no Result: a refused one gives back the registers from before. So an arm hands the refusal on, and no `?`.
+    match frame.answer {
+        Err(refusal) => Effect::refuses(regs, refusal),
+        Ok(()) => Effect {
             wait: Wait::Cwai,
-            answer,
+            ..frame
         },
     }
 }
@@ -30,9 +24,7 @@ pub fn synchronize(regs: Set) -> Effect
     ensures { result ≡ synchronized regs }
 {
     Effect {
-        writes: Writes::none(),
-        regs,
         wait: Wait::Sync,
-        answer: Answer::Done,
+        ..Effect::changes(regs)
     }
 }

@@ -1,6 +1,6 @@
 // Operations on bytes.
 ghost use Rattle.std.specs.Prelude.{◌≡◌, ◌<◌, ◌≤◌};
-ghost use Rattle.registers.specs.Arithmetic.{SUB, DEC, INC, AND, OR, EOR, COM, NEG, adding, subtracting, out8, codes, logical, manual};
+ghost use Rattle.registers.specs.Arithmetic.{SUB, DEC, INC, AND, OR, EOR, COM, NEG, adding, subtracting, of_page, codes, logical, manual};
 ghost use Rattle.registers.specs.Settings.{by};
 ghost use Rattle.registers.specs.declared.Flags.TheVariants.{Manual};
 ghost use Rattle.opcodes.specs.declared.Unary.TheVariants.{Clr};
@@ -11,13 +11,13 @@ ghost use Rattle.whole.specs.Parts.{joined, sum_by, difference_by, page_of, coun
 
 use super::flags::{carry_in, is_set, put};
 use super::numbers::{Parts, all_flags, difference, sign_and_zero, sum};
-use registers::{CCBit, CCBits, Flags, Out8};
+use registers::{CCBit, CCBits, Flags, Out};
 
-pub(super) fn out(cc: CCBits, parts: Parts) -> Out8
+pub(super) fn out(cc: CCBits, parts: Parts) -> Out<u8>
     requires { parts.value < 256 }
-    ensures { result ≡ out8 cc (page_of 0x80 parts) }
+    ensures { result ≡ of_page cc (page_of 0x80 parts) }
 {
-    Out8 {
+    Out {
         cc: all_flags(cc, parts, 0x80),
         value: parts.value as u8,
     }
@@ -50,6 +50,7 @@ fn sum_by(flags: Flags, a: u32, b: u32, c: u32) -> Parts
 }
 
 // a - b - c, likewise.
+// Beside `sum_by`: an operator as a parameter would take `sum` or `difference` as a closure, and be no plainer.
 fn difference_by(flags: Flags, a: u32, b: u32, c: u32) -> Parts
     requires { (a < 256) × (b < 256) × (c ≤ 1) }
     ensures value { result ≡ difference_by flags a b c }
@@ -65,21 +66,21 @@ fn difference_by(flags: Flags, a: u32, b: u32, c: u32) -> Parts
 }
 
 // ADD and ADC. H is set where the sum of the low digits does not fit a digit.
-pub fn add(cc: CCBits, a: u8, b: u8, with_carry: bool, flags: Flags) -> Out8
-    ensures { result ≡ out8 cc (by flags (adding with_carry) cc a b) }
+pub fn add(cc: CCBits, a: u8, b: u8, with_carry: bool, flags: Flags) -> Out<u8>
+    ensures { result ≡ of_page cc (by flags (adding with_carry) cc a b) }
 {
     let c = carry_in(cc, with_carry);
     let parts = sum_by(flags, a as u32, b as u32, c);
     let low = (a % 16) as u32 + (b % 16) as u32 + c;
-    Out8 {
+    Out {
         cc: put(all_flags(cc, parts, 0x80), CCBit::H, 16 <= low),
         value: parts.value as u8,
     }
 }
 
 // SUB and SBC.
-pub fn subtract(cc: CCBits, a: u8, b: u8, with_carry: bool, flags: Flags) -> Out8
-    ensures { result ≡ out8 cc (by flags (subtracting with_carry) cc a b) }
+pub fn subtract(cc: CCBits, a: u8, b: u8, with_carry: bool, flags: Flags) -> Out<u8>
+    ensures { result ≡ of_page cc (by flags (subtracting with_carry) cc a b) }
 {
     let c = carry_in(cc, with_carry);
     out(cc, difference_by(flags, a as u32, b as u32, c))
@@ -93,8 +94,8 @@ pub fn compare(cc: CCBits, a: u8, b: u8) -> CCBits
 }
 
 // NEG: 0 - m.
-pub fn negate(cc: CCBits, m: u8) -> Out8
-    ensures { result ≡ out8 cc (manual NEG cc m 0) }
+pub fn negate(cc: CCBits, m: u8) -> Out<u8>
+    ensures { result ≡ of_page cc (manual NEG cc m 0) }
 {
     out(cc, difference(0, m as u32, 0, 0x80))
 }
@@ -110,25 +111,26 @@ fn count_v(flags: Flags, parts: Parts) -> bool
 }
 
 // INC and DEC leave C.
-fn counted(cc: CCBits, parts: Parts, flags: Flags) -> Out8
+fn counted(cc: CCBits, parts: Parts, flags: Flags) -> Out<u8>
     requires { parts.value < 256 }
-    ensures { result ≡ out8 cc (count_page flags parts) }
+    ensures { result ≡ of_page cc (count_page flags parts) }
 {
     let v = count_v(flags, parts);
-    Out8 {
+    Out {
         cc: sign_and_zero(put(cc, CCBit::V, v), parts.value, 0x80),
         value: parts.value as u8,
     }
 }
 
-pub fn increment(cc: CCBits, m: u8, flags: Flags) -> Out8
-    ensures { result ≡ out8 cc (by flags INC cc m 0) }
+pub fn increment(cc: CCBits, m: u8, flags: Flags) -> Out<u8>
+    ensures { result ≡ of_page cc (by flags INC cc m 0) }
 {
     counted(cc, sum(m as u32, 1, 0, 0x80), flags)
 }
 
-pub fn decrement(cc: CCBits, m: u8, flags: Flags) -> Out8
-    ensures { result ≡ out8 cc (by flags DEC cc m 0) }
+// Beside `increment`: `counted` is what they share.
+pub fn decrement(cc: CCBits, m: u8, flags: Flags) -> Out<u8>
+    ensures { result ≡ of_page cc (by flags DEC cc m 0) }
 {
     counted(cc, difference(m as u32, 1, 0, 0x80), flags)
 }
@@ -140,41 +142,42 @@ pub fn test(cc: CCBits, m: u8) -> CCBits
     sign_and_zero(put(cc, CCBit::V, false), m as u32, 0x80)
 }
 
-pub fn load(cc: CCBits, m: u8) -> Out8
-    ensures { result ≡ out8 cc (logical 0x80 m) }
+pub fn load(cc: CCBits, m: u8) -> Out<u8>
+    ensures { result ≡ of_page cc (logical 0x80 m) }
 {
-    Out8 {
+    Out {
         cc: test(cc, m),
         value: m,
     }
 }
 
-pub fn and(cc: CCBits, a: u8, b: u8) -> Out8
-    ensures { result ≡ out8 cc (manual AND cc a b) }
+// AND, OR and EOR: the operator is all that each says.
+pub fn and(cc: CCBits, a: u8, b: u8) -> Out<u8>
+    ensures { result ≡ of_page cc (manual AND cc a b) }
 {
     load(cc, a & b)
 }
 
-pub fn or(cc: CCBits, a: u8, b: u8) -> Out8
-    ensures { result ≡ out8 cc (manual OR cc a b) }
+pub fn or(cc: CCBits, a: u8, b: u8) -> Out<u8>
+    ensures { result ≡ of_page cc (manual OR cc a b) }
 {
     load(cc, a | b)
 }
 
-pub fn exclusive_or(cc: CCBits, a: u8, b: u8) -> Out8
-    ensures { result ≡ out8 cc (manual EOR cc a b) }
+pub fn exclusive_or(cc: CCBits, a: u8, b: u8) -> Out<u8>
+    ensures { result ≡ of_page cc (manual EOR cc a b) }
 {
     load(cc, a ^ b)
 }
 
 // COM: 255 - m, with C set.
-pub fn complement(cc: CCBits, m: u8) -> Out8
-    ensures { result ≡ out8 cc (manual COM cc m 0) }
+pub fn complement(cc: CCBits, m: u8) -> Out<u8>
+    ensures { result ≡ of_page cc (manual COM cc m 0) }
 {
     load(put(cc, CCBit::C, true), 255 - m)
 }
 
-pub fn clear(cc: CCBits) -> Out8
+pub fn clear(cc: CCBits) -> Out<u8>
     ensures { result ≡ unary_of Clr Manual cc 0 }
 {
     load(put(cc, CCBit::C, false), 0)
@@ -198,13 +201,13 @@ fn decimal_sum(cc: CCBits, a: u8) -> u32
 }
 
 // C is set and never cleared; V is not affected.
-pub fn decimal_adjust(cc: CCBits, a: u8) -> Out8
+pub fn decimal_adjust(cc: CCBits, a: u8) -> Out<u8>
     ensures { result ≡ decimal_of cc a }
 {
     let total = decimal_sum(cc, a);
     let carry = is_set(cc, CCBit::C) | (256 <= total);
     let value = total % 256;
-    Out8 {
+    Out {
         cc: sign_and_zero(put(cc, CCBit::C, carry), value, 0x80),
         value: value as u8,
     }

@@ -27,6 +27,7 @@ pub fn is_set(cc: CCBits, bit: CCBit) -> bool
 }
 
 // Setting a flag that is clear adds its weight to the register, and clearing one that is set takes its weight off.
+// Four cases: a test whether `state` and `is` differ would still have to ask which of them is true.
 pub fn put(cc: CCBits, bit: CCBit, state: bool) -> CCBits
     ensures { result ≡ put bit state cc }
 {

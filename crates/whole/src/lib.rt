@@ -1,5 +1,6 @@
 // The arithmetic of the second engine, in whole numbers. An operand is read twice: as an unsigned number, where a carry or a borrow shows,
 // and as a signed one, where an overflow shows. Each function answers what the manual's page of its instruction says (registers/specs).
+// Where one says again what `registers` or `operations` says, it does so to be independent of them (docs/TRAINING.md).
 #![tactic(auto)]
 
 mod bytes;

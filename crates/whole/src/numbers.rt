@@ -1,4 +1,5 @@
 // Sums and differences of numbers below 2·half, half being 80 for bytes and 8000 for words.
+// `half` is a parameter with a bound: as a const parameter it would ask for the same `Width` and `Operands` in each contract.
 ghost use Rattle.std.specs.Prelude.{◌≡◌, ◌+◌, ◌<◌, ◌≤◌, pos, ◌+ℤ◌, ◌-ℤ◌};
 ghost use Rattle.std.specs.Int.Signed.{mag};
 ghost use Rattle.u8oru16.specs.Signed.{signed, outside};
@@ -44,6 +45,7 @@ fn signed_sum(a: u32, b: u32, c: u32, half: u32) -> i32
     signed(a, half) + signed(b, half) + c as i32
 }
 
+// This and `difference` stand beside the sums: the operator is in each line, and one for both would be no plainer.
 fn signed_difference(a: u32, b: u32, c: u32, half: u32) -> i32
     requires { Operands half a b c }
     ensures value { result ≡ signed half a -ℤ signed half b -ℤ pos c }

@@ -1,6 +1,5 @@
 -- By the operation.
 -- Assumes nothing.
-use mathlib.Core.Path.{◌∙◌}
 use Rattle.bus.proofs.Arms.{no-fetch}
 use borrow.Author.Rules.{rules}
 use Rattle.bus.proofs.memory_count.Goals as goal

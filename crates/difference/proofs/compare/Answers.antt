@@ -6,12 +6,16 @@ use Rattle.difference.proofs.EachAddress.{runs-few}
 use Rattle.difference.proofs.EachField.{fields-few}
 use Rattle.difference.proofs.Calls.{left-refused, right-refused, list-refused, list_written}
 use Rattle.difference.proofs.compare.Goals as goal
+use Rattle.difference.proofs.compare.Goals.{then-left_mem-ne-MEMORY-via-then-left_mem-ne-MEMORY, then-left_mem-ne-MEMORY-via-else-left_mem-ne-MEMORY+then-right_mem-ne-MEMORY}
 
-pub returns-then-left_mem-ne65536 : goal.returns-then-left_mem-ne65536
-returns-then-left_mem-ne65536 c = rw c.refused.ensures (left-refused c.args.left c.args.right c.args.left_mem.now c.args.right_mem.now c.args.list.now c.if-left_mem-ne65536.true)
-
-pub returns-then-right_mem-ne65536 : goal.returns-then-right_mem-ne65536
-returns-then-right_mem-ne65536 c = rw c.refused-then-right_mem-ne65536.ensures (right-refused c.args.left c.args.right c.args.left_mem.now c.args.right_mem.now c.args.list.now c.if-left_mem-ne65536.false c.if-right_mem-ne65536.true)
+pub returns-then-left_mem-ne-MEMORY : goal.returns-then-left_mem-ne-MEMORY
+returns-then-left_mem-ne-MEMORY c =
+    let a = c.args in
+    elim c.then-left_mem-ne-MEMORY.branch [
+      | then-left_mem-ne-MEMORY-via-then-left_mem-ne-MEMORY w ↦ left-refused a.left a.right a.left_mem.now a.right_mem.now a.list.now w.if-left_mem-ne-MEMORY.true
+      | then-left_mem-ne-MEMORY-via-else-left_mem-ne-MEMORY+then-right_mem-ne-MEMORY w ↦
+          right-refused a.left a.right a.left_mem.now a.right_mem.now a.list.now w.if-left_mem-ne-MEMORY.false w.if-right_mem-ne-MEMORY.true
+    ]
 
 -- both counts are small
 pub overflow_add-count : goal.overflow_add-count
@@ -26,14 +30,13 @@ overflow_mul-count c =
 
 pub returns-then-list-count : goal.returns-then-list-count
 returns-then-list-count c =
-    rw c.refused-then-list-count.ensures
-    (list-refused c.args.left c.args.right c.args.left_mem.now c.args.right_mem.now c.args.list.now c.if-left_mem-ne65536.false c.if-right_mem-ne65536.false _ (rw (c.count.ensures, c.count-2.ensures)) c.if-list-count.true)
+    list-refused c.args.left c.args.right c.args.left_mem.now c.args.right_mem.now c.args.list.now c.if-left_mem-ne-MEMORY.false c.if-right_mem-ne-MEMORY.false _ (rw (c.count.ensures, c.count-2.ensures)) c.if-list-count.true
 
 pub put-requires : goal.put-requires
 put-requires c =
     let a = c.args in
-    (omega (arith, c.put-at.ensures.0, fields-few a.left a.right fields), (c.if-left_mem-ne65536.false, c.if-right_mem-ne65536.false))
+    (omega (arith, c.put-at.ensures.0, fields-few a.left a.right fields), (c.if-left_mem-ne-MEMORY.false, c.if-right_mem-ne-MEMORY.false))
 
 pub returns : goal.returns
 returns c =
-    list_written c.args.left c.args.right c.args.left_mem.now c.args.right_mem.now c.args.list.now c.if-left_mem-ne65536.false c.if-right_mem-ne65536.false _ (rw (c.count.ensures, c.count-2.ensures)) c.if-list-count.false _ _ _ c.put-at.ensures.0 c.put-at.ensures.1 c.put.ensures
+    list_written c.args.left c.args.right c.args.left_mem.now c.args.right_mem.now c.args.list.now c.if-left_mem-ne-MEMORY.false c.if-right_mem-ne-MEMORY.false _ (rw (c.count.ensures, c.count-2.ensures)) c.if-list-count.false _ _ _ c.put-at.ensures.0 c.put-at.ensures.1 c.put.ensures

@@ -1,5 +1,6 @@
 -- Rows 8 to F by their first bit, rows 2 and 3, and no other row.
 -- Assumes nothing.
+use Rattle.std.specs.Prelude.{None}
 use borrow.Author.Rules.{rules}
 use Prim.Native.Nat.{ℕ, ◌/◌, ◌%◌}
 use mathlib.Core.Path.{refl}
@@ -7,7 +8,6 @@ use mathlib.Core.List.{[], ◌∷◌}
 use lib.ListN.{get_or}
 use native.Mathlib.Omega.{arith}
 use borrow.Author.Tests.{le-leb, lt-leb}
-use Rattle.opcodes.specs.declared.Place.TheVariants.{None}
 use Rattle.fields.specs.Named.{long_branch, software_interrupt}
 use Rattle.fields.specs.Fields.{prefixed_place}
 use Rattle.fields.proofs.Places.{rest}

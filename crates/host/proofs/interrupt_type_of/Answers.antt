@@ -2,15 +2,16 @@
 -- Assumes nothing.
 use Rattle.host.specs.Numbers.{interrupt_type_of}
 use Rattle.host.proofs.Laws.{interrupt-rest}
+use borrow.Author.Rules.{rules}
 use Rattle.host.proofs.interrupt_type_of.Goals as goal
 
-pub returns-then-which-eq0 : goal.returns-then-which-eq0
+pub returns-in-0 : goal.returns-in-0
 unfolding interrupt_type_of
-returns-then-which-eq0 c = rw c.if-which-eq0.true
+returns-in-0 c = rw c.in-0.is
 
-pub returns-then-which-eq1 : goal.returns-then-which-eq1
+pub returns-in-1 : goal.returns-in-1
 unfolding interrupt_type_of
-returns-then-which-eq1 c = rw c.if-which-eq1.true
+returns-in-1 c = rw c.in-1.is
 
-pub returns : goal.returns
-returns c = interrupt-rest _ c.if-which-eq0.false c.if-which-eq1.false
+pub returns-in_default : goal.returns-in_default
+returns-in_default c = interrupt-rest _ (search rules) (search rules)

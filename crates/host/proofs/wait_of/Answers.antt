@@ -2,15 +2,16 @@
 -- Assumes nothing.
 use Rattle.machine.specs.Record.{wait_of}
 use Rattle.machine.proofs.Header.{wait-rest}
+use borrow.Author.Rules.{rules}
 use Rattle.host.proofs.wait_of.Goals as goal
 
-pub returns-then-n-eq0 : goal.returns-then-n-eq0
+pub returns-in-0 : goal.returns-in-0
 unfolding wait_of
-returns-then-n-eq0 c = rw c.if-n-eq0.true
+returns-in-0 c = rw c.in-0.is
 
-pub returns-then-n-eq1 : goal.returns-then-n-eq1
+pub returns-in-1 : goal.returns-in-1
 unfolding wait_of
-returns-then-n-eq1 c = rw c.if-n-eq1.true
+returns-in-1 c = rw c.in-1.is
 
-pub returns : goal.returns
-returns c = wait-rest _ c.if-n-eq0.false c.if-n-eq1.false
+pub returns-in_default : goal.returns-in_default
+returns-in_default c = wait-rest _ (search rules) (search rules)

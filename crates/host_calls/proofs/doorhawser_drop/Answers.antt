@@ -11,8 +11,8 @@ returns-then-is_twin c = λ memory.
     let a = c.args in
     passes (is_twin a.twin) (dropped a.k) a.twin memory a.journal.now _ _ memory _
     (sym c.is_twin.ensures ∙ c.if-is_twin.true)
-    (rw c.twin_of.ensures at (c.drop.ensures memory))
-    c.outcome_of.ensures
+    (rw c.from.ensures at (c.drop.ensures memory))
+    c.from-then-is_twin.ensures
 
 pub returns : goal.returns
 returns c = λ memory.

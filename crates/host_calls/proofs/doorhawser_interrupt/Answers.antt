@@ -12,8 +12,8 @@ returns-then-is_interrupt c =
     let a = c.args in
     passes (is_interrupt a.twin a.settings a.which) (interrupted (settings_from a.settings) (interrupt_type_of a.which)) a.twin a.mem.now a.journal.now _ _ _ _
     (sym c.is_interrupt.ensures ∙ c.if-is_interrupt.true)
-    (rw (c.twin_of.ensures, c.settings_of.ensures, c.interrupt_type_of.ensures) at c.interrupt.ensures.leaves)
-    c.outcome_of.ensures
+    (rw (c.from.ensures, c.from-then-is_interrupt.ensures, c.interrupt_type_of.ensures) at c.interrupt.ensures.leaves)
+    c.from-then-is_interrupt-2.ensures
 
 pub returns : goal.returns
 returns c =

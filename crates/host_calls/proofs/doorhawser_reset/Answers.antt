@@ -12,8 +12,8 @@ returns-then-is_named c =
     let a = c.args in
     passes (is_named a.twin a.settings) (was_reset (settings_from a.settings)) a.twin a.mem.now a.journal.now _ _ _ _
     (sym c.is_named.ensures ∙ c.if-is_named.true)
-    (rw (c.twin_of.ensures, c.settings_of.ensures) at c.reset.ensures.leaves)
-    c.outcome_of.ensures
+    (rw (c.from.ensures, c.from-then-is_named.ensures) at c.reset.ensures.leaves)
+    c.from-then-is_named-2.ensures
 
 pub returns : goal.returns
 returns c =

@@ -10,7 +10,7 @@ use Rattle.host_calls.proofs.doorhawser_reset_unrecorded.Goals as goal
 pub returns-then-is_named : goal.returns-then-is_named
 returns-then-is_named c =
     let a = c.args in
-    let e = rw (c.machine_of.ensures, c.settings_of.ensures) at c.reset.ensures in
+    let e = rw (c.from.ensures, c.from-then-is_named.ensures) at c.reset.ensures in
     passes-report (is_named a.twin a.settings) (reset_of a.mem.now (machine_from a.twin) (settings_from a.settings)) (memory_after_reset a.mem.now (machine_from a.twin) (settings_from a.settings)) a.twin a.mem.now _ _
     (sym c.is_named.ensures ∙ c.if-is_named.true)
     (rw e.0 at c.report_of.ensures)

@@ -4,4 +4,4 @@
 use Rattle.host_calls.proofs.doorhawser_start.Goals as goal
 
 pub returns : goal.returns
-returns c = rw (c.host_twin.ensures, c.fresh.ensures)
+returns c = rw (c.from.ensures, c.fresh.ensures)

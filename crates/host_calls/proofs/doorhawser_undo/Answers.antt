@@ -11,8 +11,8 @@ returns-then-is_twin c =
     let a = c.args in
     passes (is_twin a.twin) (undone) a.twin a.mem.now a.journal.now _ _ _ _
     (sym c.is_twin.ensures ∙ c.if-is_twin.true)
-    (rw c.twin_of.ensures at c.undo.ensures.leaves)
-    c.outcome_of.ensures
+    (rw c.from.ensures at c.undo.ensures.leaves)
+    c.from-then-is_twin.ensures
 
 pub returns : goal.returns
 returns c =

@@ -5,4 +5,4 @@ use Rattle.host_compare.proofs.unnamed_count.Goals as goal
 
 pub returns : goal.returns
 unfolding unnamed
-returns c = rw c.unnamed-refused.ensures
+returns c = rw c.unnamed.ensures

@@ -3,12 +3,12 @@
 
 use Rattle.host_disassemble.proofs.doorhawser_disassemble.Goals as goal
 
-pub returns-in-Line : goal.returns-in-Line
-returns-in-Line c =
+pub returns-in-Ok : goal.returns-in-Ok
+returns-in-Ok c =
     let d = c.disassemble.ensures in
-    (rw (← d.0, c.in-Line.is), d.1)
+    (rw (← d.0, c.in-Ok.is), d.1)
 
-pub returns-in-Refused : goal.returns-in-Refused
-returns-in-Refused c =
+pub returns-in-Err : goal.returns-in-Err
+returns-in-Err c =
     let d = c.disassemble.ensures in
-    (rw (c.number.ensures, ← d.0, c.in-Refused.is), d.1)
+    (rw (c.number.ensures, ← d.0, c.in-Err.is), d.1)

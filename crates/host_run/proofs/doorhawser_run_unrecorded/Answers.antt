@@ -10,7 +10,7 @@ use Rattle.host_run.proofs.doorhawser_run_unrecorded.Goals as goal
 pub returns-then-is_named : goal.returns-then-is_named
 returns-then-is_named c =
     let a = c.args in
-    let e = rw (c.machine_of.ensures, c.settings_of.ensures) at c.run-ran.ensures in
+    let e = rw (c.from.ensures, c.from-then-is_named.ensures) at c.run-ran.ensures in
     runs (is_named a.twin a.settings) (running (settings_from a.settings) a.count (before (machine_from a.twin)) a.mem.now) a.twin a.count a.mem.now _ _
     (sym c.is_named.ensures ∙ c.if-is_named.true)
     (rw (c.report_of.ensures, e.0))

@@ -42,7 +42,7 @@ loop-left-preserved c =
 pub overflow_add-result : goal.overflow_add-result
 overflow_add-result c =
     let l = c.loop-left in
-    rw c.uncounted-uncarried.ensures (record { fits = below l.invariant.1.1 (search rules) })
+    rw c.uncounted.ensures (record { fits = below l.invariant.1.1 (search rules) })
 
 pub shape_of-mem : goal.shape_of-mem
 shape_of-mem c = c.loop-left.invariant.1.0
@@ -53,4 +53,4 @@ returns c =
     let l = c.loop-left in
     let e = l.invariant.0 ∙ run_ends a.settings l.left l.last l.mem (rw c.goes_on.ensures at c.loop-left-test.false) in
     let f = rw c.none.ensures at e in
-    (rw c.uncounted-uncarried.ensures (sym (ap (λ (x : Running). x.ran) f)), sym (ap (λ (x : Running). x.memory) f))
+    (rw c.uncounted.ensures (sym (ap (λ (x : Running). x.ran) f)), sym (ap (λ (x : Running). x.memory) f))

@@ -15,7 +15,7 @@ returns-then-is_named-is_stop c =
     passes (is_named a.twin a.settings && is_stop a.stop) (ran (settings_from a.settings) (stop_from a.stop) a.allowance (handed a.mem.now a.journal.now a.twin))
     a.twin a.mem.now a.journal.now _ _ _ _
     (rw (c.is_named.ensures, c.is_stop.ensures) at c.if-is_named-is_stop.true)
-    (rw (c.twin_of.ensures, c.settings_of.ensures, c.stop_of.ensures) at c.run.ensures.run_leaves)
+    (rw (c.from.ensures, c.from-then-is_named-is_stop.ensures, c.stop_of.ensures) at c.run.ensures.run_leaves)
     c.stopped.ensures
 
 pub returns : goal.returns

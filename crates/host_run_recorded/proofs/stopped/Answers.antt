@@ -6,4 +6,4 @@ use Rattle.host_run_recorded.proofs.stopped.Goals as goal
 
 pub returns : goal.returns
 unfolding host_outcome host_stopped
-returns c = rw (c.number.ensures, c.outcome_of-outcome.ensures)
+returns c = rw (c.number.ensures, c.from-outcome.ensures)

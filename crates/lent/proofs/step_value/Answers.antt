@@ -4,4 +4,4 @@ use Rattle.lent.proofs.Parts.{parted}
 use Rattle.lent.proofs.step_value.Goals as goal
 
 pub returns : goal.returns
-returns c = (parted _ _ _ _ c.step-outcome.ensures.leaves, c.step-outcome.ensures.typed)
+returns c = rw c.from.ensures (parted _ _ _ _ c.step.ensures.leaves, c.step.ensures.typed)

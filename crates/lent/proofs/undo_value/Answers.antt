@@ -4,4 +4,4 @@ use Rattle.lent.proofs.Parts.{parted}
 use Rattle.lent.proofs.undo_value.Goals as goal
 
 pub returns : goal.returns
-returns c = (parted _ _ _ _ c.undo-outcome.ensures.leaves, c.undo-outcome.ensures.typed)
+returns c = rw c.from.ensures (parted _ _ _ _ c.undo.ensures.leaves, c.undo.ensures.typed)

@@ -1,25 +1,28 @@
--- The invariant: the pieces that are left end where all end. The measure is their number.
+-- The invariant: the pieces that are left end where all end.
 -- Assumes nothing.
-use Prim.Native.Nat.{suc, ◌-◌}
-use mathlib.Core.Path.{◌≡◌, refl, sym, ◌∙◌}
+use Prim.Native.Nat.{◌+◌, suc, ◌-◌}
+use mathlib.Core.Path.{◌≡◌, sym, ◌∙◌}
 use native.Mathlib.Omega.{arith}
 use Rattle.runfile.specs.Format.{pieces_at}
 use Rattle.runfile.proofs.Sections.{piece-end}
 use Rattle.runfile.proofs.pieces_end.Goals as goal
 
-pub loop-left-init : goal.loop-left-init
-loop-left-init c = refl
+pub loop-passed-init : goal.loop-passed-init
+loop-passed-init c = let z : c.args.count - 0 ≡ c.args.count = omega arith in rw z
 
-pub loop-left-preserved : goal.loop-left-preserved
-loop-left-preserved c =
+pub loop-passed-preserved : goal.loop-passed-preserved
+loop-passed-preserved c =
     let f = c.args.file.now in
-    let l = c.loop-left in
-    let s : l.left ≡ suc (l.left - 1) = omega arith in
-    rw c.piece_end-next.ensures (sym (piece-end f (l.left - 1) l.next) ∙ (rw s at l.invariant))
+    let l = c.loop-passed in
+    let left = c.args.count - l._passed in
+    let s : left ≡ suc (left - 1) = omega arith in
+    let o : c.args.count - (l._passed + 1) ≡ left - 1 = omega arith in
+    rw (o, c.piece_end-next.ensures) (sym (piece-end f (left - 1) l.next) ∙ (rw s at l.invariant))
 
 pub returns : goal.returns
 unfolding pieces_at
 returns c =
-    let l = c.loop-left in
-    let z : l.left ≡ 0 = omega arith in
+    let l = c.loop-passed in
+    let left = c.args.count - l._passed in
+    let z : left ≡ 0 = omega arith in
     rw z at l.invariant

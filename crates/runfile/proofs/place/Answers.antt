@@ -1,4 +1,4 @@
--- The invariant: the pieces that are left stand in the file, and laid after those that were laid they give what all give. The measure is their number.
+-- The invariant: the pieces that are left stand in the file, and laid after those that were laid they give what all give.
 -- Assumes nothing.
 -- one piece, whose end is `end`
 use Prim.Native.Nat.{ℕ, suc, ◌+◌, ◌-◌, ◌≤◌, ◌<◌}
@@ -31,53 +31,61 @@ module _ (file : List ℕ) (left next end : ℕ) (more : 0 < left) (within : end
       let n : end - (next + 4) ≡ size file next = omega (arith, ends) in
       rw (h, n, ends) (sym (piece-laid file (left - 1) next (rw some at within) mem) ∙ rw (← some))
 
-pub loop-left-init : goal.loop-left-init
-loop-left-init c = (c.requires, (refl, refl))
+pub loop-passed-init : goal.loop-passed-init
+loop-passed-init c = let z : c.args.count - 0 ≡ c.args.count = omega arith in rw z (c.requires, (refl, refl))
 
 pub overflow_add-from : goal.overflow_add-from
 overflow_add-from c =
     let f = c.args.file.now in
-    let l = c.loop-left in
-    omega (arith, (stands f l.left l.next _ (omega arith) l.invariant.0 refl).1)
+    let l = c.loop-passed in
+    let left = c.args.count - l._passed in
+    omega (arith, (stands f left l.next _ (omega arith) l.invariant.0 refl).1)
 
 pub slice_bounds-put-count : goal.slice_bounds-put-count
 slice_bounds-put-count c =
     let f = c.args.file.now in
-    let l = c.loop-left in
-    omega (arith, ends f l.left l.next c.piece_end-end.result (omega arith) l.invariant.0 c.piece_end-end.ensures)
+    let l = c.loop-passed in
+    let left = c.args.count - l._passed in
+    omega (arith, ends f left l.next c.piece_end-end.result (omega arith) l.invariant.0 c.piece_end-end.ensures)
 
 pub slice_bounds-put-start : goal.slice_bounds-put-start
 slice_bounds-put-start c =
     let f = c.args.file.now in
-    let l = c.loop-left in
-    omega (arith, ends f l.left l.next c.piece_end-end.result (omega arith) l.invariant.0 c.piece_end-end.ensures)
+    let l = c.loop-passed in
+    let left = c.args.count - l._passed in
+    omega (arith, ends f left l.next c.piece_end-end.result (omega arith) l.invariant.0 c.piece_end-end.ensures)
 
 pub slice_bounds-put-end : goal.slice_bounds-put-end
 slice_bounds-put-end c =
     let f = c.args.file.now in
-    let l = c.loop-left in
-    omega (arith, ends f l.left l.next c.piece_end-end.result (omega arith) l.invariant.0 c.piece_end-end.ensures, (stands f l.left l.next _ (omega arith) l.invariant.0 refl).1)
+    let l = c.loop-passed in
+    let left = c.args.count - l._passed in
+    omega (arith, ends f left l.next c.piece_end-end.result (omega arith) l.invariant.0 c.piece_end-end.ensures, (stands f left l.next _ (omega arith) l.invariant.0 refl).1)
 
-pub loop-left-preserved : goal.loop-left-preserved
-loop-left-preserved c =
+pub loop-passed-preserved : goal.loop-passed-preserved
+loop-passed-preserved c =
     let f = c.args.file.now in
-    let l = c.loop-left in
+    let l = c.loop-passed in
+    let left = c.args.count - l._passed in
     let w = c.word-address.ensures in
     let p = c.put.ensures in
-    let r = c.piece_end-end.result in (
-      rest f l.left l.next r (omega arith) l.invariant.0 c.piece_end-end.ensures,
+    let r = c.piece_end-end.result in
+    let o : c.args.count - (l._passed + 1) ≡ left - 1 = omega arith in
+    rw o (
+      rest f left l.next r (omega arith) l.invariant.0 c.piece_end-end.ensures,
       (
-        turn f l.left l.next r (omega arith) l.invariant.0 c.piece_end-end.ensures l.mem c.put.new.out (rw w at p) ∙ l.invariant.1.0,
+        turn f left l.next r (omega arith) l.invariant.0 c.piece_end-end.ensures l.mem c.put.new.out (rw w at p) ∙ l.invariant.1.0,
         ap length p ∙ length-sets l.mem c.word-address.result (take (r - (l.next + 4)) (drop (l.next + 4) f)) ∙ l.invariant.1.1,
       ),
     )
 
 pub shape_of-mem : goal.shape_of-mem
-shape_of-mem c = c.loop-left.invariant.1.1
+shape_of-mem c = c.loop-passed.invariant.1.1
 
 pub returns : goal.returns
 unfolding pieces_at
 returns c =
-    let l = c.loop-left in
-    let z : l.left ≡ 0 = omega arith in
+    let l = c.loop-passed in
+    let left = c.args.count - l._passed in
+    let z : left ≡ 0 = omega arith in
     rw z at l.invariant.1.0

@@ -1,11 +1,12 @@
 -- After S9 every line is dropped; before it by what `line_of` answers.
 -- Assumes nothing.
 use Prim.Native.Nat.{◌≤◌, ◌<◌}
+use borrow.Author.Rules.{rules}
 use mathlib.Core.Path.{sym, ◌∙◌}
 use native.Mathlib.Omega.{arith}
 use lib.ListN.{length}
 use Rattle.srecord.proofs.Lines.{line-fits}
-use Rattle.salvage.proofs.Turns.{after-end, by_answer}
+use Rattle.salvage.proofs.Turns.{after-end, by_answer, by_end, by_line}
 use Rattle.salvage.proofs.next.Goals as goal
 use Rattle.salvage.proofs.next.Goals.{After-line_end-end}
 
@@ -27,26 +28,20 @@ slice_bounds-line_of-start c = omega (arith, fits (goal.at.slice_bounds-line_of-
 pub slice_bounds-line_of-end : goal.slice_bounds-line_of-end
 slice_bounds-line_of-end c = omega (arith, fits (goal.at.slice_bounds-line_of-end c).After-line_end-end)
 
-pub pass-requires-in-Header : goal.pass-requires-in-Header
-pass-requires-in-Header c = omega (arith, fits (goal.at.pass-requires-in-Header c).After-line_end-end)
+pub pass-requires-in-Ok-End : goal.pass-requires-in-Ok-End
+pass-requires-in-Ok-End c = omega (arith, fits (goal.at.pass-requires-in-Ok-End c).After-line_end-end)
 
-pub pass-requires-in-Data : goal.pass-requires-in-Data
-pass-requires-in-Data c = omega (arith, fits (goal.at.pass-requires-in-Data c).After-line_end-end)
+pub returns-in-Ok-End : goal.returns-in-Ok-End
+returns-in-Ok-End c = c.pass-in-Ok-End.ensures ∙ by_end _ _ _ c.line_end-end.ensures _ _ c.in-Ok-End.field-0-is c.if-at.false (sym c.line_of.ensures ∙ c.in-Ok-End.is)
 
-pub pass-requires-in-End : goal.pass-requires-in-End
-pass-requires-in-End c = omega (arith, fits (goal.at.pass-requires-in-End c).After-line_end-end)
+pub pass-requires-in-Ok : goal.pass-requires-in-Ok
+pass-requires-in-Ok c = omega (arith, fits (goal.at.pass-requires-in-Ok c).After-line_end-end)
 
-pub pass-requires-in-Bad : goal.pass-requires-in-Bad
-pass-requires-in-Bad c = omega (arith, fits (goal.at.pass-requires-in-Bad c).After-line_end-end)
+pub returns-in-Ok : goal.returns-in-Ok
+returns-in-Ok c = c.pass-in-Ok.ensures ∙ by_line _ _ _ c.line_end-end.ensures _ (λ a e. search rules) c.if-at.false (sym c.line_of.ensures ∙ c.in-Ok.is)
 
-pub returns-in-Header : goal.returns-in-Header
-returns-in-Header c = c.pass-in-Header.ensures ∙ by_answer _ _ _ c.line_end-end.ensures _ c.if-at.false (sym c.line_of.ensures ∙ c.in-Header.is)
+pub pass-requires-in-Err : goal.pass-requires-in-Err
+pass-requires-in-Err c = omega (arith, fits (goal.at.pass-requires-in-Err c).After-line_end-end)
 
-pub returns-in-Data : goal.returns-in-Data
-returns-in-Data c = c.pass-in-Data.ensures ∙ by_answer _ _ _ c.line_end-end.ensures _ c.if-at.false (sym c.line_of.ensures ∙ c.in-Data.is)
-
-pub returns-in-End : goal.returns-in-End
-returns-in-End c = c.pass-in-End.ensures ∙ by_answer _ _ _ c.line_end-end.ensures _ c.if-at.false (sym c.line_of.ensures ∙ c.in-End.is)
-
-pub returns-in-Bad : goal.returns-in-Bad
-returns-in-Bad c = c.pass-in-Bad.ensures ∙ by_answer _ _ _ c.line_end-end.ensures _ c.if-at.false (sym c.line_of.ensures ∙ c.in-Bad.is)
+pub returns-in-Err : goal.returns-in-Err
+returns-in-Err c = c.pass-in-Err.ensures ∙ by_answer _ _ _ c.line_end-end.ensures _ c.if-at.false (sym c.line_of.ensures ∙ c.in-Err.is)

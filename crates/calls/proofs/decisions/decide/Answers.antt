@@ -6,12 +6,12 @@ use Rattle.calls.specs.Steps.{finished, decoded_to}
 use Rattle.calls.proofs.decisions.decide.Goals as goal
 
 pub execute-requires : goal.execute-requires
-execute-requires c = five-bytes c.args.mem.now c.args.machine.regs.pc _ (sym c.decode.ensures ∙ c.in-Instruction.is)
+execute-requires c = five-bytes c.args.mem.now c.args.machine.regs.pc _ (sym c.decode.ensures ∙ c.in-Ok.is)
 
-pub returns-in-Refused : goal.returns-in-Refused
+pub returns-in-Err : goal.returns-in-Err
 unfolding finished decoded_to
-returns-in-Refused c = rw (c.refuse.ensures, ← c.decode.ensures, c.in-Refused.is)
+returns-in-Err c = rw (c.refuse.ensures, ← c.decode.ensures, c.in-Err.is)
 
-pub returns-in-Instruction : goal.returns-in-Instruction
+pub returns-in-Ok : goal.returns-in-Ok
 unfolding decoded_to
-returns-in-Instruction c = rw (← c.decode.ensures, c.in-Instruction.is) c.execute.ensures
+returns-in-Ok c = rw (← c.decode.ensures, c.in-Ok.is) c.execute.ensures

@@ -1,6 +1,6 @@
 -- The address, then the operation.
 -- Assumes nothing.
-use Rattle.std.proofs.Common.{◌≡◌, ℕ, ◌+◌, ◌-◌, ap, ◌∙◌, arith}
+use Rattle.std.proofs.Common.{ℕ, ◌+◌, ◌-◌, ap, ◌∙◌, arith}
 use Rattle.cycles.specs.Cycles.{cycles_of}
 use Rattle.calls.specs.Steps.{finished}
 use Rattle.calls.proofs.Decided.{decides-plan, reads-told, pointer-most}
@@ -24,16 +24,16 @@ operate-requires c =
     let k = pointer-most c.args.instruction.operand c.pointer_count.ensures in
     omega arith
 
-pub returns-in-Refused : goal.returns-in-Refused
+pub returns-in-Err : goal.returns-in-Err
 unfolding finished
-returns-in-Refused c = rw (c.refuse.ensures, ← c.resolve.ensures, c.in-Refused.is)
+returns-in-Err c = rw (c.refuse.ensures, ← c.resolve.ensures, c.in-Err.is)
 
-pub returns-in-At : goal.returns-in-At
+pub returns-in-Ok : goal.returns-in-Ok
 unfolding cycles_of
-returns-in-At c =
+returns-in-Ok c =
     let a = c.args in
     let i = a.instruction in
-    let f = c.in-At.found in
+    let f = c.in-Ok.found in
     let told = reads-told i a.mem.now a.settings a.machine.regs f.regs f.ea _ (ap (λ (n : ℕ). (i.next - a.machine.regs.pc) + n) c.pointer_count.ensures) in
     decides-plan a.machine a.settings a.mem.now c.operate.result c.operate.ensures
-    ∙ rw (told, c.operand_extra-extra.ensures, ← c.resolve.ensures, c.in-At.is)
+    ∙ rw (told, c.operand_extra-extra.ensures, ← c.resolve.ensures, c.in-Ok.is)

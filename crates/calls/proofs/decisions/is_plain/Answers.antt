@@ -1,18 +1,14 @@
 -- By the kind.
 -- Assumes nothing.
-use Rattle.std.proofs.Common.{◌≡◌, ◌&&◌, length, sym, ap, ◌∙◌}
-use lib.ListN.{length-map}
+use Rattle.std.proofs.Common.{◌≡◌, length, ap, ◌∙◌, inl, inr}
 use Rattle.machine.specs.declared.fence.Range.{Range}
-use Rattle.calls.specs.Decisions.{first_range, is_below, is_word_below}
+use Rattle.calls.specs.Decisions.{is_below, is_word_below}
 use Rattle.calls.proofs.Decided.{is-plain-by, first_of}
 use borrow.Author.Rules.{rules}
 use Rattle.calls.proofs.decisions.is_plain.Goals as goal
 
 pub returns-in-Refused : goal.returns-in-Refused
-returns-in-Refused c = let a = c.args in is-plain-by a.settings a.decision c.in-Refused.is
-
-pub returns-in-Change : goal.returns-in-Change
-returns-in-Change c = let a = c.args in is-plain-by a.settings a.decision c.in-Change.is
+returns-in-Refused c = let a = c.args in elim c.in-Refused.is [ inl e ↦ is-plain-by a.settings a.decision e | inr e ↦ is-plain-by a.settings a.decision e ]
 
 pub returns-in-Byte : goal.returns-in-Byte
 returns-in-Byte c =

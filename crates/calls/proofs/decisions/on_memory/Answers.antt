@@ -8,6 +8,6 @@ use Rattle.calls.proofs.decisions.on_memory.Goals as goal
 pub returns : goal.returns
 unfolding on_memory
 returns c =
-    let h = c.wide.ensures.1 in
-    let f : c.wide.result % 256 ≡ c.wide.result = omega arith in
-    rw (c.tell.ensures, f, c.wide.ensures.0, c.with_codes.ensures, c.unary-out.ensures, c.read_u8.ensures, one-write)
+    let h = c.tell_byte.ensures.1 in
+    let f : c.unary-out.result.value % 256 ≡ c.unary-out.result.value = omega arith in
+    rw (c.tell_byte.ensures.0, f, c.with_codes.ensures, c.unary-out.ensures, c.read_u8.ensures, one-write)

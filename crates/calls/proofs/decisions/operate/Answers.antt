@@ -7,28 +7,18 @@ use Rattle.calls.proofs.decisions.operate.Goals as goal
 pub registers_reads-reads-requires : goal.registers_reads-reads-requires
 registers_reads-reads-requires c = c.requires
 
-pub registers_reads-reads-requires-in-Refused : goal.registers_reads-reads-requires-in-Refused
-registers_reads-reads-requires-in-Refused c = c.requires
-
 pub memory_reads-reads-requires : goal.memory_reads-reads-requires
 memory_reads-reads-requires c = c.requires
 
-pub returns-in-After : goal.returns-in-After
-returns-in-After c =
+pub returns-in-Registers : goal.returns-in-Registers
+returns-in-Registers c =
+    let a = c.args in
+    let d = c.decide_registers-decision in
     record {
-      effect = rw (c.bill.ensures, c.tell.ensures, c.in-Registers.is, ← c.change.ensures, c.in-After.is);
+      effect = rw (c.bill.ensures, c.in-Registers.is) (billed-effect a.settings a.mem.now d.result _ _ _ ∙ d.ensures);
       cycles = rw (c.bill.ensures, c.cost-cycles.ensures, c.registers_extra.ensures, c.in-Registers.is);
       reads = rw (c.bill.ensures, c.registers_reads-reads.ensures, c.in-Registers.is) (fetches-none _ _);
       arms = rw (c.bill.ensures, c.registers_arm-arms.ensures, c.in-Registers.is);
-    }
-
-pub returns-in-Refused : goal.returns-in-Refused
-returns-in-Refused c =
-    record {
-      effect = rw (c.bill-in-Refused.ensures, c.refuse.ensures, c.in-Registers.is, ← c.change.ensures, c.in-Refused.is);
-      cycles = rw (c.bill-in-Refused.ensures, c.cost-cycles.ensures, c.registers_extra.ensures, c.in-Registers.is);
-      reads = rw (c.bill-in-Refused.ensures, c.registers_reads-reads-in-Refused.ensures, c.in-Registers.is) (fetches-none _ _);
-      arms = rw (c.bill-in-Refused.ensures, c.registers_arm-arms.ensures, c.in-Registers.is);
     }
 
 pub returns-in-Memory : goal.returns-in-Memory

@@ -6,4 +6,4 @@ use Rattle.calls.proofs.decisions.store16.Goals as goal
 
 pub returns : goal.returns
 unfolding store16
-returns c = rw (c.tell.ensures, c.test16.ensures, c.word-value.ensures, two-writes)
+returns c = rw (c.tell_word.ensures, c.test16.ensures, c.word-value.ensures, two-writes)

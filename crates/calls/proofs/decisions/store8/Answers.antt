@@ -6,6 +6,6 @@ use Rattle.calls.proofs.decisions.store8.Goals as goal
 
 pub returns : goal.returns
 returns c =
-    let h = c.wide.ensures.1 in
-    let f : c.wide.result % 256 ≡ c.wide.result = omega arith in
-    rw (c.tell.ensures, f, c.wide.ensures.0, c.test.ensures, c.accumulator-value.ensures, one-write)
+    let h = c.tell_byte.ensures.1 in
+    let f : c.accumulator-value.result % 256 ≡ c.accumulator-value.result = omega arith in
+    rw (c.tell_byte.ensures.0, f, c.test.ensures, c.accumulator-value.ensures, one-write)

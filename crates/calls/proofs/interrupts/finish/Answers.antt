@@ -1,10 +1,7 @@
 -- By the effect's answer.
 -- Assumes nothing.
-
+use Rattle.calls.proofs.Decided.{ended-interrupt}
 use Rattle.calls.proofs.interrupts.finish.Goals as goal
 
-pub returns-in-Refused : goal.returns-in-Refused
-returns-in-Refused c = rw (c.refused.ensures, c.in-Refused.is)
-
-pub returns-in-Done : goal.returns-in-Done
-returns-in-Done c = rw (c.with_registers.ensures, c.in-Done.is)
+pub returns : goal.returns
+returns c = let a = c.args in rw (c.by_effect.ensures, c.with_registers-after.ensures) (ended-interrupt a.effect.answer a.machine a.reads a.effect)

@@ -22,11 +22,11 @@ returns-then-mem-ne65536 c = rw (c.refused.ensures, ne_eqb _ 65536 c.if-mem-ne65
 
 pub returns-then-is_held_off : goal.returns-then-is_held_off
 unfolding interrupt_plan
-returns-then-is_held_off c = rw (c.accept.ensures, c.with_registers.ensures, c.after_held_off.ensures, eq-eqb _ 65536 c.if-mem-ne65536.false, ← c.is_held_off.ensures, c.if-is_held_off.true)
+returns-then-is_held_off c = rw (c.accept.ensures, c.with_registers.ensures, c.after_held_off-wait.ensures, eq-eqb _ 65536 c.if-mem-ne65536.false, ← c.is_held_off.ensures, c.if-is_held_off.true)
 
-pub returns-else-is_held_off : goal.returns-else-is_held_off
-returns-else-is_held_off c =
+pub returns : goal.returns
+returns c =
     let a = c.args in
     c.finish.ensures
-    ∙ (ap (λ (e : Effect). taken_by a.machine 3 e) (c.take.ensures ∙ ap (λ (v : Vector). taken a.machine.wait a.mem.now a.settings a.machine.regs v) c.vector_of.ensures)
+    ∙ (ap (λ (e : Effect). taken_by a.machine 3 e) (c.take-effect.ensures ∙ ap (λ (v : Vector). taken a.machine.wait a.mem.now a.settings a.machine.regs v) c.vector.ensures)
     ∙ sym (served a.mem.now a.machine a.settings a.which c.if-mem-ne65536.false (sym c.is_held_off.ensures ∙ c.if-is_held_off.false)))

@@ -4,4 +4,4 @@
 use Rattle.calls.proofs.plans.carry_out.Goals as goal
 
 pub returns : goal.returns
-returns c = (rw (c.store_all-devices.ensures.0, c.how_many.ensures), c.store_all-devices.ensures.1)
+returns c = (rw (c.store_all.ensures.0, c.how_many.ensures), c.store_all.ensures.1)

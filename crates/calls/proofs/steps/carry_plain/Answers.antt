@@ -1,13 +1,16 @@
 -- By the kind.
 -- Assumes nothing.
-use Rattle.std.proofs.Common.{◌≡◌, ℕ, ◌%◌, sym, ap, ◌∙◌, arith, rules}
+use Rattle.std.proofs.Common.{◌%◌, ◌∙◌, inl, inr, arith, rules}
 use Rattle.memory.specs.Writes.{stored}
 use Rattle.calls.specs.Steps.{finished}
 use Rattle.calls.proofs.Decided.{as-told, plain_byte, plain_word, plain_push, not-rest, nothing-done, byte-done, word-done}
 use Rattle.calls.proofs.steps.carry_plain.Goals as goal
 
-pub put_word-requires : goal.put_word-requires
-put_word-requires c =
+pub put-requires : goal.put-requires
+put-requires c = (search rules, omega arith)
+
+pub put-requires-in-Word : goal.put-requires-in-Word
+put-requires-in-Word c =
     let a = c.args in
     let q = plain_word a.settings a.decision c.in-Word.is c.requires.1 in
     let h = q.0 in
@@ -32,10 +35,13 @@ pub returns-in-Change : goal.returns-in-Change
 returns-in-Change c =
     let a = c.args in
     let d = a.decision in
-    let e = c.in-Change.is in
-    let t = as-told a.machine a.settings a.mem.now d e in
-    let k = nothing-done a.settings a.machine d.cycles d.arms d.reads d.regs a.mem.now in
-    (c.did.ensures ∙ (k.report ∙ t.0), k.memory ∙ t.1)
+    elim c.in-Change.is [
+      | inl e ↦
+          let t = as-told a.machine a.settings a.mem.now d e in
+          let k = nothing-done a.settings a.machine d.cycles d.arms d.reads d.regs a.mem.now in
+          (c.did.ensures ∙ (k.report ∙ t.0), k.memory ∙ t.1)
+      | inr e ↦ absurd (not-rest a.settings d e c.requires.1)
+    ]
 
 pub returns-in-Byte : goal.returns-in-Byte
 returns-in-Byte c =
@@ -45,7 +51,7 @@ returns-in-Byte c =
     let t = as-told a.machine a.settings a.mem.now d e in
     let q = plain_byte a.settings d e c.requires.1 in
     let k = byte-done a.settings a.machine d.cycles d.arms d.reads d.regs d.at (d.value % 256) a.mem.now q.0 q.1 in
-    (c.did-in-Byte.ensures ∙ (k.report ∙ t.0), c.put_byte.ensures ∙ (k.memory ∙ t.1))
+    (c.did-in-Byte.ensures ∙ (k.report ∙ t.0), c.put.ensures ∙ (k.memory ∙ t.1))
 
 pub returns-in-Word : goal.returns-in-Word
 returns-in-Word c =
@@ -55,7 +61,7 @@ returns-in-Word c =
     let t = as-told a.machine a.settings a.mem.now d e in
     let q = plain_word a.settings d e c.requires.1 in
     let k = word-done a.settings a.machine d.cycles d.arms d.reads d.regs d.at d.value a.mem.now q.0 q.1 in
-    (c.did-in-Word.ensures ∙ (k.report ∙ t.0), c.put_word.ensures ∙ (k.memory ∙ t.1))
+    (c.did-in-Word.ensures ∙ (k.report ∙ t.0), c.put-in-Word.ensures ∙ (k.memory ∙ t.1))
 
 pub returns-in-Push : goal.returns-in-Push
 returns-in-Push c =
@@ -66,8 +72,3 @@ returns-in-Push c =
     let q = plain_push a.settings d e c.requires.1 in
     let k = c.carry_push.ensures a.settings q.1 in
     (k.0 ∙ t.0, k.1 ∙ t.1)
-
-pub returns-in-Rest : goal.returns-in-Rest
-returns-in-Rest c =
-    let a = c.args in
-    absurd (not-rest a.settings a.decision c.in-Rest.is c.requires.1)

@@ -5,4 +5,4 @@ use Rattle.calls.proofs.steps.change.Goals as goal
 
 pub returns : goal.returns
 unfolding finished
-returns c = rw (c.advance.ensures, c.none.ensures)
+returns c = rw (c.accept.ensures, c.advance.ensures)

@@ -1,12 +1,9 @@
 -- By the effect's answer.
 -- Assumes nothing.
 use Rattle.calls.specs.Steps.{finished}
+use Rattle.calls.proofs.Decided.{ended-step}
 use Rattle.calls.proofs.steps.finish.Goals as goal
 
-pub returns-in-Refused : goal.returns-in-Refused
+pub returns : goal.returns
 unfolding finished
-returns-in-Refused c = rw (c.refused.ensures, c.in-Refused.is)
-
-pub returns-in-Done : goal.returns-in-Done
-unfolding finished
-returns-in-Done c = rw (c.advance.ensures, c.in-Done.is)
+returns c = let a = c.args in rw (c.by_effect.ensures, c.counted-after.ensures) (ended-step a.effect.answer a.machine a.cycles a.arms a.reads a.effect)

@@ -1,6 +1,6 @@
 -- 1, then 2, then the instruction.
 -- Assumes nothing.
-use Rattle.std.proofs.Common.{eq-eqb, ne_eqb}
+use Rattle.std.proofs.Common.{inl, inr, eq-eqb, ne_eqb}
 use Rattle.machine.specs.Fence.{barred}
 use Rattle.calls.specs.Steps.{reached, step_plan}
 use Rattle.calls.proofs.steps.plan_step.Goals as goal
@@ -15,8 +15,6 @@ returns-in-Running c = rw (c.plan_running.ensures, eq-eqb _ 65536 c.if-mem-ne655
 
 pub returns-in-Cwai : goal.returns-in-Cwai
 unfolding step_plan reached barred
-returns-in-Cwai c = rw (c.refused-in-Cwai.ensures, eq-eqb _ 65536 c.if-mem-ne65536.false, c.in-Cwai.is)
-
-pub returns-in-Sync : goal.returns-in-Sync
-unfolding step_plan reached barred
-returns-in-Sync c = rw (c.refused-in-Sync.ensures, eq-eqb _ 65536 c.if-mem-ne65536.false, c.in-Sync.is)
+returns-in-Cwai c =
+    let f = eq-eqb _ 65536 c.if-mem-ne65536.false in
+    elim c.in-Cwai.is [ inl e ↦ rw (c.refused-in-Cwai.ensures, f, e) | inr e ↦ rw (c.refused-in-Cwai.ensures, f, e) ]

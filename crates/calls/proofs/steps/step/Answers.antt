@@ -1,6 +1,6 @@
 -- 1, then 2, then the instruction.
 -- Assumes nothing.
-use Rattle.std.proofs.Common.{◌∙◌, eq-eqb, ne_eqb}
+use Rattle.std.proofs.Common.{◌∙◌, inl, inr, eq-eqb, ne_eqb}
 use Rattle.memory.specs.Writes.{stored}
 use Rattle.machine.specs.Fence.{barred}
 use Rattle.calls.specs.Steps.{reached, step_plan}
@@ -20,9 +20,8 @@ returns-in-Running c = (
 pub returns-in-Cwai : goal.returns-in-Cwai
 unfolding step_plan reached stored barred
 returns-in-Cwai c =
-    (c.refuse-in-Cwai.ensures c.args.settings ∙ rw (eq-eqb _ 65536 c.if-mem-ne65536.false, c.in-Cwai.is), rw (eq-eqb _ 65536 c.if-mem-ne65536.false, c.in-Cwai.is))
-
-pub returns-in-Sync : goal.returns-in-Sync
-unfolding step_plan reached stored barred
-returns-in-Sync c =
-    (c.refuse-in-Sync.ensures c.args.settings ∙ rw (eq-eqb _ 65536 c.if-mem-ne65536.false, c.in-Sync.is), rw (eq-eqb _ 65536 c.if-mem-ne65536.false, c.in-Sync.is))
+    let f = eq-eqb _ 65536 c.if-mem-ne65536.false in
+    elim c.in-Cwai.is [
+      | inl e ↦ (c.refuse-in-Cwai.ensures c.args.settings ∙ rw (f, e), rw (f, e))
+      | inr e ↦ (c.refuse-in-Cwai.ensures c.args.settings ∙ rw (f, e), rw (f, e))
+    ]

@@ -1,7 +1,6 @@
 -- Two prefixes, and every other byte is an opcode of the plain page.
 -- Assumes nothing.
-use borrow.Author.Rules.{rules}
-use Rattle.std.proofs.Common.{ne_eqb}
+use Rattle.std.proofs.Common.{rules, ne_eqb}
 use Rattle.decode.specs.Decode.{located}
 use Rattle.decode.proofs.instruction.locate.Goals as goal
 

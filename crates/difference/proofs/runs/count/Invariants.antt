@@ -8,6 +8,3 @@ use Rattle.difference.proofs.runs.count.Given as goal
 
 abbrev pub invariant-loop-i : goal.invariant-loop-i
 invariant-loop-i l = (l.i ≤ 65536) × ((l.n ≤ l.i) × (l.n + length (runs_from l.a l.b (65536 - l.i) l.first l.i) ≡ length (runs l.a l.b)))
-
-abbrev pub decreases-loop-i : goal.decreases-loop-i
-decreases-loop-i l = 65536 - l.i

@@ -10,34 +10,26 @@ use Rattle.difference.specs.Differences.{run_up_to, runs_from, runs}
 use Rattle.difference.specs.Compare.{laid_out}
 use Rattle.difference.proofs.Turns.{one_at_most, up-byte, put-equal, apart-on}
 use Rattle.difference.proofs.runs.put.Goals as goal
-use Rattle.difference.proofs.runs.put.Goals.{then-a-i, else-a-i}
+use Rattle.difference.proofs.runs.put.Goals.{then-x-b, else-x-b}
 
 pub loop-i-init : goal.loop-i-init
 unfolding runs
 loop-i-init c = (omega arith, (omega arith, (refl, refl)))
-
-pub put_one-at-requires : goal.put_one-at-requires
-put_one-at-requires c = omega arith
-
-pub put_one-requires : goal.put_one-requires
-put_one-requires c = omega arith
-
-pub shape_of-list : goal.shape_of-list
-shape_of-list c = ap length c.put_one.ensures.1 ∙ length-sets c.loop-i.list c.loop-i.at (laid_out (run_up_to c.loop-i.first c.loop-i.i)) ∙ c.loop-i.invariant.1.1.0
 
 pub returns : goal.returns
 unfolding runs_from
 returns c =
     let l = c.loop-i in
     let z : 65536 - l.i ≡ 0 = omega arith in
-    c.put_one.ensures.1 ∙ rw z at l.invariant.1.1.1
+    let e : length c.args.a.now ≡ l.i = omega arith in
+    rw e at c.put_one.ensures.1 ∙ rw z at l.invariant.1.1.1
 
 pub loop-i-preserved : goal.loop-i-preserved
 loop-i-preserved c =
     let l = c.loop-i in
     let a = c.args in
-    elim c.if-a-i.branch [
-      | then-a-i w ↦
+    elim c.if-x-b.branch [
+      | then-x-b w ↦
           (let list = w.list-is ∙ w.put_one-at.ensures.1 in
           let at = w.at-is ∙ w.put_one-at.ensures.0 in (
             omega arith,
@@ -45,10 +37,10 @@ loop-i-preserved c =
               omega (arith, at, up-byte l.first l.i, one_at_most (ltb l.first l.i)),
               (
                 ap length list ∙ length-sets l.list l.at (laid_out (run_up_to l.first l.i)) ∙ l.invariant.1.1.0,
-                rw (list, at, w.first-is) (put-equal a.a.now a.b.now l.first l.i (omega arith) w.if-a-i.true l.at l.list ∙ l.invariant.1.1.1),
+                rw (list, at, w.first-is) (put-equal a.a.now a.b.now l.first l.i (omega arith) w.if-x-b.true l.at l.list ∙ l.invariant.1.1.1),
               ),
             ),
           ))
-      | else-a-i w ↦
-          (omega arith, (omega (arith, w.at-is), (ap length w.list-is ∙ l.invariant.1.1.0, rw (w.list-is, w.at-is, w.first-is, apart-on a.a.now a.b.now l.first l.i (omega arith) w.if-a-i.false) l.invariant.1.1.1)))
+      | else-x-b w ↦
+          (omega arith, (omega (arith, w.at-is), (ap length w.list-is ∙ l.invariant.1.1.0, rw (w.list-is, w.at-is, w.first-is, apart-on a.a.now a.b.now l.first l.i (omega arith) w.if-x-b.false) l.invariant.1.1.1)))
     ]

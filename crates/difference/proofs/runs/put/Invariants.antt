@@ -12,6 +12,3 @@ abbrev pub invariant-loop-i : goal.invariant-loop-i
 invariant-loop-i l =
     (l.i ≤ 65536) × ((l.at ≤ l.from + entry_size * l.i) × ((length l.list ≡ length l.initial.list)
     × (sets l.list l.at (laid_out (runs_from l.a l.b (65536 - l.i) l.first l.i)) ≡ sets l.initial.list l.from (laid_out (runs l.a l.b)))))
-
-abbrev pub decreases-loop-i : goal.decreases-loop-i
-decreases-loop-i l = 65536 - l.i

@@ -6,5 +6,5 @@ use Rattle.disassembly.proofs.names.with_list.Goals as goal
 
 pub returns : goal.returns
 returns c =
-    rw (c.with_slot.ensures, c.with_slot-pointer.ensures, c.with_slot-y.ensures, c.with_slot-x.ensures, c.with_slot-page.ensures, c.with_slot-b.ensures, c.with_slot-a.ensures, c.with_slot-codes.ensures, c.name-other.ensures, c.word.ensures, c.other.ensures)
+    rw (c.with_slot.ensures, c.with_slot-text-7.ensures, c.with_slot-text-6.ensures, c.with_slot-text-5.ensures, c.with_slot-text-4.ensures, c.with_slot-text-3.ensures, c.with_slot-text-2.ensures, c.with_slot-text.ensures, c.name-other.ensures, c.word.ensures, c.other.ensures)
     (simp (grown-grown, append_assoc))

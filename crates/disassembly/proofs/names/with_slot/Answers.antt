@@ -17,8 +17,8 @@ returns-then-post-weight-eq0-2 c =
     let a = c.args in
     rw (c.with_name.ensures, ne_eqb (a.post / a.weight % 2) 0 c.if-post-weight-eq0.false, eq-eqb (a.post % a.weight) 0 c.if-post-weight-eq0-2.true)
 
-pub returns : goal.returns
+pub returns-else-post-weight-eq0-2 : goal.returns-else-post-weight-eq0-2
 unfolding slot_text
-returns c =
+returns-else-post-weight-eq0-2 c =
     let a = c.args in
     rw (c.with_index.ensures, ne_eqb (a.post / a.weight % 2) 0 c.if-post-weight-eq0.false, ne_eqb (a.post % a.weight) 0 c.if-post-weight-eq0-2.false)

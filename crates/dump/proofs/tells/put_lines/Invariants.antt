@@ -9,8 +9,5 @@ use Rattle.dump.proofs.tells.put_lines.Given as goal
 
 abbrev pub invariant-loop-k : goal.invariant-loop-k
 invariant-loop-k l =
-    (l.k ≤ l.count) × ((l.at ≤ 48 * l.k) × ((length l.out ≡ length l.initial.out) × ((l.at + length (list_lines l.list (l.count - l.k) l.k) ≡ length (list_lines l.list l.count 0))
-    × (sets l.out l.at (list_lines l.list (l.count - l.k) l.k) ≡ sets l.initial.out 0 (list_lines l.list l.count 0)))))
-
-abbrev pub decreases-loop-k : goal.decreases-loop-k
-decreases-loop-k l = l.count - l.k
+    (l.at ≤ 48 * l.k) × ((length l.out ≡ length l.initial.out) × ((l.at + length (list_lines l.list (l.count - l.k) l.k) ≡ length (list_lines l.list l.count 0))
+    × (sets l.out l.at (list_lines l.list (l.count - l.k) l.k) ≡ sets l.initial.out 0 (list_lines l.list l.count 0))))

@@ -1,29 +1,24 @@
--- The length, the left dump, the right one; and then their differences.
+-- Two dumps and their differences; else no second part, or a part that is no dump.
 -- Assumes nothing.
 use mathlib.Core.Path.{sym, ◌∙◌}
-use native.Mathlib.Omega.{arith}
-use lib.Seq.{length-take-le}
-use Rattle.dump.proofs.Telling.{too_short, left-malformed, right-malformed, both_told, right-part}
+use Rattle.dump.proofs.Telling.{too_short, left-malformed, right-malformed, both_told}
 use Rattle.dump.proofs.tells.tell.Goals as goal
+use Rattle.dump.proofs.tells.tell.Goals.{in_default-via-in-Some+then-is_dump+else-is_dump-2, in_default-via-in-Some+else-is_dump, in_default-via-in_default}
 
-pub returns-then-input-lt-DUMP : goal.returns-then-input-lt-DUMP
-returns-then-input-lt-DUMP c = rw (too_short c.args.input.now c.if-input-lt-DUMP.true) c.put_refusal.ensures
+pub returns-in-Some : goal.returns-in-Some
+returns-in-Some c =
+    let h = c.in-Some.ensures.cases in
+    rw (both_told c.args.input.now (rw h.1 at (sym c.is_dump.ensures ∙ c.if-is_dump.true)) (rw h.2 at (sym c.is_dump-then-is_dump.ensures ∙ c.if-is_dump-2.true)))
+    (rw (h.1, h.2) at c.put_differences.ensures)
 
-pub slice_bounds-left-end : goal.slice_bounds-left-end
-slice_bounds-left-end c = sym (length-take-le 65568 c.args.input.now (omega arith))
-
-pub returns-then-not-is_dump : goal.returns-then-not-is_dump
-returns-then-not-is_dump c = rw (left-malformed c.args.input.now (sym c.is_dump.ensures ∙ c.if-not-is_dump.true)) c.put_refusal-then-not-is_dump.ensures
-
-pub returns-then-not-is_dump-2 : goal.returns-then-not-is_dump-2
-returns-then-not-is_dump-2 c =
-    rw (right-malformed c.args.input.now (sym c.is_dump.ensures ∙ c.if-not-is_dump.false) (rw (right-part c.args.input.now) at (sym c.is_dump-2.ensures) ∙ c.if-not-is_dump-2.true))
-    c.put_refusal-then-not-is_dump-2.ensures
-
-pub put_differences-requires : goal.put_differences-requires
-put_differences-requires c = (sym c.is_dump.ensures ∙ c.if-not-is_dump.false, sym c.is_dump-2.ensures ∙ c.if-not-is_dump-2.false)
-
-pub returns : goal.returns
-returns c =
-    rw (both_told c.args.input.now (sym c.is_dump.ensures ∙ c.if-not-is_dump.false) (rw (right-part c.args.input.now) at (sym c.is_dump-2.ensures) ∙ c.if-not-is_dump-2.false))
-    (rw (right-part c.args.input.now) at c.put_differences.ensures)
+pub returns-in_default : goal.returns-in_default
+returns-in_default c =
+    elim c.in_default.branch [
+      | in_default-via-in-Some+then-is_dump+else-is_dump-2 w ↦
+          (let h = w.in-Some.ensures.cases in
+          rw (right-malformed c.args.input.now (rw h.1 at (sym w.is_dump.ensures ∙ w.if-is_dump.true)) (rw h.2 at (sym w.is_dump-then-is_dump.ensures ∙ w.if-is_dump-2.false))) c.put_refusal.ensures)
+      | in_default-via-in-Some+else-is_dump w ↦
+          (let h = w.in-Some.ensures.cases in
+          rw (left-malformed c.args.input.now (rw h.1 at (sym w.is_dump.ensures ∙ w.if-is_dump.false))) c.put_refusal.ensures)
+      | in_default-via-in_default w ↦ rw (too_short c.args.input.now w.in_default.ensures.cases) c.put_refusal.ensures
+    ]

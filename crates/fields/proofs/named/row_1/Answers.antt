@@ -1,8 +1,8 @@
 -- Ten names; every other column is empty.
 -- Assumes nothing.
+use Rattle.std.specs.Prelude.{None}
 use mathlib.Core.Path.{refl}
 use mathlib.Core.List.{[], ◌∷◌}
-use Rattle.opcodes.specs.declared.Place.TheVariants.{None}
 use Rattle.fields.specs.Named.{row_one}
 use Rattle.fields.proofs.Places.{rest}
 use borrow.Author.Rules.{rules}

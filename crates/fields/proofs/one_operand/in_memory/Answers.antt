@@ -3,18 +3,18 @@
 use Rattle.fields.specs.OneOperand.{in_memory}
 use Rattle.fields.proofs.one_operand.in_memory.Goals as goal
 
+pub returns-in_err-unary : goal.returns-in_err-unary
+unfolding in_memory
+returns-in_err-unary c = rw (c.from_residual.ensures, ← c.operation.ensures, c.in_err-unary.was)
+
 pub returns-in-Change : goal.returns-in-Change
 unfolding in_memory
-returns-in-Change c = rw (c.entry_at.ensures, ← c.operation.ensures, c.in-Change.is)
+returns-in-Change c = rw (c.entry_at.ensures, ← c.operation.ensures, c.in_ok-unary.was, c.in-Change.is)
 
 pub returns-in-Test : goal.returns-in-Test
 unfolding in_memory
-returns-in-Test c = rw (c.entry_at-in-Test.ensures, ← c.operation.ensures, c.in-Test.is)
+returns-in-Test c = rw (c.entry_at-in-Test.ensures, ← c.operation.ensures, c.in_ok-unary.was, c.in-Test.is)
 
 pub returns-in-Jump : goal.returns-in-Jump
 unfolding in_memory
-returns-in-Jump c = rw (c.entry_at-in-Jump.ensures, ← c.operation.ensures, c.in-Jump.is)
-
-pub returns-in-Nothing : goal.returns-in-Nothing
-unfolding in_memory
-returns-in-Nothing c = rw (← c.operation.ensures, c.in-Nothing.is)
+returns-in-Jump c = rw (c.entry_at-in-Jump.ensures, ← c.operation.ensures, c.in_ok-unary.was, c.in-Jump.is)

@@ -2,10 +2,9 @@
 -- Assumes nothing.
 use mathlib.Core.Path.{refl}
 use mathlib.Core.List.{[], ◌∷◌}
-use Rattle.fields.specs.declared.one_operand.OneOperand.TheVariants.{Nothing}
 use Rattle.fields.specs.OneOperand.{one_operand}
 use Rattle.fields.proofs.Places.{rest}
-use borrow.Author.Rules.{rules}
+use Rattle.std.proofs.Common.{rules, None}
 use Rattle.fields.proofs.one_operand.operation.Goals as goal
 
 pub returns-in-0 : goal.returns-in-0
@@ -58,4 +57,4 @@ returns-in-15 c = rw c.in-15.is
 
 pub returns-in_default : goal.returns-in_default
 unfolding one_operand
-returns-in_default c = rest one_operand Nothing (0xf ∷ 0xe ∷ 0xd ∷ 0xc ∷ 0xa ∷ 9 ∷ 8 ∷ 7 ∷ 6 ∷ 4 ∷ 3 ∷ 0 ∷ []) 256 c.args.column refl (search rules) (search rules)
+returns-in_default c = rest one_operand None (0xf ∷ 0xe ∷ 0xd ∷ 0xc ∷ 0xa ∷ 9 ∷ 8 ∷ 7 ∷ 6 ∷ 4 ∷ 3 ∷ 0 ∷ []) 256 c.args.column refl (search rules) (search rules)

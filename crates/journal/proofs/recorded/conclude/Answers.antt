@@ -1,5 +1,4 @@
 -- Refused, full, or recorded.
--- the record does not fit
 -- Assumes nothing.
 use Prim.Native.Nat.{◌+◌, ◌≤◌}
 use mathlib.Core.Path.{◌≡◌, refl, sym, ap, ◌∙◌}
@@ -14,13 +13,13 @@ use Rattle.journal.proofs.Laying.{placed}
 use Rattle.journal.proofs.recorded.conclude.Goals as goal
 
 -- the record does not fit
-pub returns-then-journal-bytes : goal.returns-then-journal-bytes
-returns-then-journal-bytes c =
+pub returns-then-journal-twin : goal.returns-then-journal-twin
+returns-then-journal-twin c =
     let a = c.args in
     let s = in_hand a.mem.now a.journal.now a.twin in
     let z = record-size a.settings a.plan s _ _ (c.count_entries-n.ensures.1 a.mem.now) c.record_length-size.ensures in
-    refused-leaves (plan_answer a.settings a.plan s) s (recorded a.settings a.plan s) (reported a.settings.ram_top (listed a.plan.writes)) a.plan.reads (length (listed a.plan.writes)) _ c.refused-then-journal-bytes.result
-    (plan-full a.settings a.plan s c.in-Done.is (omega (arith, z, c.if-journal-bytes.true))) c.refused-then-journal-bytes.ensures
+    refused-leaves (plan_answer a.settings a.plan s) s (recorded a.settings a.plan s) (reported a.settings.ram_top (listed a.plan.writes)) a.plan.reads (length (listed a.plan.writes)) _ c.refused-then-journal-twin.result
+    (plan-full a.settings a.plan s c.in_default.is (omega (arith, z, c.if-journal-twin.true))) c.refused-then-journal-twin.ensures
 
 pub write_record-requires : goal.write_record-requires
 write_record-requires c =
@@ -28,25 +27,25 @@ write_record-requires c =
     let n = c.count_entries-n.ensures in
     (n.1 a.mem.now, (n.0, (omega arith, c.requires.0)))
 
-pub returns-in-Refused : goal.returns-in-Refused
-returns-in-Refused c =
+pub returns-in-Err : goal.returns-in-Err
+returns-in-Err c =
     let a = c.args in
     let s = in_hand a.mem.now a.journal.now a.twin in
     refused-leaves (plan_answer a.settings a.plan s) s (recorded a.settings a.plan s) (reported a.settings.ram_top (listed a.plan.writes)) a.plan.reads (length (listed a.plan.writes)) _ c.refused.result
-    (plan-refused a.settings a.plan s _ c.in-Refused.is) c.refused.ensures
+    (plan-refused a.settings a.plan s _ c.in-Err.is) c.refused.ensures
 
-pub returns-else-journal-bytes : goal.returns-else-journal-bytes
+pub returns : goal.returns
 unfolding record_for
-returns-else-journal-bytes c =
+returns c =
     let a = c.args in
     let s = in_hand a.mem.now a.journal.now a.twin in
-    let d = c.in-Done.is in
+    let d = c.in_default.is in
     let r = c.record_length-size.ensures in
     let z = record-size a.settings a.plan s _ _ (c.count_entries-n.ensures.1 a.mem.now) r in
-    let room : a.twin.bytes + length (record_for a.settings a.plan s) ≤ length a.journal.now = omega (arith, z, c.if-journal-bytes.false, c.requires.1.0) in
+    let room : a.twin.bytes + length (record_for a.settings a.plan s) ≤ length a.journal.now = omega (arith, z, c.if-journal-twin.false, c.requires.1.0) in
     let w = c.carry_out-report.ensures in
     let m = ap (λ (x : Report). x.machine) w.0 in
-    rw m
-    (recorded-leaves a.settings a.plan s _ _ _ _ _ _ a.plan.answer
-    (plan-fits a.settings a.plan s d room) d z (ap (λ (x : Report). x.devices) w.0) (ap (λ (x : Report). x.reads) w.0) (ap (λ (x : Report). x.writes) w.0) w.1
+    rw (c.after.ensures, m)
+    (recorded-leaves a.settings a.plan s _ _ _ _ _ _ _
+    (plan-fits a.settings a.plan s d room) refl z (ap (λ (x : Report). x.devices) w.0) (ap (λ (x : Report). x.reads) w.0) (ap (λ (x : Report). x.writes) w.0) w.1
     (placed a.twin.bytes (record_length c.count_entries-n.result) (record_for a.settings a.plan s) a.journal.now c.write_record.new.rest (sym r ∙ z) (omega (arith, r, z, room)) c.write_record.ensures))

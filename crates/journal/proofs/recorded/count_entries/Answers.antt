@@ -1,76 +1,38 @@
--- After i turns the entries of the first i writes are counted.
+-- After so many turns the entries of so many writes are counted.
 -- Assumes nothing.
-use borrow.Author.Tests.{ltb-true, ltb-false}
-use Prim.Native.Nat.{ℕ, ◌+◌, ◌≤◌, ◌<◌, ◌-◌}
-use mathlib.Core.Path.{◌≡◌, refl, ap, ◌∙◌}
-use mathlib.Core.List.{List, []}
-use mathlib.Core.Logic.{inl, inr}
-use native.Mathlib.Omega.{arith}
-use lib.ListN.{length, take, length-map}
-use Rattle.memory.proofs.Folds.{all-taken}
+use Rattle.std.proofs.Common.{◌≡◌, ℕ, ◌+◌, ◌≤◌, List, [], length, take, ap, refl, sym, ◌∙◌, arith, take_all}
 use Rattle.journal.specs.Record.{most_stored}
 use Rattle.journal.specs.Recorded.{saved_for}
-use Rattle.journal.proofs.Laying.{saved-twelve, turn-count}
-use borrow.Author.Rules.{rules}
+use Rattle.journal.proofs.Laying.{saved-few, saved-first, turn-count}
 use Rattle.journal.proofs.recorded.count_entries.Goals as goal
 
-pub loop-i-init : goal.loop-i-init
+pub loop-one-init : goal.loop-one-init
 unfolding saved_for
-loop-i-init c = (omega arith, (search rules, λ mem. refl))
-
-pub offset_bounds-list-i : goal.offset_bounds-list-i
-offset_bounds-list-i c = omega arith
-
-pub bounds-list-i : goal.bounds-list-i
-bounds-list-i c = omega arith
-
-pub entries_for-n-requires : goal.entries_for-n-requires
-entries_for-n-requires c = tt
+loop-one-init c = λ mem. refl
 
 -- whatever memory is
 pub overflow_add-n : goal.overflow_add-n
 overflow_add-n c =
-    let l = c.loop-i in
+    let l = c.loop-one in
     let a = c.args in
-    let t : l.i < most_stored = omega arith in
-    let e : l.n + c.entries_for-n.result ≡ length (saved_for a.ram_top (take (l.i + 1) a.writes.list) []) =
+    let ws = c.as_slice-one-items.result.now in
+    let e : l.n + c.entries_for-n.result ≡ length (saved_for a.ram_top (take (l.one-index + 1) ws) []) =
     ap (λ (k : ℕ). l.n + k) (c.entries_for-n.ensures [])
-    ∙ turn-count a.ram_top a.writes.list l.i _ l.invariant.1.0 t [] l.n (l.invariant.1.1 []) in
-    let s = saved-twelve a.ram_top a.writes.list (l.i + 1) [] l.invariant.1.0 (omega arith) in
-    omega (arith, e, s)
+    ∙ turn-count a.ram_top ws l.one-index _ c.loop-one-test.true [] l.n (l.invariant []) in
+    omega (arith, e, saved-first a.ram_top ws (l.one-index + 1) [], c.as_slice-one-items.ensures.few)
 
-pub overflow_add-i : goal.overflow_add-i
-overflow_add-i c = omega arith
+pub loop-one-preserved : goal.loop-one-preserved
+loop-one-preserved c =
+    let l = c.loop-one in
+    λ mem.
+    ap (λ (k : ℕ). l.n + k) (c.entries_for-n.ensures mem)
+    ∙ turn-count c.args.ram_top c.as_slice-one-items.result.now l.one-index _ c.loop-one-test.true mem l.n (l.invariant mem)
 
-pub loop-i-smaller : goal.loop-i-smaller
-loop-i-smaller c = omega arith
-
-pub loop-i-preserved : goal.loop-i-preserved
-loop-i-preserved c =
-    let l = c.loop-i in
+pub returns : goal.returns
+returns c =
+    let l = c.loop-one in
     let a = c.args in
-    let t : l.i < most_stored = omega arith in (
-      omega (arith, ltb-true, c),
-      (
-        l.invariant.1.0,
-        λ mem.
-            ap (λ (k : ℕ). l.n + k) (c.entries_for-n.ensures mem)
-            ∙ turn-count a.ram_top a.writes.list l.i _ l.invariant.1.0 t mem l.n (l.invariant.1.1 mem),
-      ),
-    )
-
-pub returns-else-i-count : goal.returns-else-i-count
-returns-else-i-count c =
-    let a = c.args in
-    let l = c.loop-i in
-    let e = all-taken a.writes.list l.i a.writes.count l.invariant.1.0 l.invariant.0 (inl c.if-i-count.false) in
-    let s = saved-twelve a.ram_top a.writes.list l.i [] l.invariant.1.0 l.invariant.0.0 in
-    (omega (arith, s, l.invariant.1.1 [], l.invariant.0.0), λ mem. l.invariant.1.1 mem ∙ rw e)
-
-pub returns-after-loop-i : goal.returns-after-loop-i
-returns-after-loop-i c =
-    let a = c.args in
-    let l = c.loop-i in
-    let e = all-taken a.writes.list l.i a.writes.count l.invariant.1.0 l.invariant.0 (inr c.loop-i-test.false) in
-    let s = saved-twelve a.ram_top a.writes.list l.i [] l.invariant.1.0 l.invariant.0.0 in
-    (omega (arith, s, l.invariant.1.1 [], l.invariant.0.0), λ mem. l.invariant.1.1 mem ∙ rw e)
+    let ws = c.as_slice-one-items.result.now in
+    let t : take l.one-index ws ≡ ws = take_all l.one-index ws c.loop-one-test.false in
+    let k : (mem : List ℕ) → l.n ≡ length (saved_for a.ram_top ws mem) = λ mem. rw t at (l.invariant mem) in
+    rw (← c.as_slice-one-items.ensures.writes) (omega (arith, k [], saved-few a.ram_top ws [], c.as_slice-one-items.ensures.few), k)

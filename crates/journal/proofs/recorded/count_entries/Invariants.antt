@@ -1,23 +1,8 @@
--- After i turns the entries of the first i writes are counted.
+-- After so many turns the entries of so many writes are counted.
 -- Assumes nothing.
-use borrow.Author.Tests.{ltb-true, ltb-false}
-use Prim.Native.Nat.{ℕ, ◌+◌, ◌≤◌, ◌<◌, ◌-◌}
-use mathlib.Core.Path.{◌≡◌, refl, ap, ◌∙◌}
-use mathlib.Core.List.{List, []}
-use mathlib.Core.Logic.{inl, inr}
-use native.Mathlib.Omega.{arith}
-use lib.ListN.{length, take, length-map}
-use Rattle.memory.proofs.Folds.{all-taken}
-use Rattle.journal.specs.Record.{most_stored}
+use Rattle.std.proofs.Common.{◌≡◌, ℕ, List, length, take}
 use Rattle.journal.specs.Recorded.{saved_for}
-use Rattle.journal.proofs.Laying.{saved-twelve, turn-count}
 use Rattle.journal.proofs.recorded.count_entries.Given as goal
 
-abbrev pub invariant-loop-i : goal.invariant-loop-i
-invariant-loop-i l =
-    ((l.i ≤ most_stored) × (l.i ≤ l.count))
-    × ((length l.list ≡ most_stored)
-    × ((mem : List ℕ) → l.n ≡ length (saved_for l.ram_top (take l.i l.list) mem)))
-
-abbrev pub decreases-loop-i : goal.decreases-loop-i
-decreases-loop-i l = most_stored - l.i
+abbrev pub invariant-loop-one : goal.invariant-loop-one
+invariant-loop-one l = (mem : List ℕ) → l.n ≡ length (saved_for l.ram_top (take l.one-index l.one-items) mem)

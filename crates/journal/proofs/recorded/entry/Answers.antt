@@ -1,11 +1,13 @@
 -- The three bytes of an entry.
 -- Assumes nothing.
-use mathlib.Core.Path.{◌≡◌, refl, sym, ap, ◌∙◌}
-use native.Mathlib.Omega.{arith}
+use Rattle.std.proofs.Common.{◌≡◌, ◌/◌, ◌%◌, ◌∙◌, arith}
 use Rattle.journal.specs.Record.{entries}
 use Rattle.machine.proofs.Header.{two}
 use Rattle.journal.proofs.recorded.entry.Goals as goal
 
 pub returns : goal.returns
 unfolding entries
-returns c = c.lay.ensures ∙ rw (two c.args.place (omega arith))
+returns c =
+    let p = c.args.place in
+    let high : p / 256 % 256 ≡ p / 256 = omega arith in
+    c.lay.ensures ∙ rw (c.to_be_bytes.ensures, two p (omega arith), high)

@@ -9,15 +9,20 @@ use Rattle.journal.proofs.recorded.record_plan.Goals as goal
 
 pub conclude-requires : goal.conclude-requires
 conclude-requires c =
-    let h = admitted-done _ _ _ _ (sym c.admits.ensures ∙ c.in-Done.is) in
+    let h = admitted-done _ _ _ _ (sym c.admits.ensures ∙ c.in_default.is) in
     (h.size, (h.within, h.counted))
 
-pub returns-in-Refused : goal.returns-in-Refused
-returns-in-Refused c =
+pub returns-in-Err-clause-leaves : goal.returns-in-Err-clause-leaves
+returns-in-Err-clause-leaves c =
     let a = c.args in
-    let s = in_hand a.mem.now a.journal.now a.twin in record { leaves = called-refused a.settings a.plan s _ c.refused.result (sym c.admits.ensures ∙ c.in-Refused.is) c.refused.ensures; typed = typed a.mem.now a.journal.now a.twin _ c.well_formed.1.1.0 (λ i. (c.slice_known-1.given i).fits) }
+    let s = in_hand a.mem.now a.journal.now a.twin in
+    called-refused a.settings a.plan s _ c.refused.result (sym c.admits.ensures ∙ c.in-Err.is) c.refused.ensures
 
-pub returns-in-Done : goal.returns-in-Done
-returns-in-Done c =
+pub returns-clause-leaves : goal.returns-clause-leaves
+returns-clause-leaves c =
     let a = c.args in
-    let s = in_hand a.mem.now a.journal.now a.twin in record { leaves = called-done a.settings a.plan s _ _ _ (sym c.admits.ensures ∙ c.in-Done.is) c.conclude.ensures; typed = typed a.mem.now a.journal.now a.twin _ c.well_formed.1.1.0 (λ i. (c.slice_known-1.given i).fits) }
+    let s = in_hand a.mem.now a.journal.now a.twin in
+    called-done a.settings a.plan s _ _ _ (sym c.admits.ensures ∙ c.in_default.is) c.conclude.ensures
+
+pub returns-clause-typed : goal.returns-clause-typed
+returns-clause-typed c = let a = c.args in typed a.mem.now a.journal.now a.twin _ c.well_formed.1.1.0 (λ i. (c.slice_known-1.given i).fits)

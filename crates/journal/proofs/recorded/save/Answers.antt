@@ -1,6 +1,7 @@
 -- The entry is laid where the write is stored.
 -- Assumes nothing.
 use mathlib.Core.Path.{◌≡◌, refl, sym, ap, ◌∙◌}
+use mathlib.Core.Logic.{inl, inr}
 use native.Mathlib.Nat.{add-zero}
 use native.Mathlib.Omega.{arith}
 use lib.ListN.{length}
@@ -24,8 +25,7 @@ returns-in-Stored c =
 
 pub returns-in-Device : goal.returns-in-Device
 unfolding entries
-returns-in-Device c = let e = sym c.lands.ensures ∙ c.in-Device.is in rw e (sym (add-zero _), refl)
-
-pub returns-in-Ignored : goal.returns-in-Ignored
-unfolding entries
-returns-in-Ignored c = let e = sym c.lands.ensures ∙ c.in-Ignored.is in rw e (sym (add-zero _), refl)
+returns-in-Device c = elim c.in-Device.is [
+  | inl e ↦ rw (sym c.lands.ensures ∙ e) (sym (add-zero _), refl)
+  | inr e ↦ rw (sym c.lands.ensures ∙ e) (sym (add-zero _), refl)
+]

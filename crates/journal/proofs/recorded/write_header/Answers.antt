@@ -10,8 +10,8 @@ returns c =
       c.lay-3.ensures,
       c.lay-2.ensures,
       c.lay.ensures,
-      c.counter_of-instructions.ensures,
-      c.counter_of-cycles.ensures,
-      c.front_of-front.ensures,
+      c.counter_of-2.ensures,
+      c.counter_of.ensures,
+      c.front_of.ensures,
     )
     (header-laid a.machine a.rest.now)

@@ -5,7 +5,7 @@ use Rattle.calls.proofs.Passing.{plain-free}
 use Rattle.journal.proofs.told.record_decided.Goals as goal
 
 pub conclude_told-requires : goal.conclude_told-requires
-conclude_told-requires c = ((c.requires.0, sym c.is_plain.ensures ∙ c.if-is_plain.true), c.requires.1)
+conclude_told-requires c = (sym c.is_plain.ensures ∙ c.if-is_plain.true, c.requires)
 
 pub returns-then-is_plain : goal.returns-then-is_plain
 returns-then-is_plain c =

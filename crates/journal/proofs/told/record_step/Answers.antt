@@ -4,7 +4,6 @@ use mathlib.Core.Path.{◌≡◌, refl, sym, ap, ◌∙◌}
 use mathlib.Core.Logic.{inl, inr}
 use lib.ListN.{length}
 use Rattle.memory.specs.Writes.{listed, reported}
-use Rattle.answers.specs.declared.Answer.{Answer}
 use Rattle.calls.specs.Plans.{fenced}
 use Rattle.calls.specs.Steps.{step_plan, reached}
 use Rattle.calls.specs.declared.Plan.{Plan}
@@ -26,12 +25,4 @@ returns-in-Cwai c =
     let s = in_hand a.mem.now a.journal.now a.twin in
     let p = step_plan a.mem.now a.twin.machine a.settings in
     refused-leaves (plan_answer a.settings p s) s (recorded a.settings p s) (reported a.settings.ram_top (listed p.writes)) p.reads (length (listed p.writes)) _ c.refused.result
-    (plan-refused a.settings p s _ (waiting-plan a.mem.now a.twin.machine a.settings c.requires.0 (inl c.in-Cwai.is))) c.refused.ensures
-
-pub returns-in-Sync : goal.returns-in-Sync
-returns-in-Sync c =
-    let a = c.args in
-    let s = in_hand a.mem.now a.journal.now a.twin in
-    let p = step_plan a.mem.now a.twin.machine a.settings in
-    refused-leaves (plan_answer a.settings p s) s (recorded a.settings p s) (reported a.settings.ram_top (listed p.writes)) p.reads (length (listed p.writes)) _ c.refused-in-Sync.result
-    (plan-refused a.settings p s _ (waiting-plan a.mem.now a.twin.machine a.settings c.requires.0 (inr c.in-Sync.is))) c.refused-in-Sync.ensures
+    (plan-refused a.settings p s _ (waiting-plan a.mem.now a.twin.machine a.settings c.requires.0 c.in-Cwai.is)) c.refused.ensures

@@ -10,15 +10,20 @@ use Rattle.journal.proofs.told.step.Goals as goal
 
 pub record_step-requires : goal.record_step-requires
 record_step-requires c =
-    let h = admitted-done _ _ _ _ (sym c.admits.ensures ∙ c.in-Done.is) in
+    let h = admitted-done _ _ _ _ (sym c.admits.ensures ∙ c.in_default.is) in
     (h.size, (h.within, h.counted))
 
-pub returns-in-Refused : goal.returns-in-Refused
-returns-in-Refused c =
+pub returns-in-Err-clause-leaves : goal.returns-in-Err-clause-leaves
+returns-in-Err-clause-leaves c =
     let a = c.args in
-    let s = in_hand a.mem.now a.journal.now a.twin in record { leaves = called-refused a.settings (step_plan a.mem.now a.twin.machine a.settings) s _ c.refused.result (sym c.admits.ensures ∙ c.in-Refused.is) c.refused.ensures; typed = typed a.mem.now a.journal.now a.twin _ c.well_formed.1.1.0 (λ i. (c.slice_known-1.given i).fits) }
+    let s = in_hand a.mem.now a.journal.now a.twin in
+    called-refused a.settings (step_plan a.mem.now a.twin.machine a.settings) s _ c.refused.result (sym c.admits.ensures ∙ c.in-Err.is) c.refused.ensures
 
-pub returns-in-Done : goal.returns-in-Done
-returns-in-Done c =
+pub returns-clause-leaves : goal.returns-clause-leaves
+returns-clause-leaves c =
     let a = c.args in
-    let s = in_hand a.mem.now a.journal.now a.twin in record { leaves = called-done a.settings (step_plan a.mem.now a.twin.machine a.settings) s _ _ _ (sym c.admits.ensures ∙ c.in-Done.is) c.record_step.ensures; typed = typed a.mem.now a.journal.now a.twin _ c.well_formed.1.1.0 (λ i. (c.slice_known-1.given i).fits) }
+    let s = in_hand a.mem.now a.journal.now a.twin in
+    called-done a.settings (step_plan a.mem.now a.twin.machine a.settings) s _ _ _ (sym c.admits.ensures ∙ c.in_default.is) c.record_step.ensures
+
+pub returns-clause-typed : goal.returns-clause-typed
+returns-clause-typed c = let a = c.args in typed a.mem.now a.journal.now a.twin _ c.well_formed.1.1.0 (λ i. (c.slice_known-1.given i).fits)

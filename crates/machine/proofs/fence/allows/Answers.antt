@@ -1,28 +1,16 @@
--- `allows`: the first i ranges do not have the place.
+-- `allows` is what `any` finds.
 -- Assumes nothing.
-use mathlib.Core.Bool.{true, false}
-use mathlib.Core.Path.{refl, sym, ◌∙◌}
-use native.Mathlib.Omega.{arith}
-use Rattle.machine.proofs.Fences.{range-turn, range-end}
+use mathlib.Core.Path.{◌∙◌}
+use Rattle.std.proofs.Common.{rules, tests}
+use Rattle.std.proofs.lemmas.Iterator.{YieldsList-from_slice}
+use Rattle.std.proofs.lemmas.Iterator.Search.{any_from_yields_List}
+use Rattle.memory.specs.Map.{within}
+use Rattle.machine.specs.declared.fence.Range.{Range}
+use Rattle.machine.proofs.Fences.{any-allows}
 use Rattle.machine.proofs.fence.allows.Goals as goal
-
-pub loop-i-init : goal.loop-i-init
-loop-i-init c = (omega arith, (c.well_formed.0.1.0.1, refl))
-
-pub returns-then-holds : goal.returns-then-holds
-returns-then-holds c =
-    let a = c.args in
-    let l = c.loop-i in
-    sym (l.invariant.1.1 ∙ (range-turn a.profile l.i a.place _ true (omega arith) (sym c.holds.ensures ∙ c.if-holds.true)))
-
-pub loop-i-preserved : goal.loop-i-preserved
-loop-i-preserved c =
-    let a = c.args in
-    let l = c.loop-i in
-    (omega arith, (l.invariant.1.0, l.invariant.1.1 ∙ (range-turn a.profile l.i a.place _ false (omega arith) (sym c.holds.ensures ∙ c.if-holds.false))))
 
 pub returns : goal.returns
 returns c =
-    let a = c.args in
-    let l = c.loop-i in
-    sym (l.invariant.1.1 ∙ range-end a.profile l.i a.place (omega arith))
+    let x = c.args in
+    any_from_yields_List (λ (r : Range). within r.first r.last x.place) _ _ _ c.any.ensures.ran (YieldsList-from_slice x.profile.now cc) (λ x b q k. search (rules, tests))
+    ∙ any-allows x.profile.now x.place

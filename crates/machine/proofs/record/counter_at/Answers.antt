@@ -17,4 +17,4 @@ pub returns : goal.returns
 returns c =
     let a = c.args in
     let e : a.at + 0 ≡ a.at = omega arith in
-    c.number_at.ensures.0 ∙ ap (λ (l : List ℕ). number_at l 0 8) (take_all (length a.r.now - a.at) (drop a.at a.r.now) (rw length-drop (omega arith))) ∙ number-drop a.r.now a.at 0 8 ∙ rw e
+    c.number_at.ensures ∙ ap (λ (l : List ℕ). number_at l 0 8) (take_all (length a.r.now - a.at) (drop a.at a.r.now) (rw length-drop (omega arith))) ∙ number-drop a.r.now a.at 0 8 ∙ rw e

@@ -21,4 +21,14 @@ returns c =
       dp = omega arith;
       cc = omega (arith, c.get_as_byte-cc.ensures);
     } in
-    rw (c.wait_byte-w.ensures, c.mark_byte-mark.ensures, c.get_as_byte-cc.ensures) (sym (spelled m f))
+    rw (
+      c.to_be_bytes-x.ensures,
+      c.to_be_bytes-y.ensures,
+      c.to_be_bytes-u.ensures,
+      c.to_be_bytes-s.ensures,
+      c.to_be_bytes-pc.ensures,
+      c.wait_byte-wait.ensures,
+      c.mark_byte-mark.ensures,
+      c.get_as_byte-cc.ensures,
+    )
+    (sym (spelled m f))

@@ -8,12 +8,12 @@ pub returns : goal.returns
 unfolding machine_of
 returns c =
     rw (
-      c.number_at-2.ensures.0,
-      c.number_at.ensures.0,
-      c.mark_of-armed.ensures,
-      c.byte_at-2.ensures,
-      c.wait_of-wait.ensures,
+      c.number_at.ensures,
+      c.number_at-2.ensures,
+      c.registers_of.ensures,
+      c.wait_of.ensures,
       c.byte_at.ensures,
-      c.registers_of-regs.ensures,
+      c.mark_of.ensures,
+      c.byte_at-2.ensures,
     )
     (simp single)

@@ -1,16 +1,17 @@
 -- 0, 1, and every other byte.
 -- Assumes nothing.
+use native.Mathlib.Omega.{arith}
 use Rattle.machine.specs.Record.{wait_of}
 use Rattle.machine.proofs.Header.{wait-rest}
 use Rattle.machine.proofs.record.wait_of.Goals as goal
 
-pub returns-then-b-eq0 : goal.returns-then-b-eq0
+pub returns-in-0 : goal.returns-in-0
 unfolding wait_of
-returns-then-b-eq0 c = rw c.if-b-eq0.true
+returns-in-0 c = rw c.in-0.is
 
-pub returns-then-b-eq1 : goal.returns-then-b-eq1
+pub returns-in-1 : goal.returns-in-1
 unfolding wait_of
-returns-then-b-eq1 c = rw c.if-b-eq1.true
+returns-in-1 c = rw c.in-1.is
 
-pub returns : goal.returns
-returns c = wait-rest _ c.if-b-eq0.false c.if-b-eq1.false
+pub returns-in_default : goal.returns-in_default
+returns-in_default c = wait-rest _ (omega arith) (omega arith)

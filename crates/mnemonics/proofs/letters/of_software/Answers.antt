@@ -4,10 +4,10 @@
 use Rattle.mnemonics.proofs.letters.of_software.Goals as goal
 
 pub returns-in-Swi : goal.returns-in-Swi
-returns-in-Swi c = rw (c.three.ensures, c.in-Swi.is)
+returns-in-Swi c = rw c.in-Swi.is
 
 pub returns-in-Swi2 : goal.returns-in-Swi2
-returns-in-Swi2 c = rw (c.four.ensures, c.in-Swi2.is)
+returns-in-Swi2 c = rw c.in-Swi2.is
 
 pub returns-in-Swi3 : goal.returns-in-Swi3
-returns-in-Swi3 c = rw (c.four-in-Swi3.ensures, c.in-Swi3.is)
+returns-in-Swi3 c = rw c.in-Swi3.is

@@ -1,12 +1,64 @@
--- The stem's three letters, and the accumulator's.
+-- An arm for each operation and accumulator.
 -- Assumes nothing.
-use Prim.Native.Nat.{ℕ}
-use mathlib.Core.Path.{ap}
-use mathlib.Core.List.{List, [], ◌∷◌, ◌++◌}
-use Rattle.mnemonics.specs.Mnemonics.{lettered, acc_letter}
-use Rattle.mnemonics.proofs.Stems.{three-letters}
+
 use Rattle.mnemonics.proofs.letters.on_acc.Goals as goal
 
-pub returns : goal.returns
-returns c = rw (c.three_and_acc.ensures, c.unary_stem-stem.ensures)
-    (ap (λ (l : List ℕ). lettered (l ++ (acc_letter c.args.acc ∷ []))) (three-letters c.args.unary))
+pub returns-in-A : goal.returns-in-A
+returns-in-A c = rw (c.in-Neg.is, c.in-A.is)
+
+pub returns-in-B : goal.returns-in-B
+returns-in-B c = rw (c.in-Neg.is, c.in-B.is)
+
+pub returns-in-A-acc : goal.returns-in-A-acc
+returns-in-A-acc c = rw (c.in-Com.is, c.in-A-acc.is)
+
+pub returns-in-B-acc : goal.returns-in-B-acc
+returns-in-B-acc c = rw (c.in-Com.is, c.in-B-acc.is)
+
+pub returns-in-A-acc-2 : goal.returns-in-A-acc-2
+returns-in-A-acc-2 c = rw (c.in-Lsr.is, c.in-A-acc-2.is)
+
+pub returns-in-B-acc-2 : goal.returns-in-B-acc-2
+returns-in-B-acc-2 c = rw (c.in-Lsr.is, c.in-B-acc-2.is)
+
+pub returns-in-A-acc-3 : goal.returns-in-A-acc-3
+returns-in-A-acc-3 c = rw (c.in-Ror.is, c.in-A-acc-3.is)
+
+pub returns-in-B-acc-3 : goal.returns-in-B-acc-3
+returns-in-B-acc-3 c = rw (c.in-Ror.is, c.in-B-acc-3.is)
+
+pub returns-in-A-acc-4 : goal.returns-in-A-acc-4
+returns-in-A-acc-4 c = rw (c.in-Asr.is, c.in-A-acc-4.is)
+
+pub returns-in-B-acc-4 : goal.returns-in-B-acc-4
+returns-in-B-acc-4 c = rw (c.in-Asr.is, c.in-B-acc-4.is)
+
+pub returns-in-A-acc-5 : goal.returns-in-A-acc-5
+returns-in-A-acc-5 c = rw (c.in-Asl.is, c.in-A-acc-5.is)
+
+pub returns-in-B-acc-5 : goal.returns-in-B-acc-5
+returns-in-B-acc-5 c = rw (c.in-Asl.is, c.in-B-acc-5.is)
+
+pub returns-in-A-acc-6 : goal.returns-in-A-acc-6
+returns-in-A-acc-6 c = rw (c.in-Rol.is, c.in-A-acc-6.is)
+
+pub returns-in-B-acc-6 : goal.returns-in-B-acc-6
+returns-in-B-acc-6 c = rw (c.in-Rol.is, c.in-B-acc-6.is)
+
+pub returns-in-A-acc-7 : goal.returns-in-A-acc-7
+returns-in-A-acc-7 c = rw (c.in-Dec.is, c.in-A-acc-7.is)
+
+pub returns-in-B-acc-7 : goal.returns-in-B-acc-7
+returns-in-B-acc-7 c = rw (c.in-Dec.is, c.in-B-acc-7.is)
+
+pub returns-in-A-acc-8 : goal.returns-in-A-acc-8
+returns-in-A-acc-8 c = rw (c.in-Inc.is, c.in-A-acc-8.is)
+
+pub returns-in-B-acc-8 : goal.returns-in-B-acc-8
+returns-in-B-acc-8 c = rw (c.in-Inc.is, c.in-B-acc-8.is)
+
+pub returns-in-A-acc-9 : goal.returns-in-A-acc-9
+returns-in-A-acc-9 c = rw (c.in-Clr.is, c.in-A-acc-9.is)
+
+pub returns-in-B-acc-9 : goal.returns-in-B-acc-9
+returns-in-B-acc-9 c = rw (c.in-Clr.is, c.in-B-acc-9.is)

@@ -3,16 +3,16 @@
 use Rattle.player.proofs.Booting.{refused-file, sound-file}
 use Rattle.player.proofs.boots.boot_text.Goals as goal
 
-pub returns-in-Refused : goal.returns-in-Refused
-returns-in-Refused c =
+pub returns-in-Err : goal.returns-in-Err
+returns-in-Err c =
     let a = c.args in
     let z = c.zeroed_memory-mem.ensures in
-    let r = c.read-loaded.ensures in
-    rw (refused-file a.settings a.count a.text.now z r.0 c.in-Refused.is) c.put_refusal.ensures
+    let r = c.read.ensures in
+    rw (refused-file a.settings a.count a.text.now z r.0 c.in-Err.is) c.put_refusal.ensures
 
-pub returns-in-Done : goal.returns-in-Done
-returns-in-Done c =
+pub returns-in-Ok : goal.returns-in-Ok
+returns-in-Ok c =
     let a = c.args in
     let z = c.zeroed_memory-mem.ensures in
-    let r = c.read-loaded.ensures in
-    rw (sound-file a.settings a.count a.text.now z r.0 r.1 c.in-Done.is) c.put_run.ensures
+    let r = c.read.ensures in
+    rw (sound-file a.settings a.count a.text.now z r.0 r.1 c.in-Ok.is) c.put_run.ensures

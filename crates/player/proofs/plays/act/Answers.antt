@@ -5,7 +5,7 @@ use Rattle.player.proofs.Playing.{acts}
 use Rattle.player.proofs.plays.act.Goals as goal
 
 pub returns-in-Call : goal.returns-in-Call
-returns-in-Call c =
+returns-in-Call g c =
     let a = c.args in
     let w = c.wanted_by in
     acts
@@ -13,16 +13,16 @@ returns-in-Call c =
     a.operation
     (in_hand a.mem.now a.journal.now a.twin)
     w.result
-    c.call_on.result
+    c.call.result
     _
     _
     _
     w.ensures
-    (rw c.in-Call.is c.call_on.ensures.leaves)
+    (rw c.in-Call.is c.call.ensures.leaves)
     c.shown_of.ensures
 
 pub returns-in-Undo : goal.returns-in-Undo
-returns-in-Undo c =
+returns-in-Undo g c =
     let a = c.args in
     let w = c.wanted_by in
     acts

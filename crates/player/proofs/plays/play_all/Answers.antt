@@ -1,17 +1,17 @@
 -- The loop's invariant: what the operations passed have left, a text and a state (`Sofar`).
 -- Assumes nothing.
-use Prim.Native.Nat.{ℕ, ◌+◌, ◌-◌, ◌≤◌, ◌<◌}
+use Prim.Native.Nat.{ℕ, ◌+◌, ◌-◌, ◌<◌}
 use mathlib.Core.Path.{◌≡◌, refl, sym, ap, ◌∙◌}
 use native.Mathlib.Omega.{arith}
 use lib.ListN.{length, get_or}
 use Rattle.journal.specs.Recorded.{fresh_twin, in_hand}
 use Rattle.runfile.specs.Format.{parsed, operation_at, next_of}
 use Rattle.runfile.specs.declared.Operation.TheVariants.{Step}
-use Rattle.player.proofs.Playing.{Sofar, sound, operations_in, line-bound, at_first, turn, finished, fits}
+use Rattle.player.proofs.Playing.{sound, operations_in, line-bound, at_first, turn, finished, fits}
 use Rattle.player.proofs.plays.play_all.Goals as goal
 
 pub loop-at-init : goal.loop-at-init
-loop-at-init c =
+loop-at-init g c =
     let a = c.args in
     let so = sound a.file.now a.from c.requires in
     let z : a.from.operations - a.from.operations ≡ 0 = omega arith in (
@@ -22,18 +22,9 @@ loop-at-init c =
       ),
     )
 
-pub shape_of-out-in-None : goal.shape_of-out-in-None
-shape_of-out-in-None c = c.loop-at.invariant.1.1.0
-
-pub shape_of-mem-in-None : goal.shape_of-mem-in-None
-shape_of-mem-in-None c = c.loop-at.invariant.1.1.1.0
-
-pub shape_of-journal-in-None : goal.shape_of-journal-in-None
-shape_of-journal-in-None c = c.loop-at.invariant.1.1.1.1
-
 -- an operation stands at each place passed
-pub returns-in-None : goal.returns-in-None
-returns-in-None c =
+pub returns-in_default : goal.returns-in_default
+returns-in_default g c =
     let a = c.args in
     let l = c.loop-at in
     let so = sound a.file.now a.from c.requires in
@@ -41,28 +32,22 @@ returns-in-None c =
     let k : i < length (operations_in (parsed a.file.now)) = omega (arith, so.starts) in
     let e : l.at ≡ a.from.operations + i = omega arith in
     let w = ap (λ (n : ℕ). next_of (operation_at a.file.now n)) e ∙ so.each i k in
-    let d = sym c.in-None.is ∙ c.operation_at.ensures ∙ w in
+    let d = sym c.in_default.is ∙ c.operation_at.ensures ∙ w in
     let z : ◌≡◌ {A = ℕ} 0 1 = cc in
     absurd (omega arith)
 
 pub overflow_add-used : goal.overflow_add-used
-overflow_add-used c =
+overflow_add-used g c =
     let a = c.args in
     let l = c.loop-at in
-    let r = c.act-outcome.result in
+    let r = c.act-shown.result in
     let so = sound a.file.now a.from c.requires in
     let v = rw c.run_settings-settings.ensures at l.invariant.1.0 in
     let h = fits so (in_hand a.mem.now a.journal.now fresh_twin) a.out.now l.at l.used l.out (in_hand l.mem l.journal l.twin) v l.invariant.0.1 in
     omega (arith, c.put_call-used.ensures.0, line-bound r.answer r.twin.machine)
 
-pub overflow_add-at : goal.overflow_add-at
-overflow_add-at c =
-    let a = c.args in
-    let so = sound a.file.now a.from c.requires in
-    omega (arith, so.short, c.loop-at-test.true)
-
 pub loop-at-preserved : goal.loop-at-preserved
-loop-at-preserved c =
+loop-at-preserved g c =
     let a = c.args in
     let l = c.loop-at in
     let so = sound a.file.now a.from c.requires in
@@ -71,10 +56,10 @@ loop-at-preserved c =
     let k : i < length os = omega (arith, so.starts) in
     let e : l.at ≡ a.from.operations + i = omega arith in
     let w = ap (λ (n : ℕ). next_of (operation_at a.file.now n)) e ∙ so.each i k in
-    let d = sym c.in-Is.is ∙ c.operation_at.ensures ∙ w in
-    let o : c.in-Is.operation ≡ get_or os i Step = cc in
+    let d = sym c.in-Some.is ∙ c.operation_at.ensures ∙ w in
+    let o : c.in-Some.operation ≡ get_or os i Step = cc in
     let n : l.at + 1 - a.from.operations ≡ i + 1 = omega arith in
-    let t = c.act-outcome in
+    let t = c.act-shown in
     let p = c.put_call-used in (
       omega arith,
       (
@@ -83,17 +68,8 @@ loop-at-preserved c =
       ),
     )
 
-pub shape_of-out : goal.shape_of-out
-shape_of-out c = c.loop-at.invariant.1.1.0
-
-pub shape_of-mem : goal.shape_of-mem
-shape_of-mem c = c.loop-at.invariant.1.1.1.0
-
-pub shape_of-journal : goal.shape_of-journal
-shape_of-journal c = c.loop-at.invariant.1.1.1.1
-
 pub returns : goal.returns
-returns c =
+returns g c =
     let a = c.args in
     let l = c.loop-at in
     let so = sound a.file.now a.from c.requires in

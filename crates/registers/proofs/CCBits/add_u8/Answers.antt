@@ -2,7 +2,7 @@
 -- Assumes nothing.
 use Rattle.std.proofs.Common.{sym, ap, ◌∙◌, rules}
 use Rattle.registers.proofs.Pages.{add-page, sum-value, add-after, half-after}
-use Rattle.registers.specs.Arithmetic.{out8}
+use Rattle.registers.specs.Arithmetic.{of_page}
 use Rattle.registers.proofs.CCBits.add_u8.Goals as goal
 
 pub returns : goal.returns
@@ -14,10 +14,10 @@ returns c =
     rw (
       c.set-2.ensures,
       h ∙ sym (half-after x.self x.a x.b (search rules) (search rules) x.flags x.with_carry),
-      c.set_zn_8.ensures,
+      c.set_zn.ensures,
       c.set-cv.ensures,
       v ∙ sym (add-after x.self x.a x.b (search rules) (search rules) x.flags x.with_carry),
       c.set.ensures,
       carry,
     )
-    (ap (out8 x.self) (add-page x.self x.a x.b (search rules) (search rules) x.flags x.with_carry))
+    (ap (of_page x.self) (add-page x.self x.a x.b (search rules) (search rules) x.flags x.with_carry))

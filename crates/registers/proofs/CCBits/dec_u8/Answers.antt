@@ -2,11 +2,11 @@
 -- Assumes nothing.
 use Rattle.std.proofs.Common.{sym, ap, ◌∙◌, rules}
 use Rattle.registers.proofs.Pages.{dec-page, dec-after}
-use Rattle.registers.specs.Arithmetic.{out8}
+use Rattle.registers.specs.Arithmetic.{of_page}
 use Rattle.registers.proofs.CCBits.dec_u8.Goals as goal
 
 pub returns : goal.returns
 returns c =
     let x = c.args in
-    rw (c.set_zn_8.ensures, c.set.ensures, c.dec_v.ensures x.self ∙ sym (dec-after x.self x.val 0 (search rules) x.flags), c.wrapping_add_u8-result.ensures.value)
-    (ap (out8 x.self) (dec-page x.self x.val 0 (search rules) x.flags))
+    rw (c.set_zn.ensures, c.set.ensures, c.dec_v.ensures x.self ∙ sym (dec-after x.self x.val 0 (search rules) x.flags))
+    (ap (of_page x.self) (dec-page x.self x.val 0 (search rules) x.flags))

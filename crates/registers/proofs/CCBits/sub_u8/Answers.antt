@@ -2,7 +2,7 @@
 -- Assumes nothing.
 use Rattle.std.proofs.Common.{◌&&◌, sym, ap, ◌∙◌, arith, rules}
 use Rattle.registers.proofs.Pages.{digit-le, sub-page, sub-after}
-use Rattle.registers.specs.Arithmetic.{out8}
+use Rattle.registers.specs.Arithmetic.{of_page}
 use Rattle.registers.specs.declared.CCBit.TheVariants.{C}
 use Rattle.registers.specs.ConditionCodes.{flag}
 use Rattle.registers.proofs.CCBits.sub_u8.Goals as goal
@@ -16,10 +16,10 @@ returns c =
     let carry = c.carry_in-c.ensures in
     let v = c.sub_v.ensures x.self x.with_carry (sym carry) in
     rw (
-      c.set_zn_8.ensures,
+      c.set_zn.ensures,
       c.set-cv.ensures,
       v ∙ sym (sub-after x.self x.a x.b (search rules) (search rules) x.flags x.with_carry),
       c.set.ensures,
       carry,
     )
-    (ap (out8 x.self) (sub-page x.self x.a x.b (search rules) (search rules) x.flags x.with_carry))
+    (ap (of_page x.self) (sub-page x.self x.a x.b (search rules) (search rules) x.flags x.with_carry))

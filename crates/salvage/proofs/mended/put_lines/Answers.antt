@@ -2,7 +2,7 @@
 -- Assumes nothing.
 use mathlib.Core.Path.{◌∙◌}
 use native.Mathlib.Omega.{arith}
-use Rattle.salvage.proofs.Walk.{Turned, turned}
+use Rattle.salvage.proofs.Walk.{start_is, Turned, turned}
 use Rattle.salvage.proofs.Laying.{at_first, keeps, room-left, drops, at_last}
 use Rattle.salvage.proofs.mended.put_lines.Goals as goal
 use Rattle.salvage.proofs.mended.put_lines.Goals.{After-next-turned}
@@ -12,7 +12,7 @@ here : (c : After-next-turned) → Turned c.args.file.now c.loop-at.at c.next-tu
 here c = turned _ _ _ c.loop-at-test.true c.next-turned.ensures
 
 pub loop-at-init : goal.loop-at-init
-loop-at-init c = at_first _ _ _ _ c.first-at.ensures c.requires
+loop-at-init c = at_first _ _ _ _ (start_is _ c.default-at.ensures) c.requires
 
 pub next-turned-requires : goal.next-turned-requires
 next-turned-requires c = (c.loop-at-test.true, c.loop-at.invariant.few)
@@ -34,21 +34,21 @@ overflow_add-bytes c = let w = here (goal.at.overflow_add-bytes c).After-next-tu
 
 pub overflow_add-listed : goal.overflow_add-listed
 overflow_add-listed c =
-    let m = room-left _ _ _ _ _ _ _ _ _ (here (goal.at.overflow_add-listed c).After-next-turned) c.loop-at.invariant _ c.in-Drop.is in
+    let m = room-left _ _ _ _ _ _ _ _ _ (here (goal.at.overflow_add-listed c).After-next-turned) c.loop-at.invariant _ c.in-Some.is in
     omega arith
 
-pub loop-at-smaller-in-Keep : goal.loop-at-smaller-in-Keep
-loop-at-smaller-in-Keep c = let w = here (goal.at.loop-at-smaller-in-Keep c).After-next-turned in omega (arith, w.on, w.fits)
+pub loop-at-smaller-in-None : goal.loop-at-smaller-in-None
+loop-at-smaller-in-None c = let w = here (goal.at.loop-at-smaller-in-None c).After-next-turned in omega (arith, w.on, w.fits)
 
-pub loop-at-preserved-in-Keep : goal.loop-at-preserved-in-Keep
-loop-at-preserved-in-Keep c = keeps _ _ _ _ _ _ _ _ _ (here (goal.at.loop-at-preserved-in-Keep c).After-next-turned) c.loop-at.invariant _ c.in-Keep.is c.put.ensures
+pub loop-at-preserved-in-None : goal.loop-at-preserved-in-None
+loop-at-preserved-in-None c = keeps _ _ _ _ _ _ _ _ _ (here (goal.at.loop-at-preserved-in-None c).After-next-turned) c.loop-at.invariant _ c.in-None.is c.put.ensures
 
 pub loop-at-smaller : goal.loop-at-smaller
 loop-at-smaller c = let w = here (goal.at.loop-at-smaller c).After-next-turned in omega (arith, w.on, w.fits)
 
 pub loop-at-preserved : goal.loop-at-preserved
 loop-at-preserved c =
-    drops _ _ _ _ _ _ _ _ _ (here (goal.at.loop-at-preserved c).After-next-turned) c.loop-at.invariant _ _ c.in-Drop.is (c.put-in-Drop.ensures ∙ rw c.counter_of.ensures)
+    drops _ _ _ _ _ _ _ _ _ (here (goal.at.loop-at-preserved c).After-next-turned) c.loop-at.invariant _ _ c.in-Some.is (c.put-in-Some.ensures ∙ rw c.counter_of.ensures)
 
 pub shape_of-out : goal.shape_of-out
 shape_of-out c = c.loop-at.invariant.out-same

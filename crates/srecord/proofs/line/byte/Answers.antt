@@ -5,9 +5,6 @@ use Rattle.srecord.specs.Line.{line_bytes}
 use Rattle.srecord.proofs.Bytes.{line-bytes, byte-of, past_end}
 use Rattle.srecord.proofs.line.byte.Goals as goal
 
-pub returns-then-size-i : goal.returns-then-size-i
-returns-then-size-i c = sym (past_end (line_bytes c.args.text.now) c.args.i (omega arith))
-
 pub overflow_mul-i : goal.overflow_mul-i
 overflow_mul-i c = omega (arith, line-bytes c.args.text.now)
 
@@ -17,14 +14,17 @@ overflow_add-i c = omega (arith, line-bytes c.args.text.now)
 pub bounds-text-i : goal.bounds-text-i
 bounds-text-i c = omega (arith, line-bytes c.args.text.now)
 
-pub overflow_mul-i-2 : goal.overflow_mul-i-2
-overflow_mul-i-2 c = omega (arith, line-bytes c.args.text.now)
+pub overflow_mul-i-then-i-size : goal.overflow_mul-i-then-i-size
+overflow_mul-i-then-i-size c = omega (arith, line-bytes c.args.text.now)
 
-pub overflow_add-i-2 : goal.overflow_add-i-2
-overflow_add-i-2 c = omega (arith, line-bytes c.args.text.now)
+pub overflow_add-i-then-i-size : goal.overflow_add-i-then-i-size
+overflow_add-i-then-i-size c = omega (arith, line-bytes c.args.text.now)
 
-pub bounds-text-i-2 : goal.bounds-text-i-2
-bounds-text-i-2 c = omega (arith, line-bytes c.args.text.now)
+pub bounds-text-i-then-i-size : goal.bounds-text-i-then-i-size
+bounds-text-i-then-i-size c = omega (arith, line-bytes c.args.text.now)
 
-pub returns : goal.returns
-returns c = let a = c.args in c.byte.ensures ∙ sym (byte-of a.text.now a.i (omega arith))
+pub returns-then-i-size : goal.returns-then-i-size
+returns-then-i-size c = let a = c.args in c.byte.ensures ∙ sym (byte-of a.text.now a.i (omega arith))
+
+pub returns-else-i-size : goal.returns-else-i-size
+returns-else-i-size c = sym (past_end (line_bytes c.args.text.now) c.args.i (omega arith))

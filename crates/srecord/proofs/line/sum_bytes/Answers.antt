@@ -8,12 +8,12 @@ use Rattle.srecord.proofs.line.sum_bytes.Goals as goal
 
 pub loop-i-init : goal.loop-i-init
 unfolding total
-loop-i-init c = (omega arith, refl)
+loop-i-init c = refl
 
 pub loop-i-preserved : goal.loop-i-preserved
 loop-i-preserved c =
     let l = c.loop-i in
-    (omega arith, c.wrapping_add_u8-sum.ensures.value ∙ sum_more (line_bytes c.args.text.now) l.i _ _ (omega arith) l.invariant.1 c.byte.ensures)
+    sum_more (line_bytes c.args.text.now) l.i _ _ (omega arith) l.invariant c.byte-sum.ensures
 
 pub returns : goal.returns
-returns c = let e : c.loop-i.i ≡ c.args.n = omega arith in c.loop-i.invariant.1 ∙ rw e
+returns c = let e : c.loop-i.i ≡ c.args.n = omega arith in c.loop-i.invariant ∙ rw e

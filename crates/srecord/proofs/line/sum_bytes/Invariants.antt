@@ -1,12 +1,9 @@
 -- `sum_bytes` adds byte i in turn i.
 -- Assumes nothing.
-use Rattle.std.proofs.Common.{◌≡◌, ◌-◌, ◌%◌, ◌≤◌, take}
+use Rattle.std.proofs.Common.{◌≡◌, ◌%◌, take}
 use Rattle.srecord.specs.Layout.{total}
 use Rattle.srecord.specs.Line.{line_bytes}
 use Rattle.srecord.proofs.line.sum_bytes.Given as goal
 
 abbrev pub invariant-loop-i : goal.invariant-loop-i
-invariant-loop-i l = (l.i ≤ l.n) × (l.sum ≡ total (take l.i (line_bytes l.text)) % 256)
-
-abbrev pub decreases-loop-i : goal.decreases-loop-i
-decreases-loop-i l = l.n - l.i
+invariant-loop-i l = l.sum ≡ total (take l.i (line_bytes l.text)) % 256

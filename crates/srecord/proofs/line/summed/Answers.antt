@@ -8,9 +8,9 @@ use Rattle.srecord.proofs.line.summed.Goals as goal
 pub overflow_sub-n : goal.overflow_sub-n
 overflow_sub-n c = omega (arith, (is-shaped c.args.text.now c.requires).room)
 
-pub sum_bytes-sum-requires : goal.sum_bytes-sum-requires
-sum_bytes-sum-requires c = omega (arith, (is-shaped c.args.text.now c.requires).room)
+pub sum_bytes-requires : goal.sum_bytes-requires
+sum_bytes-requires c = omega (arith, (is-shaped c.args.text.now c.requires).room)
 
 pub returns : goal.returns
 unfolding is_summed
-returns c = rw (c.byte.ensures, c.sum_bytes-sum.ensures, c.size-n.ensures)
+returns c = rw (c.byte.ensures, c.sum_bytes.ensures, c.size-n.ensures)

@@ -1,17 +1,17 @@
--- `all_zero`: the bytes before i are zero, so that the answer is that of the rest.
+-- `all` of the test that a byte is 0 recurses as `is_zero` does.
 -- Assumes nothing.
-use Rattle.std.proofs.Common.{sym, refl, ◌∙◌}
-use Rattle.srecord.proofs.Scan.{zero-not, zero-on, zero-none}
+use Rattle.std.proofs.Common.{eqb, ◌&&◌, refl, ◌∙◌, rules}
+use borrow.Author.Tests.{tests}
+use Rattle.std.specs.List.{list_all}
+use Rattle.std.proofs.lemmas.Iterator.{YieldsList-from_slice}
+use Rattle.std.proofs.lemmas.Iterator.Search.{all_from_yields_List}
+use Rattle.std.proofs.lemmas.List.Recursion.{same_from_clauses}
+use Rattle.srecord.specs.Written.{is_zero}
 use Rattle.srecord.proofs.written.all_zero.Goals as goal
 
-pub loop-i-init : goal.loop-i-init
-loop-i-init c = refl
-
-pub returns-then-row-i-ne0 : goal.returns-then-row-i-ne0
-returns-then-row-i-ne0 c = sym (zero-not _ _ c.loop-i-test.true c.if-row-i-ne0.true) ∙ c.loop-i.invariant
-
-pub loop-i-preserved : goal.loop-i-preserved
-loop-i-preserved c = sym (zero-on _ _ c.loop-i-test.true c.if-row-i-ne0.false) ∙ c.loop-i.invariant
-
 pub returns : goal.returns
-returns c = sym (zero-none _ _ c.loop-i-test.false) ∙ c.loop-i.invariant
+unfolding is_zero
+returns c =
+    let row = c.args.row.now in
+    all_from_yields_List (λ b. eqb b 0) _ _ _ c.all.ensures.ran (YieldsList-from_slice row cc) (λ x b q k. search (rules, tests))
+    ∙ same_from_clauses (list_all (λ b. eqb b 0)) is_zero (λ b r. eqb b 0 && r) refl (λ _ _. refl) (λ _ _. refl) row

@@ -1,12 +1,9 @@
 -- `put_pairs`: the digits of the first i bytes are stored.
 -- Assumes nothing.
-use Rattle.std.proofs.Common.{◌≡◌, ◌-◌, ◌≤◌, length, take}
+use Rattle.std.proofs.Common.{◌≡◌, length, take}
 use Rattle.srecord.specs.Layout.{pairs}
 use lib.Seq.{sets}
 use Rattle.srecord.proofs.written.put_pairs.Given as goal
 
 abbrev pub invariant-loop-i : goal.invariant-loop-i
-invariant-loop-i l = (l.i ≤ length l.list) × ((length l.out ≡ length l.initial.out) × (l.out ≡ sets l.initial.out l.at (pairs (take l.i l.list))))
-
-abbrev pub decreases-loop-i : goal.decreases-loop-i
-decreases-loop-i l = length l.list - l.i
+invariant-loop-i l = (length l.out ≡ length l.initial.out) × (l.out ≡ sets l.initial.out l.at (pairs (take l.i l.list)))

@@ -20,7 +20,7 @@ room c e =
     omega arith
 
 pub loop-k-init : goal.loop-k-init
-loop-k-init c = (omega arith, (ap length (sym (rows_none _)), (refl, sym (ap (λ (l : List ℕ). sets c.args.out.now 0 l) (rows_none _)))))
+loop-k-init c = (ap length (sym (rows_none _)), (refl, sym (ap (λ (l : List ℕ). sets c.args.out.now 0 l) (rows_none _))))
 
 pub put_line-requires : goal.put_line-requires
 put_line-requires c =
@@ -39,17 +39,17 @@ loop-k-preserved c =
     let l = c.loop-k in
     let a = c.args in
     let z = (goal.at.loop-k-preserved c).After-all_zero in
-    let done : Turned a.mem.now l.k l.at l.out a.out.now l.invariant.1.0 l.invariant.1.1.0 l.invariant.1.1.1 c.if-not-all_zero.at c.if-not-all_zero.out =
+    let done : Turned a.mem.now l.k l.at l.out a.out.now l.invariant.0 l.invariant.1.0 l.invariant.1.1 c.if-not-all_zero.at c.if-not-all_zero.out =
     elim c.if-not-all_zero.branch [
       | then-not-all_zero w ↦
-          turn_more a.mem.now l.k l.at l.out a.out.now l.invariant.1.0 l.invariant.1.1.0 l.invariant.1.1.1 c.if-not-all_zero.at c.if-not-all_zero.out w.at-is (w.out-is ∙ rw (row-part a.mem.now l.k) at w.put_line.ensures) c.requires.0 c.loop-k-test.true (row_is z w.if-not-all_zero.true)
+          turn_more a.mem.now l.k l.at l.out a.out.now l.invariant.0 l.invariant.1.0 l.invariant.1.1 c.if-not-all_zero.at c.if-not-all_zero.out w.at-is (w.out-is ∙ rw (row-part a.mem.now l.k) at w.put_line.ensures) c.requires.0 c.loop-k-test.true (row_is z w.if-not-all_zero.true)
       | else-not-all_zero w ↦
-          turn-skip a.mem.now l.k l.at l.out a.out.now l.invariant.1.0 l.invariant.1.1.0 l.invariant.1.1.1 c.if-not-all_zero.at c.if-not-all_zero.out w.at-is w.out-is (row_is z w.if-not-all_zero.false)
+          turn-skip a.mem.now l.k l.at l.out a.out.now l.invariant.0 l.invariant.1.0 l.invariant.1.1 c.if-not-all_zero.at c.if-not-all_zero.out w.at-is w.out-is (row_is z w.if-not-all_zero.false)
     ] in
-    (omega arith, (done.ends, (done.keeps, done.holds)))
+    (done.ends, (done.keeps, done.holds))
 
 pub shape_of-out : goal.shape_of-out
-shape_of-out c = c.loop-k.invariant.1.1.0
+shape_of-out c = c.loop-k.invariant.1.0
 
 pub returns : goal.returns
-returns c = let e : c.loop-k.k ≡ 2048 = omega arith in (rw (← e) c.loop-k.invariant.1.0, rw (← e) c.loop-k.invariant.1.1.1)
+returns c = let e : c.loop-k.k ≡ 2048 = omega arith in (rw (← e) c.loop-k.invariant.0, rw (← e) c.loop-k.invariant.1.1)

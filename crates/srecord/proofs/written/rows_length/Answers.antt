@@ -8,7 +8,7 @@ use Rattle.srecord.proofs.written.rows_length.Goals.{then-not-all_zero, else-not
 
 pub loop-k-init : goal.loop-k-init
 unfolding rows_text
-loop-k-init c = (omega arith, (omega arith, refl))
+loop-k-init c = (omega arith, refl)
 
 pub loop-k-preserved : goal.loop-k-preserved
 loop-k-preserved c =
@@ -18,11 +18,11 @@ loop-k-preserved c =
     elim c.if-not-all_zero.branch [
       | then-not-all_zero w ↦
           let r = row-length m k c.requires c.loop-k-test.true (z ∙ w.if-not-all_zero.true) in
-          (omega arith, (omega arith, omega arith))
+          (omega arith, omega arith)
       | else-not-all_zero w ↦
           let r = ap length (row-skip m k (z ∙ w.if-not-all_zero.false)) in
-          (omega arith, (omega arith, omega arith))
+          (omega arith, omega arith)
     ]
 
 pub returns : goal.returns
-returns c = let e : c.loop-k.k ≡ 2048 = omega arith in c.loop-k.invariant.1.1 ∙ rw e
+returns c = let e : c.loop-k.k ≡ 2048 = omega arith in c.loop-k.invariant.1 ∙ rw e

@@ -1,11 +1,8 @@
 -- `rows_length`: 75 characters for each row of the first k that is not all zero.
 -- Assumes nothing.
-use Rattle.std.proofs.Common.{◌≡◌, ◌-◌, ◌*◌, ◌≤◌, length}
+use Rattle.std.proofs.Common.{◌≡◌, ◌*◌, ◌≤◌, length}
 use Rattle.srecord.specs.Written.{rows_text}
 use Rattle.srecord.proofs.written.rows_length.Given as goal
 
 abbrev pub invariant-loop-k : goal.invariant-loop-k
-invariant-loop-k l = (l.k ≤ 2048) × ((l.n ≤ 75 * l.k) × (l.n ≡ length (rows_text l.mem l.k)))
-
-abbrev pub decreases-loop-k : goal.decreases-loop-k
-decreases-loop-k l = 2048 - l.k
+invariant-loop-k l = (l.n ≤ 75 * l.k) × (l.n ≡ length (rows_text l.mem l.k))

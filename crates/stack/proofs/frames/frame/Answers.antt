@@ -8,20 +8,17 @@ use Rattle.operations.specs.Codes.{with_codes}
 use Rattle.stack.specs.Pushing.{pushed}
 use Rattle.stack.specs.Frames.{stacked_by, framed}
 use Rattle.stack.proofs.frames.frame.Goals as goal
-use Rattle.stack.proofs.frames.frame.Goals.{then-entire, else-entire}
+use Rattle.stack.proofs.frames.frame.Goals.{then-entire, else-entire, After-push-pushed}
 
-pub returns-in-Refused : goal.returns-in-Refused
-unfolding framed
-returns-in-Refused c =
-    let a = c.args in
-    let e : c.push-pushed.result ≡ pushed (with_codes a.regs (put E a.entire a.regs.cc)) S (stacked_by a.entire) true =
-    c.push-pushed.ensures ∙ rw (c.with_codes.ensures, c.set.ensures) (elim c.if-entire.branch [ then-entire w ↦ rw (w.mask-is, w.if-entire.true) | else-entire w ↦ rw (w.mask-is, w.if-entire.false) ]) in
-    rw (c.refuses.ensures, ← e, c.in-Refused.is)
+stacked : (c : After-push-pushed) → c.push-pushed.result ≡ pushed (with_codes c.args.regs (put E c.args.entire c.args.regs.cc)) S (stacked_by c.args.entire) true
+stacked c =
+    c.push-pushed.ensures
+    ∙ rw (c.with_codes.ensures, c.set-codes.ensures) (elim c.if-entire.branch [ then-entire w ↦ rw (w.mask-is, w.if-entire.true) | else-entire w ↦ rw (w.mask-is, w.if-entire.false) ])
 
-pub returns-in-Done : goal.returns-in-Done
+pub returns-in-Err : goal.returns-in-Err
 unfolding framed
-returns-in-Done c =
-    let a = c.args in
-    let e : c.push-pushed.result ≡ pushed (with_codes a.regs (put E a.entire a.regs.cc)) S (stacked_by a.entire) true =
-    c.push-pushed.ensures ∙ rw (c.with_codes.ensures, c.set.ensures) (elim c.if-entire.branch [ then-entire w ↦ rw (w.mask-is, w.if-entire.true) | else-entire w ↦ rw (w.mask-is, w.if-entire.false) ]) in
-    rw (← e, c.in-Done.is)
+returns-in-Err c = rw (c.refuses.ensures, ← (stacked (goal.at.returns-in-Err c).After-push-pushed), c.in-Err.is)
+
+pub returns-in-Ok : goal.returns-in-Ok
+unfolding framed
+returns-in-Ok c = rw (← (stacked (goal.at.returns-in-Ok c).After-push-pushed), c.in-Ok.is)

@@ -8,4 +8,4 @@ use Rattle.stack.proofs.pulling.return_from_subroutine.Goals as goal
 
 pub returns : goal.returns
 unfolding pulled pulls chosen bit_at value_at
-returns c = rw (c.with_pc.ensures, c.with_word.ensures, c.wrapping_add_u16.ensures.value, c.read_u16-pc.ensures)
+returns c = rw (c.with_pc.ensures, c.with_word.ensures, c.read_u16-pc.ensures)

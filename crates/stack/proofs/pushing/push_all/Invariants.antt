@@ -1,21 +1,8 @@
--- `push_all` fills the list as `pushes` lists it: the invariant says so of the registers that the loops have passed.
+-- `push_all`: the list is that of the registers which the loop has passed.
 -- Assumes nothing.
-use Rattle.std.proofs.Common.{◌≡◌, ◌+◌, ◌-◌, ◌*◌, ◌≤◌, length}
+use Rattle.std.proofs.Common.{◌-◌}
 use Rattle.stack.proofs.Filling.{Filled}
 use Rattle.stack.proofs.pushing.push_all.Given as goal
 
 abbrev pub invariant-loop-k : goal.invariant-loop-k
-invariant-loop-k l =
-    ((4 ≤ l.k) × (l.k ≤ 8)) × ((l.count + 2 * l.k ≤ 16) × ((length l.list ≡ 12) × Filled l.regs l.stack l.pointer l.mask l.system (8 - l.k) l.list l.count l.at))
-
-abbrev pub decreases-loop-k : goal.decreases-loop-k
-decreases-loop-k l =
-    l.k
-
-abbrev pub invariant-loop-k-2 : goal.invariant-loop-k-2
-invariant-loop-k-2 l =
-    (l.k ≤ 4) × ((l.count + l.k ≤ 12) × ((length l.list ≡ 12) × Filled l.regs l.stack l.pointer l.mask l.system (8 - l.k) l.list l.count l.at))
-
-abbrev pub decreases-loop-k-2 : goal.decreases-loop-k-2
-decreases-loop-k-2 l =
-    l.k
+invariant-loop-k l = Filled l.regs l.stack l.pointer l.mask l.system (8 - l.k) l.writes l.at

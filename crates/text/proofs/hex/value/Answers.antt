@@ -1,5 +1,7 @@
 -- The five ranges of a character: below the figures, figures, between, capitals, above.
 -- Assumes nothing.
+use Prim.Native.Nat.{◌+◌, ◌-◌}
+use mathlib.Core.Path.{◌≡◌}
 use native.Mathlib.Omega.{arith}
 use Rattle.text.proofs.Digits.{value-figure, value-capital, value-below, value-between, value-above}
 use Rattle.text.proofs.hex.value.Goals as goal
@@ -8,7 +10,9 @@ pub returns-in-48-to-57 : goal.returns-in-48-to-57
 returns-in-48-to-57 c = (value-figure _ (omega arith) (omega arith), omega arith)
 
 pub returns-in-65-to-70 : goal.returns-in-65-to-70
-returns-in-65-to-70 c = (value-capital _ (omega arith) (omega arith), omega arith)
+returns-in-65-to-70 c =
+    let e : c.args.c - 65 + 10 ≡ c.args.c - 55 = omega arith in
+    rw e (value-capital _ (omega arith) (omega arith), omega arith)
 
 pub returns-in_default : goal.returns-in_default
 returns-in_default c = (value-below _ (omega arith), omega arith)

@@ -6,8 +6,8 @@ use Rattle.training.proofs.steps.execute.Goals as goal
 pub operate-requires : goal.operate-requires
 operate-requires c = c.requires
 
-pub returns-in-Refused : goal.returns-in-Refused
-returns-in-Refused c = rw (c.refused.ensures, ← c.resolve.ensures, c.in-Refused.is)
+pub returns-in-Err : goal.returns-in-Err
+returns-in-Err c = rw (c.refused.ensures, ← c.resolve.ensures, c.in-Err.is)
 
-pub returns-in-At : goal.returns-in-At
-returns-in-At c = rw (c.operate.ensures, ← c.resolve.ensures, c.in-At.is)
+pub returns-in-Ok : goal.returns-in-Ok
+returns-in-Ok c = rw (c.operate.ensures, ← c.resolve.ensures, c.in-Ok.is)

@@ -8,12 +8,12 @@ use Rattle.training.proofs.steps.plan_running.Goals as goal
 pub execute-requires : goal.execute-requires
 execute-requires c =
     let a = c.args in
-    five-bytes a.mem.now a.machine.regs.pc _ (sym c.decode.ensures ∙ c.in-Instruction.is)
+    five-bytes a.mem.now a.machine.regs.pc _ (sym c.decode.ensures ∙ c.in-Ok.is)
 
-pub returns-in-Refused : goal.returns-in-Refused
+pub returns-in-Err : goal.returns-in-Err
 unfolding decoded_to
-returns-in-Refused c = rw (c.refused.ensures, ← c.decode.ensures, c.in-Refused.is)
+returns-in-Err c = rw (c.refused.ensures, ← c.decode.ensures, c.in-Err.is)
 
-pub returns-in-Instruction : goal.returns-in-Instruction
+pub returns-in-Ok : goal.returns-in-Ok
 unfolding decoded_to
-returns-in-Instruction c = rw (← c.decode.ensures, c.in-Instruction.is) c.execute.ensures
+returns-in-Ok c = rw (← c.decode.ensures, c.in-Ok.is) c.execute.ensures

@@ -1,5 +1,6 @@
 -- 1, then 2, then the instruction.
 -- Assumes nothing.
+use mathlib.Core.Logic.{inl, inr}
 use borrow.Author.Tests.{eq-eqb, ne_eqb}
 use Rattle.machine.specs.Fence.{barred}
 use Rattle.calls.specs.Steps.{reached, step_plan}
@@ -15,8 +16,7 @@ returns-in-Running c = rw (c.fence.ensures, c.plan_running.ensures, eq-eqb _ 655
 
 pub returns-in-Cwai : goal.returns-in-Cwai
 unfolding step_plan reached barred
-returns-in-Cwai c = rw (c.refused-in-Cwai.ensures, eq-eqb _ 65536 c.if-mem-ne65536.false, c.in-Cwai.is)
-
-pub returns-in-Sync : goal.returns-in-Sync
-unfolding step_plan reached barred
-returns-in-Sync c = rw (c.refused-in-Sync.ensures, eq-eqb _ 65536 c.if-mem-ne65536.false, c.in-Sync.is)
+returns-in-Cwai c = elim c.in-Cwai.is [
+  | inl w ↦ rw (c.refused-in-Cwai.ensures, eq-eqb _ 65536 c.if-mem-ne65536.false, w)
+  | inr w ↦ rw (c.refused-in-Cwai.ensures, eq-eqb _ 65536 c.if-mem-ne65536.false, w)
+]

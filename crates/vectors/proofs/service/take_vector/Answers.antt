@@ -7,18 +7,18 @@ use Rattle.vectors.proofs.service.take_vector.Goals as goal
 
 pub returns-then-bars : goal.returns-then-bars
 unfolding vectored
-returns-then-bars c = rw (c.refuses-then-bars.ensures, c.in-Done.is, sym c.bars.ensures ∙ c.if-bars.true)
+returns-then-bars c = rw (c.refuses-then-bars.ensures, c.in_default.is, sym c.bars.ensures ∙ c.if-bars.true)
 
-pub returns-in-Refused : goal.returns-in-Refused
+pub returns-in-Err : goal.returns-in-Err
 unfolding vectored
-returns-in-Refused c = rw (c.refuses.ensures, c.in-Refused.is)
+returns-in-Err c = rw (c.refuses.ensures, c.in-Err.is)
 
 pub returns-then-read_u8_after-eq0 : goal.returns-then-read_u8_after-eq0
 unfolding vectored
 returns-then-read_u8_after-eq0 c =
     rw (
       c.refuses-then-read_u8_after-eq0.ensures,
-      c.in-Done.is,
+      c.in_default.is,
       sym c.bars.ensures ∙ c.if-bars.false,
       ← c.address.ensures,
       ← c.read_u16_after-pc.ensures,
@@ -26,15 +26,15 @@ returns-then-read_u8_after-eq0 c =
       eq-eqb _ 0 c.if-read_u8_after-eq0.true,
     )
 
-pub returns-else-read_u8_after-eq0 : goal.returns-else-read_u8_after-eq0
+pub returns : goal.returns
 unfolding vectored
-returns-else-read_u8_after-eq0 c =
+returns c =
     rw (
       c.stores.ensures,
       c.jump.ensures,
       c.or_codes-masked.ensures,
       c.masks.ensures,
-      c.in-Done.is,
+      c.in_default.is,
       sym c.bars.ensures ∙ c.if-bars.false,
       ← c.address.ensures,
       ← c.read_u16_after-pc.ensures,

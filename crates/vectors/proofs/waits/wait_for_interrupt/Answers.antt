@@ -3,10 +3,10 @@
 use Rattle.vectors.specs.Waits.{waiting}
 use Rattle.vectors.proofs.waits.wait_for_interrupt.Goals as goal
 
-pub returns-in-Refused : goal.returns-in-Refused
+pub returns-in-Err : goal.returns-in-Err
 unfolding waiting
-returns-in-Refused c = rw (c.refuses.ensures, ← c.and_codes.ensures, ← c.frame-frame.ensures, c.in-Refused.is)
+returns-in-Err c = rw (c.refuses.ensures, ← c.and_codes.ensures, ← c.frame-frame.ensures, c.in-Err.is)
 
-pub returns-in-Done : goal.returns-in-Done
+pub returns-in-Ok : goal.returns-in-Ok
 unfolding waiting
-returns-in-Done c = rw (← c.and_codes.ensures, ← c.frame-frame.ensures, c.in-Done.is)
+returns-in-Ok c = rw (← c.and_codes.ensures, ← c.frame-frame.ensures, c.in-Ok.is)

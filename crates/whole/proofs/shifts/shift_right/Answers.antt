@@ -3,7 +3,7 @@
 use mathlib.Core.Path.{ap}
 use mathlib.Core.Bool.{◌&&◌}
 use lib.Dec.{leb}
-use Rattle.registers.specs.Arithmetic.{out8}
+use Rattle.registers.specs.Arithmetic.{of_page}
 use Rattle.registers.proofs.Pages.{digit-le}
 use Rattle.whole.proofs.Pages.{shr-page}
 use borrow.Author.Rules.{rules}
@@ -13,4 +13,4 @@ pub halve-requires : goal.halve-requires
 halve-requires c = digit-le (c.args.keep_sign && leb 0x80 c.args.m)
 
 pub returns : goal.returns
-returns c = let x = c.args in rw c.halve.ensures (ap (out8 x.cc) (shr-page x.cc x.m (search rules) x.keep_sign))
+returns c = let x = c.args in rw c.halve.ensures (ap (of_page x.cc) (shr-page x.cc x.m (search rules) x.keep_sign))

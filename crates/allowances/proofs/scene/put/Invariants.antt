@@ -1,9 +1,0 @@
--- The measure is the number of bytes that are left.
-use Rattle.std.proofs.Common.{◌-◌, ◌≤◌}
-use Rattle.allowances.proofs.scene.put.Given as goal
-
-abbrev pub invariant-loop-i : goal.invariant-loop-i
-invariant-loop-i l = l.i ≤ l.count
-
-abbrev pub decreases-loop-i : goal.decreases-loop-i
-decreases-loop-i l = l.count - l.i

@@ -1,9 +1,0 @@
--- Eight turns.
-use Rattle.std.proofs.Common.{◌-◌, ◌≤◌}
-use Rattle.fences.proofs.scene.act_all.Given as goal
-
-abbrev pub invariant-loop-i : goal.invariant-loop-i
-invariant-loop-i l = l.i ≤ 8
-
-abbrev pub decreases-loop-i : goal.decreases-loop-i
-decreases-loop-i l = 8 - l.i

@@ -1,7 +1,0 @@
--- The last letter is the accumulator's.
--- Assumes nothing.
-
-use Rattle.mnemonics.proofs.letters.three_and_acc.Goals as goal
-
-pub returns : goal.returns
-returns c = rw (c.four.ensures, c.acc_letter.ensures)

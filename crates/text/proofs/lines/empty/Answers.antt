@@ -1,9 +1,0 @@
--- No byte is used.
--- Assumes nothing.
-use mathlib.Core.Path.{refl}
-use Rattle.text.specs.Lines.{text_of}
-use Rattle.text.proofs.lines.empty.Goals as goal
-
-pub returns : goal.returns
-unfolding text_of
-returns c = refl

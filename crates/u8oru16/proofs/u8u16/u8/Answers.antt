@@ -1,7 +1,0 @@
--- `u8` meets its contract.
--- Assumes nothing.
-
-use Rattle.u8oru16.proofs.u8u16.u8.Goals as goal
-
-pub returns-in-u16 : goal.returns-in-u16
-returns-in-u16 c = rw c.in-u16.is

@@ -1,7 +1,0 @@
--- What is left over, then Z and N.
--- Assumes nothing.
-
-use Rattle.whole.proofs.shifts.halve.Goals as goal
-
-pub returns : goal.returns
-returns c = rw (c.sign_and_zero.ensures, c.put.ensures)
