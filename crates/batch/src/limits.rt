@@ -1,5 +1,5 @@
 // Calls at the limits of memory and output.
-use super::printed::{print, print_loaded, print_written};
+use super::printed::{print_loaded, print_written};
 use std::io;
 
 // A memory of 65,535 bytes is read into and written from.
@@ -15,15 +15,15 @@ fn write_into(rt: &HostRuntime, out: &mut [u8]) -> io::Result<()> {
     let mut mem = [0u8; 65536];
     mem[65535] = 255;
     print_written(rt, srecord::write(&mem, 0x1234, out))?;
-    print(rt, out)
+    rt.write_all(out)
 }
 
 // Its text of 86 characters goes into an output of 85, of 86 and of 88.
 pub fn answer(rt: &HostRuntime) -> io::Result<()> {
     short_memory(rt)?;
     write_into(rt, &mut [b'.'; 85])?;
-    print(rt, b"\n")?;
+    rt.write_all(b"\n")?;
     write_into(rt, &mut [b'.'; 86])?;
     write_into(rt, &mut [b'.'; 88])?;
-    print(rt, b"\n")
+    rt.write_all(b"\n")
 }

@@ -5,8 +5,6 @@
 mod limits;
 mod printed;
 
-ghost use Rattle.std.specs.Prelude.{◌+◌, ◌≤◌};
-
 use printed::{print_first, print_loaded};
 use std::io;
 
@@ -21,6 +19,7 @@ const LINES: usize = 0x8_8000;
 // The longest text of a memory: 2,048 rows of 75 characters, and the S9 line.
 const RECORDS: usize = 153611;
 
+// An array and no slice: with one the proofs of `play` and `boot`, which see its bytes, did not close.
 fn print_lines(rt: &HostRuntime, text: &[u8; LINES], n: usize) -> io::Result<()> {
     printed::print_count(rt, n)?;
     print_first(rt, text, n)
@@ -38,15 +37,11 @@ fn boot(rt: &HostRuntime, input: &[u8]) -> io::Result<()> {
     print_lines(rt, &out, n)
 }
 
-fn print_records(rt: &HostRuntime, text: &[u8; RECORDS], n: usize) -> io::Result<()> {
-    print_first(rt, text, n)
-}
-
 // A memory of this length and an output of this one are never refused.
 fn print_memory(rt: &HostRuntime, mem: &[u8; BYTES], start: u16) -> io::Result<()> {
     let mut out = [0u8; RECORDS];
     match srecord::write(mem, start, &mut out) {
-        Ok(count) => print_records(rt, &out, count),
+        Ok(count) => print_first(rt, &out, count),
         Err(_) => Ok(()),
     }
 }
@@ -69,55 +64,23 @@ fn answer(rt: &HostRuntime, kind: u8, input: &[u8]) -> io::Result<()> {
     }
 }
 
-fn answer_first(rt: &HostRuntime, kind: u8, input: &[u8], n: usize) -> io::Result<()> {
-    if n <= input.len() {
-        return answer(rt, kind, &input[..n]);
-    }
-    Ok(())
-}
-
-fn answer_input(rt: &HostRuntime, kind: u8, input: &[u8; INPUT], n: usize) -> io::Result<()> {
-    answer_first(rt, kind, input, n)
-}
-
-fn byte_at(head: &[u8; 8], at: usize) -> usize
-    requires { at + 2 ≤ 8 }
-    ensures { result ≤ 255 }
-{
-    text::byte(head[at], head[at + 1]) as usize
-}
-
 // An input's length: six hexadecimal digits after its kind.
 fn length_of(head: &[u8; 8]) -> usize {
-    (byte_at(head, 1) * 256 + byte_at(head, 3)) * 256 + byte_at(head, 5)
-}
-
-fn read_first(rt: &HostRuntime, input: &mut [u8], n: usize) -> io::Result<usize> {
-    if n <= input.len() {
-        streams::read_full(&mut rt.stdin(), &mut input[..n])
-    } else {
-        Ok(0)
-    }
+    let high = scenery::byte_at(head, 1) as usize;
+    high * 0x1_0000 + scenery::word_at(head, 3) as usize
 }
 
 // Reads one input, answers it, and says whether there may be more.
 fn answer_next(rt: &HostRuntime) -> io::Result<bool> {
-    let mut head = [0u8; 8];
-    if streams::read_full(&mut rt.stdin(), &mut head)? < 8 {
+    let Some(head) = scenery::read_line::<_, 8>(&mut rt.stdin())? else {
         return Ok(false);
-    }
+    };
     let mut input = [0u8; INPUT];
-    let n = read_first(rt, &mut input, length_of(&head))?;
-    answer_input(rt, head[0], &input, n)?;
+    let part = scenery::read_part(&mut rt.stdin(), &mut input, length_of(&head))?;
+    answer(rt, head[0], part)?;
     Ok(true)
 }
 
-// A proved loop has to end, and nothing says that the input does: there are more turns than any run uses up.
 fn main(rt: HostRuntime) -> io::Result<()> {
-    for _ in 0..u64::MAX {
-        if !answer_next(&rt)? {
-            break;
-        }
-    }
-    Ok(())
+    scenery::repeat(|| answer_next(&rt))
 }

@@ -2,15 +2,12 @@
 use answers::Refusal;
 use std::io;
 
-pub fn print(rt: &HostRuntime, text: &[u8]) -> io::Result<()> {
-    rt.write_all(text)
-}
-
+// The front of a text, if it is as long as that.
 pub fn print_first(rt: &HostRuntime, text: &[u8], n: usize) -> io::Result<()> {
-    if n <= text.len() {
-        return print(rt, &text[..n]);
+    match text.get(..n) {
+        Some(part) => rt.write_all(part),
+        None => Ok(()),
     }
-    Ok(())
 }
 
 pub fn print_count(rt: &HostRuntime, n: usize) -> io::Result<()> {

@@ -105,7 +105,11 @@ impl Left {
             View::Codes => [regs.pc, regs.s, regs.cc.reg as u16],
             View::Near => [word(0), word(2), word(4)],
             View::Far => [word(6), word(8), word(10)],
-            View::Rest => [others(regs), short_digest(mem), wait_number(self.wait)],
+            View::Rest => [
+                others(regs),
+                short_digest(mem),
+                machine::wait_byte(self.wait) as u16,
+            ],
         }
     }
 }
@@ -116,14 +120,6 @@ fn others(regs: Set) -> u16 {
     let words = 7 * regs.x as u32 + 9 * regs.y as u32 + 11 * regs.u as u32;
     let d = regs.get_register(Name::D).u16() as u32;
     ((bytes + words + 13 * d) % 0x10000) as u16
-}
-
-fn wait_number(wait: Wait) -> u16 {
-    match wait {
-        Wait::Running => 0,
-        Wait::Cwai => 1,
-        Wait::Sync => 2,
-    }
 }
 
 // A frame has at most twelve bytes, and they lie below S.

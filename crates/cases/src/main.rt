@@ -44,14 +44,13 @@ fn reply(line: &[u8], mem: &mut Memory) -> Reply {
     answer(Case::try_from(line)?, mem)
 }
 
-// Answers the first n bytes of a block, and returns how many bytes the answers take. What is left after the last whole line is one
-// bad case.
-fn answer_block(block: &[u8; BLOCK], n: usize, mem: &mut Memory, out: &mut [u8; ROOM]) -> usize
-    requires { n ≤ 23552 }
+// Answers a block, and returns how many bytes the answers take. What is left after the last whole line is one bad case.
+fn answer_block(block: &[u8], mem: &mut Memory, out: &mut [u8; ROOM]) -> usize
+    requires { length block.now ≤ 23552 }
     ensures { IsPrefixLen result out.new }
 {
     let mut end = 0;
-    for line in block[..n].chunks(LINE) {
+    for line in block.chunks(LINE) {
         end = lines::put(out, end, reply(line, mem));
     }
     end
@@ -62,7 +61,7 @@ fn answer_some(rt: &HostRuntime, mem: &mut Memory) -> io::Result<bool> {
     let mut lines = [0u8; BLOCK];
     let n = streams::read_full(&mut rt.stdin(), &mut lines)?;
     let mut out = [0u8; ROOM];
-    let end = answer_block(&lines, n, mem, &mut out);
+    let end = answer_block(&lines[..n], mem, &mut out);
     rt.write_all(&out[..end])?;
     Ok(n == BLOCK)
 }

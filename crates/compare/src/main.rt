@@ -2,7 +2,7 @@
 // difference. What it prints is `told` of what it read (`dump::tell`).
 #![tactic(auto)]
 
-ghost use Rattle.std.specs.Prelude.{◌≡◌, ◌+◌, ◌*◌, ◌≤◌, length};
+ghost use Rattle.std.specs.Prelude.{◌*◌, ◌≤◌};
 
 use std::io;
 
@@ -11,13 +11,6 @@ const INPUT: usize = 131137;
 
 // 48 bytes for each of at most 32,781 lines: no text is longer (`told-fits`).
 const OUT: usize = 48 * 32781;
-
-// A function of its own, so that the proof of `main` knows the length and nothing of the bytes.
-fn zeros<const N: usize>() -> [u8; N]
-    ensures { N ≡ length result }
-{
-    [0; N]
-}
 
 // Writes the text, and returns its length, which is at most that of the buffer (`told-fits`).
 // Each program has such a function: it makes of its own call's promise the bound by which `main` slices.
@@ -28,9 +21,9 @@ fn tell_into(input: &[u8], out: &mut [u8]) -> usize
 }
 
 fn main(rt: HostRuntime) -> io::Result<()> {
-    let mut input = zeros::<INPUT>();
+    let mut input = streams::zeros::<INPUT>();
     let n = streams::read_full(&mut rt.stdin(), &mut input)?;
-    let mut out = zeros::<OUT>();
+    let mut out = streams::zeros::<OUT>();
     let used = tell_into(&input[..n], &mut out);
     rt.write_all(&out[..used])
 }

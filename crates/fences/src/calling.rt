@@ -1,10 +1,11 @@
 // One call, by its letter: recorded, or not.
 use super::line;
 use super::line::Line;
-use calls::{InterruptType, Report};
+use calls::Report;
 use journal::{Outcome, Twin};
 use machine::Settings;
 use memory::Writes;
+use scenery::interrupt_of;
 
 // What a call leaves: the device writes, the twin, and the number.
 // The number and no Result: it is printed, 0 where the call is done.
@@ -13,15 +14,6 @@ pub struct Called {
     pub devices: Writes,
     pub twin: Twin,
     pub number: u8,
-}
-
-// The letters are the line's, and become an enum here.
-fn interrupt(letter: u8) -> InterruptType {
-    match letter {
-        b'I' => InterruptType::Irq,
-        b'F' => InterruptType::Firq,
-        _ => InterruptType::Nmi,
-    }
 }
 
 // Not From: `of_report` takes the twin besides, and the two are named alike.
@@ -56,7 +48,7 @@ fn recorded(
         b'S' => journal::step(mem, journal, twin, settings),
         b'R' => journal::reset(mem, journal, twin, settings),
         b'U' => journal::undo(mem, journal, twin),
-        _ => journal::interrupt(mem, journal, twin, settings, interrupt(letter)),
+        _ => journal::interrupt(mem, journal, twin, settings, interrupt_of(letter)),
     }
 }
 
@@ -65,7 +57,7 @@ fn unrecorded(mem: &mut [u8], twin: Twin, settings: Settings, letter: u8) -> Rep
     match letter {
         b'S' => calls::step(mem, machine, settings),
         b'R' => calls::reset(mem, machine, settings),
-        _ => calls::interrupt(mem, machine, settings, interrupt(letter)),
+        _ => calls::interrupt(mem, machine, settings, interrupt_of(letter)),
     }
 }
 

@@ -1,9 +1,9 @@
 // A scene's line: hexadecimal numbers at fixed places.
-ghost use Rattle.std.specs.Prelude.{◌+◌, ◌*◌, ◌≤◌};
+ghost use Rattle.std.specs.Prelude.{◌+◌, ◌≤◌};
 
 use journal::Twin;
-use machine::{Machine, Range, Settings, Wait};
-use registers::{CCBits, Flags, Set};
+use machine::{Machine, Range, Settings};
+use scenery::word_at;
 
 pub const LINE: usize = 252;
 
@@ -13,19 +13,6 @@ pub type Line = [u8; LINE];
 pub const OPERATIONS: usize = 96;
 
 const PROFILES: usize = 108;
-
-// Line and place stand apart: the places are those of the README's table, another in each call.
-pub fn byte_at(line: &Line, at: usize) -> u8
-    requires { at + 2 ≤ 252 }
-{
-    text::byte(line[at], line[at + 1])
-}
-
-pub fn word_at(line: &Line, at: usize) -> u16
-    requires { at + 4 ≤ 252 }
-{
-    byte_at(line, at) as u16 * 256 + byte_at(line, at + 2) as u16
-}
 
 // A profile has 72 bytes: eight digits and a space for each range.
 fn range_at(line: &Line, at: usize) -> Range
@@ -62,41 +49,14 @@ fn profile(line: &Line, second: bool) -> [Range; 8] {
 
 // With the first profile, or the second.
 pub fn settings(line: &Line, second: bool) -> Settings {
-    let flags = if line[46] == b'B' {
-        Flags::Bought
-    } else {
-        Flags::Manual
-    };
+    let flags = scenery::flags_of(line[46]);
     Settings::fenced(word_at(line, 41), flags, profile(line, second))
 }
 
-fn wait(line: &Line) -> Wait {
-    match line[48] {
-        b'0' => Wait::Running,
-        b'1' => Wait::Cwai,
-        _ => Wait::Sync,
-    }
-}
-
-fn registers(line: &Line) -> Set {
-    Set {
-        x: word_at(line, 16),
-        y: word_at(line, 21),
-        u: word_at(line, 26),
-        s: word_at(line, 31),
-        pc: word_at(line, 36),
-        a: byte_at(line, 7),
-        b: byte_at(line, 10),
-        dp: byte_at(line, 13),
-        cc: CCBits {
-            reg: byte_at(line, 4),
-        },
-    }
-}
-
 pub fn twin(line: &Line) -> Twin {
+    let regs = scenery::registers_at(line, 4, word_at(line, 36));
     let machine = Machine::fresh()
-        .with_registers(registers(line), wait(line))
+        .with_registers(regs, scenery::wait_of(line[48]))
         .marked(line[50] == b'1');
     Twin {
         machine,

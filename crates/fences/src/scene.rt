@@ -1,36 +1,10 @@
 // One scene: a fresh memory and journal, and up to eight calls.
-ghost use Rattle.std.specs.Prelude.{◌+◌, ◌*◌, ◌≤◌};
-
 use super::calling::Called;
 use super::line::{Line, OPERATIONS};
 use super::{calling, line, printed};
 use journal::Twin;
+use scenery::{BYTES, CODE, fill, word_at};
 use std::io;
-
-const BYTES: usize = 0x10000;
-
-// Where the code stands.
-const CODE: u16 = 0x1000;
-
-// A byte put raw into memory.
-fn put_one(mem: &mut [u8], at: u16, byte: u8) {
-    if let Some(b) = mem.get_mut(at as usize) {
-        *b = byte;
-    }
-}
-
-// Bytes of the line.
-fn put(mem: &mut [u8], at: u16, line: &Line, from: usize, count: u16)
-    requires { from + 2 * count ≤ 252 }
-{
-    for i in 0..count {
-        put_one(
-            mem,
-            at.wrapping_add(i),
-            line::byte_at(line, from + 2 * i as usize),
-        );
-    }
-}
 
 // A call, and its line.
 fn act(
@@ -75,8 +49,8 @@ fn act_all(rt: &HostRuntime, mem: &mut [u8], journal: &mut [u8], line: &Line) ->
 }
 
 fn play_in(rt: &HostRuntime, mem: &mut [u8], journal: &mut [u8], line: &Line) -> io::Result<()> {
-    put(mem, CODE, line, 52, 12);
-    put(mem, line::word_at(line, 77), line, 82, 4);
+    fill(mem, CODE, line, 52, 12);
+    fill(mem, word_at(line, 77), line, 82, 4);
     act_all(rt, mem, journal, line)
 }
 
@@ -84,6 +58,6 @@ fn play_in(rt: &HostRuntime, mem: &mut [u8], journal: &mut [u8], line: &Line) ->
 pub fn play(rt: &HostRuntime, line: &Line) -> io::Result<()> {
     let mut mem = [0u8; BYTES];
     let mut journal = [0u8; BYTES];
-    let room = line::word_at(line, 91) as usize;
+    let room = word_at(line, 91) as usize;
     play_in(rt, &mut mem, &mut journal[..room], line)
 }

@@ -12,7 +12,6 @@ ghost use Rattle.journal.specs.Recorded.{in_hand, stepped};
 ghost use Rattle.journal.specs.Undos.{undone};
 ghost use Rattle.lent.specs.Lending.{Returns};
 
-use answers::Refusal;
 use journal::Twin;
 use lent::Returned;
 use machine::Settings;
@@ -50,36 +49,15 @@ fn undo_owned(twin: Twin, mem: &mut [u8], journal: &[u8]) -> Returned
     }
 }
 
-// The last hexadecimal digit of n.
-fn letter(n: u8) -> u8 {
-    let d = n % 16;
-    if d < 10 { b'0' + d } else { b'A' - 10 + d }
-}
-
-fn show(rt: &HostRuntime, answer: Result<(), Refusal>, twin: Twin, byte: u8) -> io::Result<()> {
-    let number = answers::number(&answer);
-    let [high, low] = twin.machine.regs.pc.to_be_bytes();
-    let out = [
-        letter(number / 10),
-        letter(number % 10),
-        b' ',
-        letter(high / 16),
-        letter(high),
-        letter(low / 16),
-        letter(low),
-        b' ',
-        letter((twin.records % 16) as u8),
-        b' ',
-        letter(byte / 16),
-        letter(byte),
-        b'\n',
-    ];
-    rt.write_all(&out)
-}
-
 fn shown(rt: &HostRuntime, returned: Returned, byte: u8) -> io::Result<Twin> {
-    show(rt, returned.reported.answer, returned.twin, byte)?;
-    Ok(returned.twin)
+    let twin = returned.twin;
+    println!(rt;
+        "{:02} {:04X} {:X} {byte:02X}",
+        answers::number(&returned.reported.answer),
+        twin.machine.regs.pc,
+        twin.records % 16
+    )?;
+    Ok(twin)
 }
 
 fn forward(

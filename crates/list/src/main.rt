@@ -2,7 +2,7 @@
 // `list_printed` of what it read (`listing::list`).
 #![tactic(auto)]
 
-ghost use Rattle.std.specs.Prelude.{◌≡◌, ◌*◌, ◌≤◌, length};
+ghost use Rattle.std.specs.Prelude.{◌*◌, ◌≤◌};
 
 use std::io;
 
@@ -11,19 +11,6 @@ const INPUT: usize = 0x10_0006;
 
 // 49 bytes for each of at most 65,535 lines: no text is longer, as the contract of `list` says.
 const OUT: usize = 49 * 65536;
-
-// Functions of their own, so that the proof of `main` knows their lengths and nothing of their bytes.
-fn in_buffer() -> [u8; INPUT]
-    ensures { 0x100006 ≡ length result }
-{
-    [0; INPUT]
-}
-
-fn out_buffer() -> [u8; OUT]
-    ensures { 49 * 65536 ≡ length result }
-{
-    [0; OUT]
-}
 
 // Writes the text, and returns its length, which is at most that of the buffer.
 // Each program has such a function: it makes of its own call's promise the bound by which `main` slices.
@@ -34,9 +21,9 @@ fn list_into(input: &[u8], out: &mut [u8]) -> usize
 }
 
 fn main(rt: HostRuntime) -> io::Result<()> {
-    let mut input = in_buffer();
+    let mut input = streams::zeros::<INPUT>();
     let n = streams::read_full(&mut rt.stdin(), &mut input)?;
-    let mut out = out_buffer();
+    let mut out = streams::zeros::<OUT>();
     let used = list_into(&input[..n], &mut out);
     rt.write_all(&out[..used])
 }

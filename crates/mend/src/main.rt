@@ -2,7 +2,7 @@
 // error. What it writes is `printed_of`, `output_printed` and `error_text` of what it read (`salvage::mend`).
 #![tactic(auto)]
 
-ghost use Rattle.std.specs.Prelude.{◌≡◌, ◌+◌, ◌*◌, ◌≤◌, length};
+ghost use Rattle.std.specs.Prelude.{◌+◌, ◌*◌, ◌≤◌, length};
 
 use salvage::Printed;
 use std::io;
@@ -16,25 +16,6 @@ const OUT: usize = 0x10_000B;
 // 50 bytes for each of at most 32,768 lines, and 17 for the S9 that is added: no report is longer (`mend-fits`).
 const REPORT: usize = 50 * 0x8000 + 17;
 
-// Functions of their own, so that the proof of `main` knows their lengths and nothing of their bytes.
-fn in_buffer() -> [u8; INPUT]
-    ensures { 0x100001 ≡ length result }
-{
-    [0; INPUT]
-}
-
-fn out_buffer() -> [u8; OUT]
-    ensures { 0x10000B ≡ length result }
-{
-    [0; OUT]
-}
-
-fn report_buffer() -> [u8; REPORT]
-    ensures { 50 * 0x8000 + 17 ≡ length result }
-{
-    [0; REPORT]
-}
-
 // Writes text and report, and returns their lengths, which are at most those of the buffers (`mend-fits`).
 // Each program has such a function: it makes of its own call's promise the bound by which `main` slices.
 fn mend_into(input: &[u8], out: &mut [u8], report: &mut [u8]) -> Printed
@@ -44,13 +25,11 @@ fn mend_into(input: &[u8], out: &mut [u8], report: &mut [u8]) -> Printed
 }
 
 fn main(rt: HostRuntime) -> io::Result<()> {
-    let mut input = in_buffer();
+    let mut input = streams::zeros::<INPUT>();
     let n = streams::read_full(&mut rt.stdin(), &mut input)?;
-    let mut out = out_buffer();
-    let mut report = report_buffer();
+    let mut out = streams::zeros::<OUT>();
+    let mut report = streams::zeros::<REPORT>();
     let printed = mend_into(&input[..n], &mut out, &mut report);
-    let text = printed.text;
-    let told = printed.report;
-    rt.write_all(&out[..text])?;
-    rt.stderr().write_all(&report[..told])
+    rt.write_all(&out[..printed.text])?;
+    rt.stderr().write_all(&report[..printed.report])
 }

@@ -27,18 +27,11 @@ fn print_entry(rt: &HostRuntime, prefix: u8, code: u8, entry: Entry) -> io::Resu
 }
 
 // The prefix is the byte before the opcodes of the page, 00 where there is none. An empty place has no line.
-fn print_page(rt: &HostRuntime, prefix: u8, places: &[Option<Entry>; 256]) -> io::Result<()> {
-    for (code, place) in places.iter().enumerate() {
-        if let Some(entry) = place {
-            print_entry(rt, prefix, code as u8, *entry)?;
-        }
-    }
-    Ok(())
-}
-
-fn print_fields(rt: &HostRuntime, prefix: u8, page: Page) -> io::Result<()> {
+fn print_page<F: Fn(u8) -> Option<Entry>>(rt: &HostRuntime, prefix: u8, place: F) -> io::Result<()>
+    requires { F.IsAlwaysCallable place }
+{
     for code in 0..=255 {
-        if let Some(entry) = fields::place(page, code) {
+        if let Some(entry) = place(code) {
             print_entry(rt, prefix, code, entry)?;
         }
     }
@@ -47,10 +40,10 @@ fn print_fields(rt: &HostRuntime, prefix: u8, page: Page) -> io::Result<()> {
 
 fn main(rt: HostRuntime) -> io::Result<()> {
     let [plain, ten, eleven] = pages::all();
-    print_page(&rt, 0x00, &plain)?;
-    print_page(&rt, 0x10, &ten)?;
-    print_page(&rt, 0x11, &eleven)?;
-    print_fields(&rt, 0x00, Page::Plain)?;
-    print_fields(&rt, 0x10, Page::Ten)?;
-    print_fields(&rt, 0x11, Page::Eleven)
+    print_page(&rt, 0x00, |code| plain[code as usize])?;
+    print_page(&rt, 0x10, |code| ten[code as usize])?;
+    print_page(&rt, 0x11, |code| eleven[code as usize])?;
+    print_page(&rt, 0x00, |code| fields::place(Page::Plain, code))?;
+    print_page(&rt, 0x10, |code| fields::place(Page::Ten, code))?;
+    print_page(&rt, 0x11, |code| fields::place(Page::Eleven, code))
 }

@@ -3,7 +3,7 @@
 // A program beside `run`, and no switch in it: standard input is the run file alone.
 #![tactic(auto)]
 
-ghost use Rattle.std.specs.Prelude.{◌≡◌, ◌*◌, length};
+ghost use Rattle.std.specs.Prelude.{◌*◌, ◌≤◌};
 
 use std::io;
 
@@ -13,17 +13,18 @@ const FILE: usize = 32769;
 // 33 bytes for each of at most 32,768 operations: no text is longer (`play-fits`).
 const OUT: usize = 33 * 32768;
 
-// A function of its own, so that the proof of `main` knows its length and nothing of its bytes.
-fn out_buffer() -> [u8; OUT]
-    ensures { 33 * 32768 ≡ length result }
+// Writes the text, and returns its length, which is at most that of the buffer (`play-fits`).
+// Each program has such a function: it makes of its own call's promise the bound by which `main` slices.
+fn play_into(file: &[u8], out: &mut [u8]) -> usize
+    ensures { result ≤ 33 * 32768 }
 {
-    [0; OUT]
+    player::play_second(file, out)
 }
 
 fn main(rt: HostRuntime) -> io::Result<()> {
-    let mut file = [0u8; FILE];
+    let mut file = streams::zeros::<FILE>();
     let n = streams::read_full(&mut rt.stdin(), &mut file)?;
-    let mut out = out_buffer();
-    let used = player::play_second(&file[..n], &mut out);
+    let mut out = streams::zeros::<OUT>();
+    let used = play_into(&file[..n], &mut out);
     rt.write_all(&out[..used])
 }

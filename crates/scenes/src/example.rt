@@ -1,12 +1,12 @@
 // A worked example: three calls that are not recorded, and what is printed of the machine.
-use super::line::{Line, word_at};
-use super::printed::{put_byte, put_decimal, put_front, put_view, put_word};
+use super::line::Line;
+use super::printed::put_front;
 use super::start;
-use super::start::{BYTES, CODE};
 use calls::Report;
 use machine::{Machine, Settings};
 use memory::Writes;
-use registers::{Flags, Set};
+use registers::Set;
+use scenery::{BYTES, CODE, interrupt_of, put_byte, put_decimal, put_view, put_word, word_at};
 use std::io;
 
 type Memory = [u8; BYTES];
@@ -14,12 +14,7 @@ type Memory = [u8; BYTES];
 const OUT: usize = 61;
 
 fn settings(line: &Line) -> Settings {
-    let flags = if line[4] == b'B' {
-        Flags::Bought
-    } else {
-        Flags::Manual
-    };
-    Settings::new(0xFFFF, flags)
+    Settings::new(0xFFFF, scenery::flags_of(line[4]))
 }
 
 // One call by its letter; there is none for `-`. A refused one leaves the machine.
@@ -28,7 +23,7 @@ fn act(mem: &mut Memory, before: Report, settings: Settings, letter: u8) -> Repo
     let machine = before.machine;
     match letter {
         b'S' => calls::step(mem, machine, settings),
-        b'I' | b'F' | b'N' => calls::interrupt(mem, machine, settings, start::interrupt(letter)),
+        b'I' | b'F' | b'N' => calls::interrupt(mem, machine, settings, interrupt_of(letter)),
         b'R' => calls::reset(mem, machine, settings),
         _ => before,
     }
@@ -61,6 +56,7 @@ fn put_registers(out: &mut [u8], regs: Set) {
     put_word(out, 39, regs.pc);
 }
 
+// Not shared: the programs print other fields of a machine, at other distances.
 fn put_machine(out: &mut [u8], machine: Machine) {
     put_registers(out, machine.regs);
     put_decimal(out, 47, machine.cycles);
@@ -82,13 +78,9 @@ fn printed(mem: &Memory, line: &Line, report: Report) -> [u8; OUT] {
     out
 }
 
-fn write(rt: &HostRuntime, out: &[u8; OUT]) -> io::Result<()> {
-    rt.write_all(out)
-}
-
 // Runs one example in fresh memory, and writes its line.
 pub fn answer(rt: &HostRuntime, line: &Line) -> io::Result<()> {
     let mut mem = [0u8; BYTES];
     let report = run(&mut mem, line);
-    write(rt, &printed(&mem, line, report))
+    rt.write_all(&printed(&mem, line, report))
 }

@@ -1,6 +1,4 @@
-// The lines of standard input: the two shapes that they have, and the numbers in them.
-ghost use Rattle.std.specs.Prelude.{◌+◌, ◌≤◌};
-
+// The lines of standard input: the two shapes that they have.
 // A scene's line. An example's is shorter, and stands at its front.
 pub const LINE: usize = 134;
 
@@ -31,12 +29,6 @@ fn fits(kind: u8, b: u8) -> bool {
     }
 }
 
-// 0 past the end.
-// No Option: the lines that are printed show 00 there.
-pub fn byte_of(bytes: &[u8], at: usize) -> u8 {
-    bytes.get(at).copied().unwrap_or(0)
-}
-
 fn has_shape(line: &Line, shape: &[u8]) -> bool {
     line.iter().zip(shape).all(|(b, kind)| fits(*kind, *b))
 }
@@ -53,35 +45,4 @@ pub fn is_scene(line: &Line) -> bool {
         line,
         b"xxx xx xx xx xx xxxx xxxx xxxx xxxx xxxx xxxx xxxxxxxxxxxx xxxx xxxxxxxx xxxxx xxxx xxxxxxxxxxxxxxxx xxxxxxxxxxxxxxxx jjjjjjjj xxxx j\n",
     )
-}
-
-// Line and place stand apart: the places are those of the README's table, another in each call.
-pub fn byte_at(line: &Line, at: usize) -> u8
-    requires { at + 2 ≤ 134 }
-{
-    text::byte(line[at], line[at + 1])
-}
-
-pub fn word_at(line: &Line, at: usize) -> u16
-    requires { at + 4 ≤ 134 }
-{
-    byte_at(line, at) as u16 * 256 + byte_at(line, at + 2) as u16
-}
-
-// Sixteen digits.
-pub fn long_at(line: &Line, at: usize) -> u64
-    requires { at + 16 ≤ 134 }
-{
-    let high = word_at(line, at) as u64 * 0x10000 + word_at(line, at + 4) as u64;
-    let low = word_at(line, at + 8) as u64 * 0x10000 + word_at(line, at + 12) as u64;
-    high * 0x1_0000_0000 + low
-}
-
-// Five digits, the first of them 0 or 1.
-pub fn length_at(line: &Line, at: usize) -> usize
-    requires { at + 5 ≤ 134 }
-    ensures { result ≤ 65536 }
-{
-    let rest = word_at(line, at + 1) as usize;
-    if line[at] == b'1' { 0x10000 } else { rest }
 }

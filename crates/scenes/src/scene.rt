@@ -1,20 +1,20 @@
 // A scene of the journal: recorded calls, undos and drops on the lengths of memory and journal that the line says, and the newest record.
 ghost use Rattle.std.specs.Prelude.{◌<◌, ◌≤◌};
 
-use super::line::{Line, byte_of, length_at, long_at, word_at};
-use super::printed::{put_byte, put_decimal, put_front, put_view, put_word};
+use super::line::Line;
+use super::printed::put_front;
 use super::start;
-use super::start::BYTES;
 use journal::{Outcome, Twin};
 use machine::{ARMED, HEADER, Machine, Settings, WAIT};
 use memory::Writes;
 use registers::Flags;
+use scenery::{
+    BYTES, Undone, byte_of, interrupt_of, length_at, long_at, put_byte, put_bytes, put_decimal,
+    put_devices, put_long, put_one, put_view, put_word, word_at,
+};
 use std::io;
 
 const OUT: usize = 226;
-
-// More undos than any journal has records.
-const MOST_UNDOS: u64 = 100000;
 
 // The longest record.
 const RECORD: usize = 70;
@@ -44,12 +44,6 @@ fn started(line: &Line) -> Outcome {
     }
 }
 
-fn overwrite(journal: &mut [u8], at: usize, byte: u8) {
-    if let Some(b) = journal.get_mut(at) {
-        *b = byte;
-    }
-}
-
 // Where the newest record begins, by the last of the bytes used.
 fn newest_at(journal: &[u8], bytes: usize) -> usize
     requires { 0 < bytes }
@@ -69,14 +63,14 @@ fn damage(journal: &mut [u8], bytes: usize, letter: u8) {
     }
     let at = newest_at(journal, bytes);
     match letter {
-        b'w' => overwrite(journal, at + WAIT, 3),
-        b'm' => overwrite(journal, at + ARMED, 2),
-        b'c' => overwrite(journal, at + HEADER, 13),
-        b'd' => overwrite(journal, at + HEADER, 1),
-        b'l' => overwrite(journal, bytes - 1, 33),
-        b'h' => overwrite(journal, bytes - 1, 255),
-        b'o' => overwrite(journal, HEADER, 13),
-        _ => overwrite(journal, HEADER, 12),
+        b'w' => put_one(journal, at + WAIT, 3),
+        b'm' => put_one(journal, at + ARMED, 2),
+        b'c' => put_one(journal, at + HEADER, 13),
+        b'd' => put_one(journal, at + HEADER, 1),
+        b'l' => put_one(journal, bytes - 1, 33),
+        b'h' => put_one(journal, bytes - 1, 255),
+        b'o' => put_one(journal, HEADER, 13),
+        _ => put_one(journal, HEADER, 12),
     }
 }
 
@@ -102,7 +96,7 @@ fn act(
     match letter {
         b'S' => journal::step(mem, journal, twin, settings),
         b'I' | b'F' | b'N' => {
-            journal::interrupt(mem, journal, twin, settings, start::interrupt(letter))
+            journal::interrupt(mem, journal, twin, settings, interrupt_of(letter))
         }
         b'R' => journal::reset(mem, journal, twin, settings),
         b'U' => journal::undo(mem, journal, twin),
@@ -133,54 +127,21 @@ fn turns(mem: &mut [u8], journal: &mut [u8], line: &Line) -> Outcome {
     outcome
 }
 
-// How an ending leaves the scene, and how many undos it took.
-#[derive(Clone, Copy)]
-struct Ended {
-    outcome: Outcome,
-    undos: u64,
-}
-
 // Undo until it is refused, if the line ends in U.
-fn end(mem: &mut [u8], journal: &[u8], before: Outcome, line: &Line) -> Ended {
-    let mut outcome = before;
-    if line[132] != b'U' {
-        return Ended { outcome, undos: 0 };
-    }
-    for undos in 0..MOST_UNDOS {
-        outcome = journal::undo(mem, journal, outcome.twin);
-        if outcome.answer.is_err() {
-            return Ended { outcome, undos };
-        }
-    }
-    Ended {
-        outcome,
-        undos: MOST_UNDOS,
+fn end(mem: &mut [u8], journal: &[u8], last: Outcome, line: &Line) -> Undone {
+    if line[132] == b'U' {
+        scenery::undo_all(mem, journal, last.twin)
+    } else {
+        Undone { last, undos: 0 }
     }
 }
 
+// Not shared: the programs print other fields of a machine, at other distances.
 fn put_machine(out: &mut [u8], machine: Machine) {
     let regs = machine.regs;
     put_word(out, 46, regs.pc);
     put_byte(out, 51, regs.cc.get_as_byte());
     put_decimal(out, 55, machine::wait_byte(machine.wait) as u64);
-}
-
-// Sixteen digits.
-// The bound is above every place that is used, so that no sum wraps.
-fn put_long(out: &mut [u8], at: usize, n: u64)
-    requires { at ≤ 100 }
-{
-    for (i, b) in n.to_be_bytes().iter().enumerate() {
-        put_byte(out, at + 2 * i, *b);
-    }
-}
-
-// How many device writes the last call reported, and the first of them.
-fn put_devices(out: &mut [u8], devices: Writes) {
-    let first = devices.list[0];
-    put_decimal(out, 67, devices.count as u64);
-    put_word(out, 68, first.at);
-    put_byte(out, 73, first.byte);
 }
 
 // Four bytes of the journal behind those in use; 00 past its end.
@@ -193,26 +154,24 @@ fn put_behind(out: &mut [u8], journal: &[u8], bytes: usize) {
 // The newest record; where the part handed back is empty, and past its end, hyphens stay.
 fn put_record(out: &mut [u8], journal: &[u8], records: usize, bytes: usize) {
     let record = journal::newest(journal, records, bytes);
-    for (i, b) in record.iter().take(RECORD).enumerate() {
-        put_byte(out, 85 + 2 * i, *b);
-    }
+    put_bytes(out, 85, &record[..record.len().min(RECORD)]);
 }
 
-fn put_outcome(out: &mut [u8], line: &Line, ended: Ended) {
-    let outcome = ended.outcome;
+fn put_outcome(out: &mut [u8], line: &Line, ended: Undone) {
+    let outcome = ended.last;
     let twin = outcome.twin;
     put_front(out, line, outcome.answer);
     put_long(out, 7, twin.records as u64);
     put_long(out, 24, twin.bytes as u64);
     put_decimal(out, 45, ended.undos);
     put_machine(out, twin.machine);
-    put_devices(out, outcome.devices);
+    put_devices(out, 67, outcome.devices);
 }
 
 // Its line, over a form of zeros and hyphens.
-fn printed(mem: &[u8], journal: &[u8], line: &Line, ended: Ended) -> [u8; OUT] {
+fn printed(mem: &[u8], journal: &[u8], line: &Line, ended: Undone) -> [u8; OUT] {
     let mut out = [b'-'; OUT];
-    let twin = ended.outcome.twin;
+    let twin = ended.last.twin;
     text::put(
         &mut out,
         0,
@@ -226,15 +185,11 @@ fn printed(mem: &[u8], journal: &[u8], line: &Line, ended: Ended) -> [u8; OUT] {
     out
 }
 
-fn write(rt: &HostRuntime, out: &[u8; OUT]) -> io::Result<()> {
-    rt.write_all(out)
-}
-
 fn play(rt: &HostRuntime, mem: &mut [u8], journal: &mut [u8], line: &Line) -> io::Result<()> {
     start::fill(mem, line, 46);
     let outcome = turns(mem, journal, line);
     let ended = end(mem, journal, outcome, line);
-    write(rt, &printed(mem, journal, line, ended))
+    rt.write_all(&printed(mem, journal, line, ended))
 }
 
 // Plays one scene in fresh memory with a fresh journal, and writes its line.

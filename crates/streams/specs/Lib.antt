@@ -1,2 +1,2 @@
--- How much of a buffer was filled.
+-- How much of a buffer was filled, and a buffer of zeros.
 pub mod Counts

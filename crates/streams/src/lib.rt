@@ -1,9 +1,9 @@
 // Reading of standard input, for the programs.
 #![tactic(auto)]
 
-ghost use Rattle.std.specs.Prelude.{◌<◌, IfOk, length, take};
+ghost use Rattle.std.specs.Prelude.{◌≡◌, ◌<◌, IfOk, length, take};
 ghost use Rattle.std.specs.Io.KnownBytes.{Consumes, IsAtEnd};
-ghost use Rattle.streams.specs.Counts.{IsPrefixLen};
+ghost use Rattle.streams.specs.Counts.{IsPrefixLen, IsZeros};
 
 use std::io;
 use std::io::Read;
@@ -24,6 +24,14 @@ pub fn read_full<R: Read>(from: &mut R, buf: &mut [u8]) -> io::Result<usize>
         done += n;
     }
     Ok(done)
+}
+
+// An array for what is read or written: the proof of a caller knows its length, and need not open it.
+pub fn zeros<const N: usize>() -> [u8; N]
+    ensures count { N ≡ length result }
+    ensures bytes { IsZeros N result }
+{
+    [0; N]
 }
 
 #[cfg(test)]

@@ -4,6 +4,7 @@
 
 use answers::Refusal;
 use salvage::Salvaged;
+use scenery::word_at;
 use std::io;
 
 // The longest file that is taken.
@@ -11,10 +12,6 @@ const INPUT: usize = 0x4000;
 
 // The outputs and lists are this long at the most.
 const ROOM: usize = 0x4400;
-
-fn print(rt: &HostRuntime, text: &[u8]) -> io::Result<()> {
-    rt.write_all(text)
-}
 
 // The number of the answer; the three counts are 0 where the salvage is refused.
 fn print_result(rt: &HostRuntime, salvaged: Result<Salvaged, Refusal>) -> io::Result<()> {
@@ -27,74 +24,37 @@ fn print_result(rt: &HostRuntime, salvaged: Result<Salvaged, Refusal>) -> io::Re
 // The file's text is at the front of an output of n dots, its numbers at the front of a list of m dots; all of both is printed.
 fn salvage_into(rt: &HostRuntime, file: &[u8], out: &mut [u8], list: &mut [u8]) -> io::Result<()> {
     print_result(rt, salvage::salvage(file, out, list))?;
-    print(rt, out)?;
-    print(rt, b"\n")?;
-    print(rt, list)?;
-    print(rt, b"\n")
+    rt.write_all(out)?;
+    rt.write_all(b"\n")?;
+    rt.write_all(list)?;
+    rt.write_all(b"\n")
 }
 
-fn salvage_in(
-    rt: &HostRuntime,
-    file: &[u8],
-    out: &mut [u8],
-    list: &mut [u8],
-    n: usize,
-    m: usize,
-) -> io::Result<()> {
-    if n <= out.len() && m <= list.len() {
-        return salvage_into(rt, file, &mut out[..n], &mut list[..m]);
-    }
-    Ok(())
-}
-
+// Nothing is printed where an output or a list has no room for so many dots.
 fn answer(rt: &HostRuntime, file: &[u8], n: usize, m: usize) -> io::Result<()> {
     let mut out = [b'.'; ROOM];
     let mut list = [b'.'; ROOM];
-    salvage_in(rt, file, &mut out, &mut list, n, m)
-}
-
-fn answer_first(rt: &HostRuntime, input: &[u8], size: usize, n: usize, m: usize) -> io::Result<()> {
-    if size <= input.len() {
-        return answer(rt, &input[..size], n, m);
-    }
-    Ok(())
-}
-
-fn read_first(rt: &HostRuntime, input: &mut [u8], n: usize) -> io::Result<usize> {
-    if n <= input.len() {
-        streams::read_full(&mut rt.stdin(), &mut input[..n])
-    } else {
-        Ok(0)
-    }
-}
-
-// The number of four hexadecimal digits.
-fn word(high: u8, next: u8, third: u8, low: u8) -> usize {
-    u16::from_be_bytes([text::byte(high, next), text::byte(third, low)]) as usize
+    let (Some(out), Some(list)) = (out.get_mut(..n), list.get_mut(..m)) else {
+        return Ok(());
+    };
+    salvage_into(rt, file, out, list)
 }
 
 // Reads one file, answers it, and says whether there may be more. Its head is three numbers of four digits, the file's length and those
 // of output and list, each with a blank or a line feed after it.
 fn answer_next(rt: &HostRuntime) -> io::Result<bool> {
-    let mut head = [0u8; 15];
-    if streams::read_full(&mut rt.stdin(), &mut head)? < 15 {
+    let Some(head) = scenery::read_line::<_, 15>(&mut rt.stdin())? else {
         return Ok(false);
-    }
-    let size = word(head[0], head[1], head[2], head[3]);
-    let n = word(head[5], head[6], head[7], head[8]);
-    let m = word(head[10], head[11], head[12], head[13]);
+    };
+    let size = word_at(&head, 0) as usize;
+    let n = word_at(&head, 5) as usize;
+    let m = word_at(&head, 10) as usize;
     let mut input = [0u8; INPUT];
-    let got = read_first(rt, &mut input, size)?;
-    answer_first(rt, &input, got, n, m)?;
+    let file = scenery::read_part(&mut rt.stdin(), &mut input, size)?;
+    answer(rt, file, n, m)?;
     Ok(true)
 }
 
-// A proved loop has to end, and nothing says that the input does: there are more turns than any run uses up.
 fn main(rt: HostRuntime) -> io::Result<()> {
-    for _ in 0..u64::MAX {
-        if !answer_next(&rt)? {
-            break;
-        }
-    }
-    Ok(())
+    scenery::repeat(|| answer_next(&rt))
 }

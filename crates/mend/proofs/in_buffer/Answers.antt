@@ -1,7 +1,0 @@
--- The length of an array that is too long to be counted.
--- Assumes nothing.
-use Rattle.salvage.proofs.Mending.{counted}
-use Rattle.mend.proofs.in_buffer.Goals as goal
-
-pub returns : goal.returns
-returns c = counted 0x100001

@@ -1,0 +1,8 @@
+-- Every text fits (`play-fits`).
+-- Assumes nothing.
+use Rattle.std.proofs.Common.{arith}
+use Rattle.player.proofs.Bounds.{play-fits}
+use Rattle.run_training.proofs.play_into.Goals as goal
+
+pub returns : goal.returns
+returns c = omega (arith, c.play_second.ensures.0, play-fits c.args.file.now)
