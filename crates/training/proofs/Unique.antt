@@ -24,3 +24,20 @@ record-step κs a x y ws vs p q =
 pub call : Determines 2 proofs.recorded.call.Kinds.ps proofs.recorded.call.Kinds.r proofs.recorded.call.Reads.Post
 call κs a x y ws vs p q =
     (p.0.result ∙ sym q.0.result, λ i. ((p.0.memory-is ∙ sym q.0.memory-is) i, ((p.0.journal-is ∙ sym q.0.journal-is) i, (tt, (tt, (tt, tt))))))
+
+-- of both engines
+pub step-on :
+    Determines 2 proofs.engines.FirstEngine.step.Kinds.ps proofs.engines.FirstEngine.step.Kinds.r proofs.engines.FirstEngine.step.Reads.Post
+    × Determines 2 proofs.engines.SecondEngine.step.Kinds.ps proofs.engines.SecondEngine.step.Kinds.r proofs.engines.SecondEngine.step.Reads.Post
+step-on = (
+  λ κs a x y ws vs p q. (p.0.result ∙ sym q.0.result, λ i. ((p.0.memory-is ∙ sym q.0.memory-is) i, ((p.0.journal-is ∙ sym q.0.journal-is) i, (tt, (tt, tt))))),
+  λ κs a x y ws vs p q. (p.0.result ∙ sym q.0.result, λ i. ((p.0.memory-is ∙ sym q.0.memory-is) i, ((p.0.journal-is ∙ sym q.0.journal-is) i, (tt, (tt, tt))))),
+)
+
+pub call-on :
+    Determines 2 proofs.engines.FirstEngine.call.Kinds.ps proofs.engines.FirstEngine.call.Kinds.r proofs.engines.FirstEngine.call.Reads.Post
+    × Determines 2 proofs.engines.SecondEngine.call.Kinds.ps proofs.engines.SecondEngine.call.Kinds.r proofs.engines.SecondEngine.call.Reads.Post
+call-on = (
+  λ κs a x y ws vs p q. (p.0.result ∙ sym q.0.result, λ i. ((p.0.memory-is ∙ sym q.0.memory-is) i, ((p.0.journal-is ∙ sym q.0.journal-is) i, (tt, (tt, (tt, tt)))))),
+  λ κs a x y ws vs p q. (p.0.result ∙ sym q.0.result, λ i. ((p.0.memory-is ∙ sym q.0.memory-is) i, ((p.0.journal-is ∙ sym q.0.journal-is) i, (tt, (tt, (tt, tt)))))),
+)
