@@ -1,8 +1,7 @@
 -- The list of writes of a push, filled register by register in the order of pushing.
 -- Assumes nothing.
-use Rattle.std.proofs.Common.{◌≡◌, ℕ, zero, suc, ◌+◌, ◌-◌, ◌*◌, ◌/◌, ◌%◌, ◌^◌, ◌<◌, ◌≤◌, Bool, true, false, cond, eqb, List, [], ◌∷◌, ◌++◌, length, get_or, take, drop, sym, refl, ap, ◌∙◌, append_assoc, append-nil, arith, length-append, take-append-drop, take-suc, drop-cons}
-use Rattle.u8oru16.specs.Value.{size_of}
-use Rattle.u8oru16.specs.declared.u8u16.{u8u16}
+use Rattle.std.proofs.Common.{◌≡◌, ℕ, zero, suc, ◌+◌, ◌-◌, ◌*◌, ◌/◌, ◌%◌, ◌^◌, ◌<◌, ◌≤◌, Bool, true, false, cond, eqb, List, [], ◌∷◌, ◌++◌, length, get_or, take, drop, set, sym, refl, ap, ◌∙◌, append_assoc, append-nil, arith, length-append, take-append-drop, take-suc, drop-cons}
+use Rattle.u8oru16.specs.Value.{value_of, size_of, low_byte}
 use Rattle.registers.specs.ConditionCodes.{bit_at}
 use Rattle.registers.specs.Names.{register_size}
 use Rattle.registers.specs.RegisterSet.{read}
@@ -11,10 +10,9 @@ use Rattle.registers.specs.declared.Name.TheVariants.{A, B, D, X, Y, U, S, PC, D
 use Rattle.registers.specs.declared.Set.{Set}
 use Rattle.registers.specs.declared.Stack.{Stack}
 use Rattle.registers.specs.declared.Stack.TheVariants.{S as on_s, U as on_u}
-use Rattle.memory.specs.Writes.{writes_of, added_all, value_writes}
+use Rattle.memory.specs.Writes.{twelve, writes_of, value_writes, word_writes}
 use Rattle.memory.specs.declared.writes.Write.{Write}
-use Rattle.memory.specs.declared.writes.Writes.{Writes}
-use Rattle.memory.proofs.Folds.{added_more}
+use Rattle.memory.proofs.Folds.{place-more}
 use Rattle.stack.specs.Pushing.{order, chosen, registers_named, bytes_pushed, pushes}
 
 -- ---- sizes
@@ -154,25 +152,57 @@ chosen-from mask stack k low high =
     let bit : 7 - n ≡ k - 1 = omega arith in
     ap (chosen mask) (drop-cons (order stack) n (0, CC) (omega arith)) ∙ rw (bit-of stack n (omega arith), bit, same, ← next)
 
+-- the first four are words, the last four bytes
+pub record IsWord (r : Set) (name : Name) : Type 0 where
+  pub size : register_size name ≡ 2
+  pub written : (at : ℕ) (system : Bool) → value_writes at (read r name) system ≡ word_writes at (value_of (read r name)) system
+
+pub record IsByte (r : Set) (name : Name) : Type 0 where
+  pub size : register_size name ≡ 1
+  pub written : (at : ℕ) (system : Bool) → value_writes at (read r name) system ≡ record { at = at; byte = value_of (read r name); system = system } ∷ []
+  pub low : low_byte (read r name) ≡ value_of (read r name)
+
+pub word_of : (r : Set) (stack : Stack) (n : ℕ) → n < 4 → IsWord r (name_at stack n)
+word_of r stack zero h = record { size = refl; written = λ at system. refl }
+word_of r on_s (suc zero) h = record { size = refl; written = λ at system. refl }
+word_of r on_u (suc zero) h = record { size = refl; written = λ at system. refl }
+word_of r stack (suc (suc zero)) h = record { size = refl; written = λ at system. refl }
+word_of r stack (suc (suc (suc zero))) h = record { size = refl; written = λ at system. refl }
+word_of r stack (suc (suc (suc (suc n)))) h = absurd (omega arith)
+
+pub byte-of : (r : Set) (stack : Stack) (n : ℕ) → n < 4 → IsByte r (name_at stack (4 + n))
+byte-of r stack zero h = record { size = refl; written = λ at system. refl; low = refl }
+byte-of r stack (suc zero) h = record { size = refl; written = λ at system. refl; low = refl }
+byte-of r stack (suc (suc zero)) h = record { size = refl; written = λ at system. refl; low = refl }
+byte-of r stack (suc (suc (suc zero))) h = record { size = refl; written = λ at system. refl; low = refl }
+byte-of r stack (suc (suc (suc (suc n)))) h = absurd (omega arith)
+
+-- what bit 3, 2, 1 or 0 names is a byte
+pub lowest : (r : Set) (stack : Stack) (k : ℕ) → 0 < k → k ≤ 4 → low_byte (read r (name_at stack (7 - (k - 1)))) ≡ value_of (read r (name_at stack (7 - (k - 1))))
+lowest r stack k low high =
+    let e : 7 - (k - 1) ≡ 4 + (4 - k) = omega arith in
+    rw e (byte-of r stack (4 - k) (omega arith)).low
+
 -- ---- the list while it is filled
 
-all_added : (l m : List Write) → length l + length m ≤ 12 → added_all (writes_of l) m ≡ writes_of (l ++ m)
-all_added l [] h = ap writes_of (sym (append-nil l))
-all_added l (w ∷ m) h =
-    rw (added_more l w (omega arith)) (all_added (l ++ (w ∷ [])) m (omega (arith, length-append l (w ∷ []))) ∙ ap writes_of (append_assoc l (w ∷ []) m))
+two-placed : (ws : List Write) (a b : Write) (count : ℕ) → count ≡ length ws → count + 2 ≤ 12 → set (set (twelve ws) count a) (count + 1) b ≡ twelve (ws ++ (a ∷ b ∷ []))
+two-placed ws a b count l few =
+    let m : length ws + 1 ≡ length (ws ++ (a ∷ [])) = sym (length-append ws (a ∷ [])) in
+    rw (l, place-more ws a (omega arith), m, place-more (ws ++ (a ∷ [])) b (omega arith)) (ap twelve (append_assoc ws (a ∷ []) (b ∷ [])))
 
 module _ (r : Set) (stack : Stack) (pointer mask : ℕ) (system : Bool) where
   -- the writes of the first n registers of the order, as far as the post-byte names them
   abbrev pub first : ℕ → List Name
   first n = chosen mask (take n (order stack))
 
-  pub record Filled (n : ℕ) (writes : Writes) (at : ℕ) : Type 0 where
-    pub places : writes ≡ writes_of (pushes r system pointer (first n))
-    pub low : at + size (first n) ≡ pointer
+  pub record Filled (n : ℕ) (list : List Write) (count at : ℕ) : Type 0 where
+    pub places : list ≡ twelve (pushes r system pointer (first n))
+    pub many : count ≡ size (first n)
+    pub low : at + count ≡ pointer
 
-  pub empty : Filled 0 (writes_of []) pointer
+  pub empty : Filled 0 (twelve []) 0 pointer
   unfolding chosen pushes
-  empty = record { places = refl; low = omega arith }
+  empty = record { places = refl; many = refl; low = omega arith }
 
   chosen-one : (n : ℕ) → n < 8 → first (suc n) ≡ first n ++ cond (bit_at (7 - n) mask) (name_at stack n ∷ []) []
   unfolding chosen
@@ -181,44 +211,66 @@ module _ (r : Set) (stack : Stack) (pointer mask : ℕ) (system : Bool) where
       ∙ (chosen-append mask (take n (order stack)) (get_or (order stack) n (0, CC) ∷ [])
       ∙ ap (λ (k : ℕ). first n ++ cond (bit_at k mask) (name_at stack n ∷ []) []) (bit-of stack n h))
 
-  -- bit 7 - n
-  module _ (n : ℕ) (h : n < 8) (writes : Writes) (at : ℕ) (f : Filled n writes at) where
-    off : bit_at (7 - n) mask ≡ false → Filled (suc n) writes at
+  module _ (n : ℕ) (h : n < 8) (list : List Write) (count at : ℕ) (f : Filled n list count at) where
+    off : bit_at (7 - n) mask ≡ false → Filled (suc n) list count at
     off b =
         let e : first (suc n) ≡ first n = chosen-one n h ∙ rw b (append-nil (first n)) in
-        record { places = rw e f.places; low = rw e f.low }
+        record { places = rw e f.places; many = rw e f.many; low = f.low }
 
     module _ (b : bit_at (7 - n) mask ≡ true) where
-      abbrev z : ℕ
-      z = register_size (name_at stack n)
-
       one_more : first (suc n) ≡ first n ++ (name_at stack n ∷ [])
       one_more = chosen-one n h ∙ rw b
 
-      grown : size (first (suc n)) ≡ size (first n) + z
-      grown = ap size one_more ∙ omega (arith, size-append (first n) (name_at stack n ∷ []))
-
       -- the bytes of the register are among those that are counted
-      within : size (first n) + z ≤ bytes_pushed mask
-      within = omega (arith, grown, chosen-within mask (suc n) (order stack), named-size mask stack)
+      room : count + register_size (name_at stack n) ≤ bytes_pushed mask
+      room =
+          omega (arith, f.many, size-append (first n) (name_at stack n ∷ []), ap size one_more, chosen-within mask (suc n) (order stack), named-size mask stack)
 
-      room : bytes_pushed mask ≤ pointer → z ≤ at
-      room fits = omega (arith, f.low, within)
+  -- the writes after one register more
+  pushes-on : (n : ℕ) → n < 8 → (list : List Write) (count at : ℕ) → Filled n list count at → bit_at (7 - n) mask ≡ true → count + register_size (name_at stack n) ≤ pointer
+      → pushes r system pointer (first (suc n)) ≡ pushes r system pointer (first n) ++ value_writes (at - register_size (name_at stack n)) (read r (name_at stack n)) system
+  pushes-on n h list count at f b fits =
+      let z = register_size (name_at stack n) in
+      let e : pointer - size (first n) - z ≡ at - z = omega (arith, f.many, f.low) in
+      ap (pushes r system pointer) (one_more n h list count at f b) ∙ (pushes-more r system pointer (first n) (name_at stack n) ∙ rw e)
 
-      on : bytes_pushed mask ≤ pointer → Filled (suc n) (added_all writes (value_writes (at - z) (read r (name_at stack n)) system)) (at - z)
-      on fits =
-          let ws = pushes r system pointer (first n) in
-          let vs = value_writes (at - z) (read r (name_at stack n)) system in
-          let e : pointer - size (first n) - z ≡ at - z = omega (arith, f.low) in
-          let p : pushes r system pointer (first (suc n)) ≡ ws ++ vs = ap (pushes r system pointer) one_more ∙ (pushes-more r system pointer (first n) (name_at stack n) ∙ rw e) in
-          let few : length ws + length vs ≤ 12 = omega (arith, pushes-length r system pointer (first n), value-length (at - z) r (name_at stack n) system, within, few-bytes mask) in
-          record {
-            places = rw (p, f.places) (all_added ws vs few);
-            low = omega (arith, f.low, grown, room fits);
-          }
+  module _ (n : ℕ) (list : List Write) (count at : ℕ) (f : Filled n list count at) (b : bit_at (7 - n) mask ≡ true) (bounded : pointer < 65536) where
+    -- a word is two writes more, its high byte first
+    word_on : n < 4 → count + 2 ≤ 12 → count + 2 ≤ pointer → (w : ℕ) → w ≡ value_of (read r (name_at stack n))
+        → Filled (suc n) (set (set list count (record { at = at - 2; byte = w / 256; system = system })) (count + 1) (record { at = at - 2 + 1; byte = w % 256; system = system })) (count + 2) (at - 2)
+    word_on h few fits w ew =
+        let k = word_of r stack n h in
+        let h8 : n < 8 = omega arith in
+        let ws = pushes r system pointer (first n) in
+        let room : count + register_size (name_at stack n) ≤ pointer = rw k.size fits in
+        let e : pushes r system pointer (first (suc n)) ≡ ws ++ word_writes (at - 2) w system = pushes-on n h8 list count at f b room ∙ rw (k.size, ew) (ap (λ (m : List Write). ws ++ m) (k.written (at - 2) system)) in
+        let low : (at - 2 + 1) % 65536 ≡ at - 2 + 1 = omega (arith, f.low) in
+        let l : count ≡ length ws = f.many ∙ sym (pushes-length r system pointer (first n)) in
+        record {
+          places = rw (e, low, f.places) (two-placed ws _ _ count l few);
+          many = omega (arith, f.many, size-append (first n) (name_at stack n ∷ []), ap size (one_more n h8 list count at f b), k.size);
+          low = omega (arith, f.low);
+        }
 
-  -- a turn of the loop: bit k - 1, after the bits from 7 down to k
-  module _ (k : ℕ) (writes : Writes) (at : ℕ) (f : Filled (8 - k) writes at) (low : 0 < k) (high : k ≤ 8) where
+    -- a byte is one write more
+    byte-on : 4 ≤ n → n < 8 → count + 1 ≤ 12 → count + 1 ≤ pointer → (v : ℕ) → v ≡ value_of (read r (name_at stack n))
+        → Filled (suc n) (set list count (record { at = at - 1; byte = v; system = system })) (count + 1) (at - 1)
+    byte-on g h few fits v ev =
+        let m : 4 + (n - 4) ≡ n = omega arith in
+        let k : IsByte r (name_at stack n) = rw m at (byte-of r stack (n - 4) (omega arith)) in
+        let ws = pushes r system pointer (first n) in
+        let room : count + register_size (name_at stack n) ≤ pointer = rw k.size fits in
+        let e : pushes r system pointer (first (suc n)) ≡ ws ++ (record { at = at - 1; byte = v; system = system } ∷ []) = pushes-on n h list count at f b room ∙ rw (k.size, ev) (ap (λ (m : List Write). ws ++ m) (k.written (at - 1) system)) in
+        let l : count ≡ length ws = f.many ∙ sym (pushes-length r system pointer (first n)) in
+        record {
+          places = rw (e, f.places, l) (place-more ws _ (omega arith));
+          many = omega (arith, f.many, size-append (first n) (name_at stack n ∷ []), ap size (one_more n h list count at f b), k.size);
+          low = omega (arith, f.low);
+        }
+
+  -- ---- a turn of the loops: bit k - 1, after the bits from 7 down to k
+
+  module _ (k : ℕ) (list : List Write) (count at : ℕ) (f : Filled (8 - k) list count at) (low : 0 < k) (high : k ≤ 8) where
     place : 7 - (8 - k) ≡ k - 1
     place = omega arith
 
@@ -228,18 +280,30 @@ module _ (r : Set) (stack : Stack) (pointer mask : ℕ) (system : Bool) where
     same : 7 - (k - 1) ≡ 8 - k
     same = omega arith
 
-    pub turn-off : bit_at (k - 1) mask ≡ false → Filled (8 - (k - 1)) writes at
-    turn-off b = rw next at (off (8 - k) (omega arith) writes at f (rw place b))
+    pub turn-off : bit_at (k - 1) mask ≡ false → Filled (8 - (k - 1)) list count at
+    turn-off b = rw next at (off (8 - k) (omega arith) list count at f (rw place b))
 
-    module _ (b : bit_at (k - 1) mask ≡ true) (fits : bytes_pushed mask ≤ pointer) (v : u8u16) (e : v ≡ read r (name_at stack (7 - (k - 1)))) (z : ℕ) (s : z ≡ size_of v) where
-      sized : z ≡ register_size (name_at stack (8 - k))
-      sized = s ∙ rw (e, same) (read-size r (name_at stack (8 - k)))
+    module _ (b : bit_at (k - 1) mask ≡ true) (fits : bytes_pushed mask ≤ pointer) where
+      in-room : count + register_size (name_at stack (8 - k)) ≤ pointer
+      in-room = omega (arith, room (8 - k) (omega arith) list count at f (rw place b))
 
-      pub turn-room : z ≤ at
-      turn-room = rw sized (room (8 - k) (omega arith) writes at f (rw place b) fits)
+      pub word_room : 4 < k → count + 2 ≤ pointer
+      word_room h = omega (arith, in-room, (word_of r stack (8 - k) (omega arith)).size)
 
-      pub turn-on : Filled (8 - (k - 1)) (added_all writes (value_writes (at - z) v system)) (at - z)
-      turn-on =
-          let f : Filled (8 - (k - 1)) (added_all writes (value_writes (at - register_size (name_at stack (8 - k))) (read r (name_at stack (8 - k))) system)) (at - register_size (name_at stack (8 - k))) =
-          rw next at (on (8 - k) (omega arith) writes at f (rw place b) fits) in
-          rw (sized, e, same) f
+      pub byte-room : k ≤ 4 → count + 1 ≤ pointer
+      byte-room h =
+          let m : 4 + (8 - k - 4) ≡ 8 - k = omega arith in
+          let z : register_size (name_at stack (8 - k)) ≡ 1 = rw m at (byte-of r stack (8 - k - 4) (omega arith)).size in
+          omega (arith, in-room)
+
+      pub turn-word : 4 < k → pointer < 65536 → count + 2 ≤ 12 → (w : ℕ) → w ≡ value_of (read r (name_at stack (7 - (k - 1))))
+          → Filled (8 - (k - 1)) (set (set list count (record { at = at - 2; byte = w / 256; system = system })) (count + 1) (record { at = at - 2 + 1; byte = w % 256; system = system })) (count + 2) (at - 2)
+      turn-word h bounded few w e = rw next at (word_on (8 - k) list count at f (rw place b) bounded (omega arith) few (word_room h) w (rw same at e))
+
+      pub turn_byte : k ≤ 4 → pointer < 65536 → count + 1 ≤ 12 → (v : ℕ) → v ≡ value_of (read r (name_at stack (7 - (k - 1))))
+          → Filled (8 - (k - 1)) (set list count (record { at = at - 1; byte = v; system = system })) (count + 1) (at - 1)
+      turn_byte h bounded few v e = rw next at (byte-on (8 - k) list count at f (rw place b) bounded (omega arith) (omega arith) few (byte-room h) v (rw same at e))
+
+  -- at the end all are passed
+  pub all-filled : (list : List Write) (count at : ℕ) → Filled 8 list count at → record { count = count; list = list } ≡ writes_of (pushes r system pointer (registers_named stack mask))
+  all-filled list count at f = rw (f.places, f.many) (ap (λ (n : ℕ). record { count = n; list = twelve (pushes r system pointer (registers_named stack mask)) }) (sym (pushes-length r system pointer (registers_named stack mask))))

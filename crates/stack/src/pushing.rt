@@ -1,6 +1,6 @@
 // PSHS, PSHU, and the calls BSR and JSR, which push PC.
 ghost use Rattle.std.specs.Prelude.{◌≡◌, ◌≤◌};
-ghost use Rattle.memory.specs.Writes.{writes_of, added_all, value_writes};
+ghost use Rattle.memory.specs.Writes.{writes_of};
 ghost use Rattle.stack.specs.Pushing.{registers_named, bytes_pushed, pushes, pushed, jumped_to_subroutine};
 
 use super::{bit, named};
@@ -8,40 +8,53 @@ use answers::Refusal;
 use machine::Effect;
 use memory::{Write, Writes};
 use registers::{Set, Stack};
-use u8oru16::u8u16;
 
-// Downwards from the pointer, from PC to CC.
+// Four words, then four bytes, downwards from the pointer. The list is filled in place: a copy of it for each register would cost more than
+// the push.
 fn push_all(regs: Set, stack: Stack, pointer: u16, mask: u8, system: bool) -> Writes
     requires { bytes_pushed mask ≤ pointer }
     ensures { result ≡ writes_of (pushes regs system pointer (registers_named stack mask)) }
 {
-    let mut writes = Writes::none();
+    let mut list = Writes::none().list;
+    let mut count = 0;
     let mut at = pointer;
-    for k in (0..8).rev() {
+    for k in (4..8).rev() {
         if bit(mask, k) {
-            let value = regs.get_register(named(stack, k));
-            at -= value.size();
-            writes = with_value(writes, at, value, system);
+            let word = regs.get_register(named(stack, k)).u16();
+            let [high, low] = word.to_be_bytes();
+            at -= 2;
+            list[count] = Write {
+                at,
+                byte: high,
+                system,
+            };
+            list[count + 1] = Write {
+                at: at + 1,
+                byte: low,
+                system,
+            };
+            count += 2;
         }
     }
-    writes
-}
-
-// A byte's write, or a word's two.
-fn with_value(writes: Writes, at: u16, value: u8u16, system: bool) -> Writes
-    ensures { result ≡ added_all writes (value_writes at value system) }
-{
-    match value {
-        u8u16::u8(byte) => writes.add(Write { at, byte, system }),
-        u8u16::u16(word) => writes.add_word(at, word, system),
+    for k in (0..4).rev() {
+        if bit(mask, k) {
+            let byte = regs.get_register(named(stack, k)).lsb();
+            at -= 1;
+            list[count] = Write { at, byte, system };
+            count += 1;
+        }
     }
+    Writes { count, list }
 }
 
-// How many bytes a post-byte names: one for each bit, and one more for each of the high four.
+// How many bits of a digit are set.
+const BITS: [u8; 16] = [0, 1, 1, 2, 1, 2, 2, 3, 1, 2, 2, 3, 2, 3, 3, 4];
+
+// How many bytes a post-byte names. A table and no `count_ones`, so that it is compiled in (docs/PERFORMANCE.md).
 pub fn bytes_of(mask: u8) -> u8
     ensures { result ≡ bytes_pushed mask }
 {
-    (mask.count_ones() + (mask / 16).count_ones()) as u8
+    2 * BITS[(mask / 16) as usize] + BITS[(mask % 16) as usize]
 }
 
 pub fn push(regs: Set, stack: Stack, mask: u8, system: bool) -> Effect
