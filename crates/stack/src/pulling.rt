@@ -23,7 +23,11 @@ fn pull_into(mem: &[u8], name: Name, p: Pulled) -> Pulled
     ensures { result ≡ pulled_into mem.now name p }
 {
     let size = registers::reg_size(name);
-    let value = memory::read_u8u16(mem, p.pointer, size == 2);
+    let value = if size == 2 {
+        u8u16::u16(memory::read_u16(mem, p.pointer))
+    } else {
+        u8u16::u8(memory::read_u8(mem, p.pointer))
+    };
     Pulled {
         regs: p.regs.set_register(name, value),
         pointer: p.pointer.wrapping_add(size),

@@ -124,8 +124,8 @@ impl u8u16 {
         ensures { result ≡ negated self }
     {
         match self {
-            u8u16::u8(b) => u8u16::u8(b.wrapping_neg()),
-            u8u16::u16(w) => u8u16::u16(w.wrapping_neg()),
+            u8u16::u8(b) => u8u16::u8((!b).wrapping_add(1)),
+            u8u16::u16(w) => u8u16::u16((!w).wrapping_add(1)),
         }
     }
 

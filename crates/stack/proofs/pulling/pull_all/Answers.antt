@@ -1,6 +1,6 @@
 -- Eight turns, one for each bit.
 -- Assumes nothing.
-use Rattle.std.proofs.Common.{◌∙◌, arith}
+use Rattle.std.proofs.Common.{◌∙◌}
 use Rattle.stack.proofs.Emptying.{all-pulled}
 use Rattle.stack.proofs.pulling.pull_all.Goals as goal
 
