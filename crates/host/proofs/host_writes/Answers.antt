@@ -1,0 +1,27 @@
+-- `host_writes` meets its contract.
+-- Assumes nothing.
+use Prim.Native.Nat.{◌≤◌, ◌<◌, ◌-◌}
+use mathlib.Core.Path.{◌≡◌, refl, sym, ap, ◌∙◌}
+use mathlib.Core.List.{map}
+use native.Mathlib.Omega.{arith}
+use lib.ListN.{length, take, length-set, length-map}
+use Rattle.host.specs.Structs.{host_write}
+use Rattle.host.proofs.Laws.{turn, all_made}
+use borrow.Author.Rules.{rules}
+use Rattle.host.proofs.host_writes.Goals as goal
+
+pub loop-i-init : goal.loop-i-init
+loop-i-init c = (search rules, (ap length c.no_writes-out.ensures, refl))
+
+pub loop-i-preserved : goal.loop-i-preserved
+loop-i-preserved c =
+    let l = c.loop-i in
+    let t : l.i < 12 = omega arith in
+    let p = l.invariant.0 in
+    let q = l.invariant.1.0 in
+    (p, (length-set l.out l.i c.from.result ∙ q, turn host_write _ l.out l.i _ _ (omega (arith, t, p)) (omega (arith, t, q)) l.invariant.1.1 c.from.ensures))
+
+pub returns : goal.returns
+returns c =
+    let l = c.loop-i in
+    all_made host_write _ l.out l.i 12 (omega arith) l.invariant.0 l.invariant.1.0 l.invariant.1.1
