@@ -19,13 +19,18 @@ fn lay(out: &mut [u8], at: usize, part: &[u8])
     out[at..at + part.len()].copy_from_slice(part);
 }
 
-// Writes a part at a place. What would lie past the end is left out.
+// Writes a part at a place. What would lie past the end is left out. A part that fits is laid as it is: cut to the less of both lengths it
+// would have a length that the compiler does not know, and a few bytes would go by a call.
 // Buffer and place stand apart: what is promised, `sets out at part`, is said of the two.
 pub fn put(out: &mut [u8], at: usize, part: &[u8])
     ensures { out.new ≡ sets out.old at part.now }
 {
     if at <= out.len() {
-        let fits = part.len().min(out.len() - at);
-        lay(out, at, &part[..fits]);
+        let room = out.len() - at;
+        if part.len() <= room {
+            lay(out, at, part);
+        } else {
+            lay(out, at, &part[..room]);
+        }
     }
 }
