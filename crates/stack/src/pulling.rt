@@ -34,31 +34,17 @@ fn pull_into(mem: &[u8], name: Name, p: Pulled) -> Pulled
     }
 }
 
-// The register of bit k, if it is named: what is left to pull then gives what it gave before.
-fn pull_bit(mem: &[u8], p: Pulled, stack: Stack, mask: u8, k: u8) -> Pulled
-    requires { k < 8 }
-    ensures { pulls mem.now (chosen mask (drop (k + 1) (reverse (order stack)))) result ≡ pulls mem.now (chosen mask (drop k (reverse (order stack)))) p }
-{
-    if bit(mask, k) {
-        pull_into(mem, named(stack, k), p)
-    } else {
-        p
-    }
-}
-
-// From CC up to PC: four bytes, then four words. The eight bits are written out, so that the compiler knows each register: a loop over them
-// would look for the register of each at each turn.
+// From CC up to PC: four bytes, then four words.
 fn pull_all(mem: &[u8], regs: Set, stack: Stack, pointer: u16, mask: u8) -> Pulled
     ensures { result ≡ pulls mem.now (chosen mask (reverse (order stack))) (pulled_to regs pointer) }
 {
-    let cc = pull_bit(mem, Pulled { regs, pointer }, stack, mask, 0);
-    let a = pull_bit(mem, cc, stack, mask, 1);
-    let b = pull_bit(mem, a, stack, mask, 2);
-    let dp = pull_bit(mem, b, stack, mask, 3);
-    let x = pull_bit(mem, dp, stack, mask, 4);
-    let y = pull_bit(mem, x, stack, mask, 5);
-    let other = pull_bit(mem, y, stack, mask, 6);
-    pull_bit(mem, other, stack, mask, 7)
+    let mut p = Pulled { regs, pointer };
+    for k in 0..8 {
+        if bit(mask, k) {
+            p = pull_into(mem, named(stack, k), p);
+        }
+    }
+    p
 }
 
 // A byte that the map leaves where it is. Past the end of a short memory it is 0 and no None: `byte_at` has it so.
@@ -82,7 +68,7 @@ fn plain_value(mem: &[u8], at: u16, wide: bool) -> u8u16
     }
 }
 
-// The same, of a byte or a word that the map leaves where it is.
+// The register of bit k, if it is named: what is left to pull then gives what it gave before.
 fn pull_register(mem: &[u8], p: Pulled, stack: Stack, mask: u8, k: u8) -> Pulled
     requires { (k < 8) × (p.pointer < 0xFFC0 + 2 * k) }
     ensures { (result.pointer ≤ p.pointer + 2) × (pulls mem.now (chosen mask (drop (k + 1) (reverse (order stack)))) result ≡ pulls mem.now (chosen mask (drop k (reverse (order stack)))) p) }
@@ -99,7 +85,7 @@ fn pull_register(mem: &[u8], p: Pulled, stack: Stack, mask: u8, k: u8) -> Pulled
     }
 }
 
-// `pull_all` where no byte that is pulled is mapped.
+// `pull_all` where no byte that is pulled is mapped: the eight bits written out, so that the compiler knows each register.
 fn pull_plain(mem: &[u8], regs: Set, stack: Stack, pointer: u16, mask: u8) -> Pulled
     requires { pointer < 0xFFC0 }
     ensures { result ≡ pulls mem.now (chosen mask (reverse (order stack))) (pulled_to regs pointer) }
