@@ -70,17 +70,31 @@ fn length_of(head: &[u8; 8]) -> usize {
     high * 0x1_0000 + scenery::word_at(head, 3) as usize
 }
 
+// Reads so many bytes, or as many as there are, into the front of a buffer, and hands that front back. Where they have no room, none is read.
+fn read_front<'a>(rt: &HostRuntime, buf: &'a mut [u8], n: usize) -> io::Result<&'a [u8]> {
+    let room = if n <= buf.len() { n } else { 0 };
+    let got = streams::read_full(&mut rt.stdin(), &mut buf[..room])?;
+    Ok(&buf[..got])
+}
+
 // Reads one input, answers it, and says whether there may be more.
 fn answer_next(rt: &HostRuntime) -> io::Result<bool> {
-    let Some(head) = scenery::read_line::<_, 8>(&mut rt.stdin())? else {
+    let mut head = [0u8; 8];
+    if streams::read_full(&mut rt.stdin(), &mut head)? < 8 {
         return Ok(false);
-    };
+    }
     let mut input = [0u8; INPUT];
-    let part = scenery::read_part(&mut rt.stdin(), &mut input, length_of(&head))?;
+    let part = read_front(rt, &mut input, length_of(&head))?;
     answer(rt, head[0], part)?;
     Ok(true)
 }
 
+// A proved loop has to end, and nothing says that the input does: there are more turns than any run uses up.
 fn main(rt: HostRuntime) -> io::Result<()> {
-    scenery::repeat(|| answer_next(&rt))
+    for _ in 0..u64::MAX {
+        if !answer_next(&rt)? {
+            break;
+        }
+    }
+    Ok(())
 }

@@ -1,7 +1,9 @@
--- No second report, and no second twin, memory or journal at exit, fits the contract of `step` or of `undo`. This is said of their `clauses`, in the program logic.
+-- No second report, and no second twin, memory or journal at exit, fits the contract of `step` or of `undo`. This is said of their `clauses`, in the program logic. Nor
+-- do a second report and twin fit an outcome.
 -- Assumes nothing.
-use mathlib.Core.Path.{sym, ◌∙◌}
-use Rattle.answers.proofs.Determined.{DeterminesIn, facts}
+use mathlib.Core.Path.{refl, sym, ◌∙◌}
+use Rattle.answers.proofs.Determined.{Determines, DeterminesIn, facts}
+use Rattle.lent.proofs.ReturnedFromOutcome
 use Rattle.lent.specs.contracts
 
 pub step : DeterminesIn contracts.step.ended (λ M 𝓤 𝓛 mem run. contracts.step.clauses 𝓛 mem run)
@@ -13,3 +15,6 @@ step M 𝓤 𝓛 mem run κs a g x y ws vs =
 pub undo : DeterminesIn contracts.undo.ended (λ M 𝓤 𝓛 mem run. contracts.undo.clauses 𝓛 mem run)
 undo M 𝓤 𝓛 mem run κs a g x y ws vs =
     facts 𝓤 (λ p q. (p.0.result ∙ sym q.0.result, λ i. ((p.0.twin-is ∙ sym q.0.twin-is) i, ((p.0.memory-is ∙ sym q.0.memory-is) i, (tt, tt)))))
+
+pub returned-from : Determines 0 ReturnedFromOutcome.from.Kinds.ps ReturnedFromOutcome.from.Kinds.r ReturnedFromOutcome.from.Reads.Post
+returned-from κs a x y ws vs p q = (p ∙ sym q, refl)

@@ -1,3 +1,4 @@
--- What a line of a scene says, and what is printed.
+-- What a line of a scene says, how its undos end, and what is printed.
 pub mod Line
 pub mod Printed
+pub mod Undos

@@ -1,11 +1,10 @@
-// What the programs that play scenes share: lines read and taken in turn, the numbers in a line, what a scene starts with, and the fields of
-// the lines that are printed.
+// What the programs that play scenes share: the numbers in a line, what a scene starts with and how its undos end, and the fields of the
+// lines that are printed.
 #![tactic(auto)]
 
 mod line;
 mod printed;
 mod start;
-mod turns;
 
 pub use line::{byte_at, length_at, long_at, word_at};
 pub use printed::{
@@ -14,4 +13,3 @@ pub use printed::{
 pub use start::{
     BYTES, CODE, Undone, fill, flags_of, interrupt_of, put_one, registers_at, undo_all, wait_of,
 };
-pub use turns::{read_line, read_part, repeat};

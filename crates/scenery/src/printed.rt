@@ -1,6 +1,6 @@
 // The fields of the lines that are printed.
 // Numbers are laid at fixed places of a form of bytes, over its zeros, which Display does not do.
-ghost use Rattle.std.specs.Prelude.{◌≡◌, ◌+◌, ◌*◌, ◌≤◌, get_or, length};
+ghost use Rattle.std.specs.Prelude.{◌≡◌, get_or};
 ghost use Rattle.std.proofs.lemmas.List.Edits.{sets};
 ghost use Rattle.std.specs.Int.{w32, w64, to_be_bytes};
 ghost use Rattle.text.specs.Hex.{hex2, hex4};
@@ -21,19 +21,17 @@ pub fn put_word(out: &mut [u8], at: usize, w: u16)
 }
 
 // The bytes' digits, one after the other.
-// The bounds, here and below, are above every place that is used, so that no sum wraps.
+// A place that saturates, here and below, lies past the end of every slice, as the place that is meant: nothing is laid there.
 pub fn put_bytes(out: &mut [u8], at: usize, bytes: &[u8])
-    requires { (at ≤ 1000) × (length bytes.now ≤ 1000) }
     ensures { out.new ≡ sets out.old at (bytes_text bytes.now) }
 {
     for (i, b) in bytes.iter().enumerate() {
-        put_byte(out, at + 2 * i, *b);
+        put_byte(out, at.saturating_add(2 * i), *b);
     }
 }
 
 // Sixteen digits.
 pub fn put_long(out: &mut [u8], at: usize, n: u64)
-    requires { at ≤ 1000 }
     ensures { out.new ≡ sets out.old at (bytes_text (to_be_bytes w64 n)) }
 {
     put_bytes(out, at, &n.to_be_bytes());
@@ -58,7 +56,6 @@ pub fn byte_of(bytes: &[u8], at: usize) -> u8
 
 // Four bytes of memory, raw; 00 past its end.
 pub fn put_view(out: &mut [u8], at: usize, mem: &[u8], place: u16)
-    requires { at ≤ 1000 }
     ensures { out.new ≡ sets out.old at (bytes_text (view mem.now place)) }
 {
     let p = place as usize;
@@ -86,7 +83,6 @@ fn adler(bytes: &[u8]) -> u32
 
 // Adler-32, as eight digits.
 pub fn put_sum(out: &mut [u8], at: usize, bytes: &[u8])
-    requires { at ≤ 1000 }
     ensures { out.new ≡ sets out.old at (bytes_text (to_be_bytes w32 (adler bytes.now))) }
 {
     put_bytes(out, at, &adler(bytes).to_be_bytes());
@@ -94,11 +90,10 @@ pub fn put_sum(out: &mut [u8], at: usize, bytes: &[u8])
 
 // How many device writes were reported, and the first of them: a number that ends before `at`, four digits and two.
 pub fn put_devices(out: &mut [u8], at: usize, devices: Writes)
-    requires { at ≤ 1000 }
     ensures { out.new ≡ devices_laid out.old at devices }
 {
     let first = devices.list[0];
     put_decimal(out, at, devices.count as u64);
-    put_word(out, at + 1, first.at);
-    put_byte(out, at + 6, first.byte);
+    put_word(out, at.saturating_add(1), first.at);
+    put_byte(out, at.saturating_add(6), first.byte);
 }

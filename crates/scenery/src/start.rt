@@ -1,11 +1,15 @@
 // What a scene starts with, by the line's numbers and letters, and undos until one is refused.
-ghost use Rattle.std.specs.Prelude.{◌≡◌, ◌+◌, ◌*◌, ◌≤◌, ◌<◌, IsErr, set};
+ghost use Rattle.std.specs.Prelude.{◌≡◌, ◌<◌, IsErr, set};
+ghost use Rattle.journal.specs.Recorded.{in_hand};
 ghost use Rattle.scenery.specs.Line.{filled, flags_in, interrupt_in, registers_in, wait_in};
+ghost use Rattle.scenery.specs.Undos.{undone_from, UndosLeave};
 
-use crate::{byte_at, word_at};
+use crate::byte_at;
+use crate::line::{byte_behind, word_behind};
 use calls::InterruptType;
 use journal::{Outcome, Twin};
 use machine::Wait;
+use memory::Writes;
 use registers::{CCBits, Flags, Set};
 
 pub const BYTES: usize = 0x10000;
@@ -13,7 +17,7 @@ pub const BYTES: usize = 0x10000;
 // Where the code stands.
 pub const CODE: u16 = 0x1000;
 
-// More undos than any journal has records.
+// More undos than the journal of any scene has records.
 const MOST_UNDOS: u64 = 100000;
 
 // The letters are the line's, and become an enum here and below.
@@ -49,18 +53,17 @@ pub fn interrupt_of(letter: u8) -> InterruptType
 
 // CC A B DP X Y U S from a place of the line on.
 pub fn registers_at<const N: usize>(line: &[u8; N], at: usize, pc: u16) -> Set
-    requires { at + 31 ≤ N }
     ensures { result ≡ registers_in line.now at pc }
 {
     Set {
-        x: word_at(line, at + 12),
-        y: word_at(line, at + 17),
-        u: word_at(line, at + 22),
-        s: word_at(line, at + 27),
+        x: word_behind(line, at, 12),
+        y: word_behind(line, at, 17),
+        u: word_behind(line, at, 22),
+        s: word_behind(line, at, 27),
         pc,
-        a: byte_at(line, at + 3),
-        b: byte_at(line, at + 6),
-        dp: byte_at(line, at + 9),
+        a: byte_behind(line, at, 3),
+        b: byte_behind(line, at, 6),
+        dp: byte_behind(line, at, 9),
         cc: CCBits {
             reg: byte_at(line, at),
         },
@@ -79,16 +82,15 @@ pub fn put_one(bytes: &mut [u8], at: usize, byte: u8)
 
 // Bytes of the line put raw into memory, around its end.
 pub fn fill<const N: usize>(mem: &mut [u8], at: u16, line: &[u8; N], from: usize, count: u16)
-    requires { from + 2 * count ≤ N }
     ensures { mem.new ≡ filled mem.old at line.now from count }
 {
     for i in 0..count {
-        let byte = byte_at(line, from + 2 * i as usize);
+        let byte = byte_behind(line, from, 2 * i as usize);
         put_one(mem, at.wrapping_add(i) as usize, byte);
     }
 }
 
-// The undo that was refused, and how many were accepted before it.
+// The last undo, and how many were accepted.
 #[derive(Clone, Copy)]
 pub struct Undone {
     pub last: Outcome,
@@ -97,14 +99,21 @@ pub struct Undone {
 
 // Undo until it is refused.
 pub fn undo_all(mem: &mut [u8], journal: &[u8], twin: Twin) -> Undone
-    ensures { result.undos < 100000 → IsErr result.last.answer }
+    ensures leaves { UndosLeave result mem.new (undone_from (in_hand mem.old journal.now twin)) }
+    ensures refused { result.undos < 100000 → IsErr result.last.answer }
 {
-    let mut last = journal::undo(mem, journal, twin);
+    let mut last = Outcome {
+        devices: Writes::none(),
+        twin,
+        reads: 0,
+        writes: 0,
+        answer: Ok(()),
+    };
     for undos in 0..MOST_UNDOS {
+        last = journal::undo(mem, journal, last.twin);
         if last.answer.is_err() {
             return Undone { last, undos };
         }
-        last = journal::undo(mem, journal, last.twin);
     }
     Undone {
         last,

@@ -40,21 +40,35 @@ fn answer(rt: &HostRuntime, file: &[u8], n: usize, m: usize) -> io::Result<()> {
     salvage_into(rt, file, out, list)
 }
 
+// Reads so many bytes, or as many as there are, into the front of a buffer, and hands that front back. Where they have no room, none is read.
+fn read_front<'a>(rt: &HostRuntime, buf: &'a mut [u8], n: usize) -> io::Result<&'a [u8]> {
+    let room = if n <= buf.len() { n } else { 0 };
+    let got = streams::read_full(&mut rt.stdin(), &mut buf[..room])?;
+    Ok(&buf[..got])
+}
+
 // Reads one file, answers it, and says whether there may be more. Its head is three numbers of four digits, the file's length and those
 // of output and list, each with a blank or a line feed after it.
 fn answer_next(rt: &HostRuntime) -> io::Result<bool> {
-    let Some(head) = scenery::read_line::<_, 15>(&mut rt.stdin())? else {
+    let mut head = [0u8; 15];
+    if streams::read_full(&mut rt.stdin(), &mut head)? < 15 {
         return Ok(false);
-    };
+    }
     let size = word_at(&head, 0) as usize;
     let n = word_at(&head, 5) as usize;
     let m = word_at(&head, 10) as usize;
     let mut input = [0u8; INPUT];
-    let file = scenery::read_part(&mut rt.stdin(), &mut input, size)?;
+    let file = read_front(rt, &mut input, size)?;
     answer(rt, file, n, m)?;
     Ok(true)
 }
 
+// A proved loop has to end, and nothing says that the input does: there are more turns than any run uses up.
 fn main(rt: HostRuntime) -> io::Result<()> {
-    scenery::repeat(|| answer_next(&rt))
+    for _ in 0..u64::MAX {
+        if !answer_next(&rt)? {
+            break;
+        }
+    }
+    Ok(())
 }

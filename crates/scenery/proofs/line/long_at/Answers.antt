@@ -7,12 +7,12 @@ pub returns : goal.returns
 returns g c =
     rw (
       ← c.byte_at.ensures,
-      ← c.byte_at-2.ensures,
-      ← c.byte_at-3.ensures,
-      ← c.byte_at-4.ensures,
-      ← c.byte_at-5.ensures,
-      ← c.byte_at-6.ensures,
-      ← c.byte_at-7.ensures,
-      ← c.byte_at-8.ensures,
+      ← c.byte_behind.ensures,
+      ← c.byte_behind-2.ensures,
+      ← c.byte_behind-3.ensures,
+      ← c.byte_behind-4.ensures,
+      ← c.byte_behind-5.ensures,
+      ← c.byte_behind-6.ensures,
+      ← c.byte_behind-7.ensures,
     )
     (omega (arith, c.from_be_bytes.ensures))
