@@ -1,13 +1,12 @@
 -- Bytes stored from a place on, part by part.
 -- Assumes nothing.
-use Prim.Native.Nat.{ℕ, suc, ◌+◌, ◌-◌, ◌≤◌, ◌<◌, min}
+use Prim.Native.Nat.{ℕ, suc, ◌+◌, ◌≤◌, ◌<◌}
 use mathlib.Core.Path.{◌≡◌, refl, sym, ap, ◌∙◌}
-use mathlib.Core.List.{List, [], ◌∷◌, ◌++◌, append_assoc}
-use native.Mathlib.Decide.{dec_lt}
+use mathlib.Core.List.{List, [], ◌∷◌, ◌++◌}
 use native.Mathlib.Omega.{arith}
-use lib.ListN.{length, set, take, drop, take-append-drop}
-use lib.Seq.{sets, sets-eq, drop-drop, take_all, length-sets, set_out, length-take-le}
-use borrow.Rule.Slice.PartMut.{put_mid}
+use native.Mathlib.Numerals.{add-one}
+use lib.ListN.{length, get_or, set, take, drop, take-append-drop}
+use lib.Seq.{sets, length-sets, set_out, take-suc, length-take-le}
 
 pub sets-append : (l xs ys : List ℕ) (i : ℕ) → sets l i (xs ++ ys) ≡ sets (sets l i xs) (i + length xs) ys
 sets-append l [] ys i = let e : i + 0 ≡ i = omega arith in rw e
@@ -25,14 +24,7 @@ cut l vs i n h k =
     let g : length (sets l i (take n vs)) ≤ i + n = rw (length-sets l i (take n vs)) k in
     sym (sets-out (sets l i (take n vs)) (drop n vs) (i + n) g) ∙ rw (← e) (sym (sets-append l (take n vs) (drop n vs) i)) ∙ ap (sets l i) (take-append-drop n vs)
 
--- as much as fits
-pub cut_short : (l vs : List ℕ) (i n : ℕ) → i ≤ length l → n ≡ min (length vs) (length l - i) → sets l i (take n vs) ≡ sets l i vs
-cut_short l vs i n h e = go (dec_lt n (length vs))
-  where
-    go : Dec (n < length vs) → sets l i (take n vs) ≡ sets l i vs
-    go (yes k) = cut l vs i n (omega arith) (omega arith)
-    go (no k) = ap (sets l i) (take_all n vs (omega arith))
-
--- a part written at once
-pub laid_at : (l vs : List ℕ) (at : ℕ) → at + length vs ≤ length l → put_mid at (length vs) l vs ≡ sets l at vs
-laid_at l vs at h = rw (drop-drop (length vs) at l) (sym (sets-eq vs l at h ∙ append_assoc (take at l) vs (drop (at + length vs) l)))
+pub one_more : (l vs : List ℕ) (at i : ℕ) → i < length vs → set (sets l at (take i vs)) (at + i) (get_or vs i 0) ≡ sets l at (take (i + 1) vs)
+one_more l vs at i h =
+    let e : length (take i vs) ≡ i = length-take-le i vs (omega arith) in
+    rw (add-one, take-suc vs i 0 h, sets-append l (take i vs) (get_or vs i 0 ∷ []) at, e)

@@ -11,12 +11,15 @@ ghost use Rattle.std.proofs.lemmas.List.Edits.{sets};
 pub use hex::{byte, hex2, hex4, is_digit, value};
 pub use lines::{Text, alone, decimal, line};
 
-// Writes a part at a place that has room for it.
+// Writes a part at a place that has room for it. A loop: `copy_from_slice` of a length that is not known calls memmove, and the archives for C
+// are to need no such name from outside.
 fn lay(out: &mut [u8], at: usize, part: &[u8])
     requires { at + length part.now ≤ length out.old }
     ensures { out.new ≡ sets out.old at part.now }
 {
-    out[at..at + part.len()].copy_from_slice(part);
+    for i in 0..part.len() {
+        out[at + i] = part[i];
+    }
 }
 
 // Writes a part at a place. What would lie past the end is left out. A part that fits is laid as it is: cut to the less of both lengths it

@@ -1,0 +1,9 @@
+-- The invariant: the first i bytes of the part are written.
+-- Assumes nothing.
+use mathlib.Core.Path.{◌≡◌}
+use lib.ListN.{take}
+use lib.Seq.{sets}
+use Rattle.text.proofs.lay.Given as goal
+
+abbrev pub invariant-loop-i : goal.invariant-loop-i
+invariant-loop-i l = l.out ≡ sets l.initial.out l.at (take l.i l.part)
