@@ -3,12 +3,12 @@
 use Rattle.std.specs.Prelude.{Result, Err, Ok}
 use Prim.Native.Nat.{ℕ, suc, ◌+◌, ◌-◌, ◌*◌, ◌/◌, ◌%◌, ◌^◌, ◌≤◌, ◌<◌}
 use mathlib.Core.Bool.{Bool, true, false, ◌&&◌}
-use mathlib.Core.List.{List, ◌++◌}
+use mathlib.Core.List.{List, ◌++◌, append-nil}
 use mathlib.Core.Path.{◌≡◌, refl, sym, ◌∙◌}
 use native.Mathlib.Omega.{arith}
 use lib.Dec.{ltb}
-use lib.ListN.{length, get_or, take, drop, length-append, length-drop}
-use lib.Seq.{sets, take_all, drop_at}
+use lib.ListN.{length, get_or, take, drop, length-append, length-drop, drop_of_length-le}
+use lib.Seq.{sets, sets-eq, take_all, drop_at}
 use borrow.Author.Tests.{eq-eqb, ne_eqb, lt-ltb, le-ltb, eqb-true}
 use Rattle.answers.specs.declared.Refusal.{Refusal}
 use Rattle.answers.specs.declared.Refusal.TheVariants.{MemoryLength, Malformed, OutputShort}
@@ -85,14 +85,17 @@ module _ (d mem : List ℕ) where
   unfolding undumped memory_undumped
   read-malformed h g = rw (eq-eqb (length mem) 65536 h, g) (refl, refl)
 
-  -- the part of a dump from its memory on
-  pub part-is : length d ≡ dump_length → take (length d - 32) (drop 32 d) ≡ memory_in d
-  part-is h = take_all (length d - 32) (drop 32 d) (rw length-drop (omega arith))
+  -- the part of a dump from its memory on, which takes the place of all bytes
+  over : length d ≡ dump_length → length mem ≡ 65536 → sets mem 0 (take (length d - 32) (drop 32 d)) ≡ memory_in d
+  over h g =
+      let w : take (length d - 32) (drop 32 d) ≡ drop 32 d = take_all (length d - 32) (drop 32 d) (rw length-drop (omega arith)) in
+      let n : length (drop 32 d) ≡ 65536 = length-drop 32 d ∙ omega arith in
+      rw (w, sets-eq (drop 32 d) mem 0 (omega arith), drop_of_length-le mem {i = 0 + length (drop 32 d)} (omega arith), append-nil)
 
-  pub read_done : length mem ≡ 65536 → is_dump d ≡ true → (m : Machine) (new : List ℕ) → m ≡ machine_of d → new ≡ take (length d - 32) (drop 32 d)
+  pub read_done : length mem ≡ 65536 → is_dump d ≡ true → (m : Machine) (new : List ℕ) → m ≡ machine_of d → new ≡ sets mem 0 (take (length d - 32) (drop 32 d))
       → Read (Ok m) new
   unfolding undumped memory_undumped
-  read_done h g m new p q = rw (eq-eqb (length mem) 65536 h, g, p) (refl, q ∙ part-is (dump-length d g))
+  read_done h g m new p q = rw (eq-eqb (length mem) 65536 h, g, p) (refl, q ∙ over (dump-length d g) h)
 
 -- ---- what is written reads back
 

@@ -54,6 +54,7 @@ pub fn read(d: &[u8], mem: &mut [u8]) -> Result<Machine, Refusal>
     if !is_dump(d) {
         return Err(Refusal::Malformed);
     }
-    mem.copy_from_slice(&d[HEADER..]);
+    // No `copy_from_slice`: it calls memmove, as in `text::put`.
+    text::put(mem, 0, &d[HEADER..]);
     Ok(machine::machine_of(d))
 }

@@ -1,13 +1,15 @@
 -- What the proofs of this crate share, and how a call ends: where the numbers name nothing, and where they are named.
 -- Assumes nothing.
-use Prim.Native.Nat.{ℕ, zero, suc, ◌+◌, ◌≤◌, ◌<◌}
+use Prim.Native.Nat.{ℕ, zero, suc, ◌<◌}
 use mathlib.Core.Path.{◌≡◌, refl, sym, ap, ◌∙◌}
 use mathlib.Core.Bool.{Bool, true, false}
-use mathlib.Core.List.{List, [], ◌∷◌, map, map-append}
+use mathlib.Core.List.{List, [], ◌∷◌, map}
 use native.Mathlib.Omega.{arith}
-use native.Mathlib.Numerals.{add-one}
-use lib.ListN.{length, get_or, set, take}
-use lib.Seq.{take-suc, take-suc-set, take_all}
+use lib.ListN.{length, length-map}
+use denote.Param.Members.{Mut}
+use Rattle.std.specs.Fn.{Called}
+use Rattle.std.specs.Array.{IsMapOf}
+use Rattle.std.proofs.lemmas.List.{ext_get_or, get_or-map}
 use Rattle.registers.specs.declared.Flags.TheVariants.{Bought, Manual}
 use Rattle.calls.specs.declared.InterruptType.TheVariants.{Irq, Firq, Nmi}
 use Rattle.calls.specs.declared.Report.{Report}
@@ -32,17 +34,17 @@ interrupt-rest zero h k = absurd (h refl)
 interrupt-rest (suc zero) h k = absurd (k refl)
 interrupt-rest (suc (suc n)) h k = refl
 
--- ---- a list made of another, element by element: one more, and all
+-- ---- what `map` makes of an array, where its closure's calls give what `make` gives
 
-module _ {A B : Type 0} (make : A → B) (list : List A) (out : List B) (i : ℕ) where
-  pub turn : (d : A) (w : B) → i < length list → i < length out → take i out ≡ map make (take i list) → w ≡ make (get_or list i d)
-      → take (i + 1) (set out i w) ≡ map make (take (i + 1) list)
-  turn d w h k e f =
-      let n : i + 1 ≡ suc i = add-one i in
-      rw (n, take-suc-set out i w k, e, f, take-suc list i d h, map-append make (take i list) (get_or list i d ∷ []))
-
-  pub all_made : (n : ℕ) → n ≤ i → length list ≡ n → length out ≡ n → take i out ≡ map make (take i list) → out ≡ map make list
-  all_made n t h k e = sym (take_all i out (omega arith)) ∙ e ∙ ap (λ (l : List A). map make l) (take_all i list (omega arith))
+pub mapped : {F A B : Type 0} (g : Mut F (A × Unit {0}) B) (make : A → B) → ((p q : F) (x : A) (y : B) → Called g p (x, tt) y q → y ≡ make x)
+    → (f : F) (xs : List A) (ys : List B) (n : ℕ) → length xs ≡ n → IsMapOf g f xs ys n → ys ≡ map make xs
+mapped g make step f [] [] n l m = refl
+mapped g make step f [] (y ∷ ys) n l m = absurd (omega (arith, l, m.long))
+mapped g make step f (x ∷ xs) ys n l m =
+    ext_get_or (make x) ys (map make (x ∷ xs)) (m.long ∙ sym l ∙ sym (length-map (x ∷ xs) make)) (λ i h.
+    let c = m.at i x (make x) (rw m.long at h) in
+    let t : i < length (x ∷ xs) = rw (sym l) at (rw m.long at h) in
+    step c.0 c.1 _ _ c.2 ∙ sym (get_or-map make (x ∷ xs) i x (make x) t))
 
 -- ---- how a call ends
 

@@ -4,7 +4,7 @@
 // and no Result.
 #![tactic(auto)]
 
-ghost use Rattle.std.specs.Prelude.{◌≡◌, map};
+ghost use Rattle.std.specs.Prelude.{◌≡◌};
 ghost use Rattle.machine.specs.Record.{wait_of};
 ghost use Rattle.host.specs.Numbers.{flags_of, interrupt_type_of, is_twin, is_settings, is_named, is_interrupt};
 ghost use Rattle.host.specs.Structs.{range_from, settings_from, machine_from, twin_from, host_twin, host_write, no_writes, host_outcome, keeping, unnamed};
@@ -151,22 +151,15 @@ impl From<HostRange> for Range {
     }
 }
 
-// A loop, and not the array's `map`: that fills places with None, then with Some, and takes each out again, at every call of a host.
-fn profile_of(list: [HostRange; 8]) -> [Range; 8]
-    ensures { result ≡ map range_from list }
-{
-    let mut out = [Range { first: 1, last: 0 }; 8];
-    for i in 0..8 {
-        out[i] = Range::from(list[i]);
-    }
-    out
-}
-
 impl From<HostSettings> for Settings {
     ghost from_gives = { λ s r. r ≡ settings_from s };
 
     fn from(s: HostSettings) -> Settings {
-        Settings::fenced(s.ram_top, flags_of(s.flags), profile_of(s.profile))
+        Settings::fenced(
+            s.ram_top,
+            flags_of(s.flags),
+            s.profile.map(|g| Range::from(g)),
+        )
     }
 }
 
@@ -244,24 +237,13 @@ impl From<Write> for HostWrite {
     }
 }
 
-// A loop, as in `profile_of`.
-fn host_writes(list: [Write; 12]) -> [HostWrite; 12]
-    ensures { result ≡ map host_write list }
-{
-    let mut out = no_writes();
-    for i in 0..12 {
-        out[i] = HostWrite::from(list[i]);
-    }
-    out
-}
-
 impl From<Outcome> for HostOutcome {
     ghost from_gives = { λ o r. r ≡ host_outcome o };
 
     fn from(o: Outcome) -> HostOutcome {
         HostOutcome {
             twin: HostTwin::from(o.twin),
-            devices: host_writes(o.devices.list),
+            devices: o.devices.list.map(|w| HostWrite::from(w)),
             count: o.devices.count,
             reads: o.reads as u64,
             writes: o.writes as u64,
