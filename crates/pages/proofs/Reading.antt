@@ -39,6 +39,20 @@ empty page ks code t l h =
     in-bare (row_of page (code / 16)) (code % 16) (rw (not_in (code / 16) ks h) at (alike (λ (h : ℕ). cond (is_in h ks) true (bare (row_of page h))) (λ (h : ℕ). true) 16 t (code / 16) l))
     ∙ in_row page code
 
+abbrev pub is_none : Option Entry → Bool
+is_none None = true
+is_none (Some e) = false
+
+none-is : (o : Option Entry) → is_none o ≡ true → None ≡ o
+none-is None t = refl
+none-is (Some e) t = absurd (true≢false (sym t))
+
+-- the last arm of a match on the byte itself, where the others are the bytes ks: one test of all bytes shows that no other has an instruction
+pub elsewhere : (page : Page) (ks : List ℕ) (code : ℕ) → values (λ (n : ℕ). cond (is_in n ks) true (is_none (entry_of page n))) 0 256 ≡ values (λ (n : ℕ). true) 0 256 → code < 256 → NotIn code ks → None ≡ entry_of page code
+elsewhere page ks code t l h =
+    none-is (entry_of page code)
+    (rw (not_in code ks h) at (alike (λ (n : ℕ). cond (is_in n ks) true (is_none (entry_of page n))) (λ (n : ℕ). true) 256 t code l))
+
 -- one more value in a list that is filled from its start
 fill : {A : Type 0} (f : ℕ → A) (d : A) (i n k : ℕ) → set (values f i n ++ replicate (suc k) d) n (f (i + n)) ≡ values f i (suc n) ++ replicate k d
 fill f d i zero k = rw (add-zero i)

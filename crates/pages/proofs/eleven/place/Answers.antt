@@ -1,35 +1,50 @@
--- `place` reads the row of the high digit at the low one; the rows that the page does not have are empty.
+-- `place` tells the nine places of the page one by one; no other byte has an instruction.
 -- Assumes nothing.
 use borrow.Author.Rules.{rules}
 use mathlib.Core.List.{[], ◌∷◌}
 use mathlib.Core.Path.{refl}
 use native.Mathlib.Omega.{arith}
 use Rattle.opcodes.specs.Manual.{entry_of}
-use Rattle.opcodes.specs.Rows.{row_of}
 use Rattle.opcodes.specs.declared.Page.TheVariants.{Eleven}
-use Rattle.pages.proofs.Reading.{picked, empty}
+use Rattle.pages.proofs.Reading.{elsewhere}
 use Rattle.pages.proofs.eleven.place.Goals as goal
 
-pub returns-in-3 : goal.returns-in-3
-unfolding entry_of row_of
-returns-in-3 c = picked Eleven c.args.code c.at_digit.ensures c.row_3.ensures c.in-3.is
+pub returns-in-63 : goal.returns-in-63
+unfolding entry_of
+returns-in-63 c = rw (c.memory.ensures, c.in-63.is)
 
-pub returns-in-8 : goal.returns-in-8
-unfolding entry_of row_of
-returns-in-8 c = picked Eleven c.args.code c.at_digit-in-8.ensures c.row_8.ensures c.in-8.is
+pub returns-in-131 : goal.returns-in-131
+unfolding entry_of
+returns-in-131 c = rw (c.compare16.ensures, c.in-131.is)
 
-pub returns-in-9 : goal.returns-in-9
-unfolding entry_of row_of
-returns-in-9 c = picked Eleven c.args.code c.at_digit-in-9.ensures c.row_9.ensures c.in-9.is
+pub returns-in-140 : goal.returns-in-140
+unfolding entry_of
+returns-in-140 c = rw (c.compare16-in-140.ensures, c.in-140.is)
 
-pub returns-in-10 : goal.returns-in-10
-unfolding entry_of row_of
-returns-in-10 c = picked Eleven c.args.code c.at_digit-in-10.ensures c.row_a.ensures c.in-10.is
+pub returns-in-147 : goal.returns-in-147
+unfolding entry_of
+returns-in-147 c = rw (c.compare16-in-147.ensures, c.in-147.is)
 
-pub returns-in-11 : goal.returns-in-11
-unfolding entry_of row_of
-returns-in-11 c = picked Eleven c.args.code c.at_digit-in-11.ensures c.row_b.ensures c.in-11.is
+pub returns-in-156 : goal.returns-in-156
+unfolding entry_of
+returns-in-156 c = rw (c.compare16-in-156.ensures, c.in-156.is)
+
+pub returns-in-163 : goal.returns-in-163
+unfolding entry_of
+returns-in-163 c = rw (c.compare16-in-163.ensures, c.in-163.is)
+
+pub returns-in-172 : goal.returns-in-172
+unfolding entry_of
+returns-in-172 c = rw (c.compare16-in-172.ensures, c.in-172.is)
+
+pub returns-in-179 : goal.returns-in-179
+unfolding entry_of
+returns-in-179 c = rw (c.compare16-in-179.ensures, c.in-179.is)
+
+pub returns-in-188 : goal.returns-in-188
+unfolding entry_of
+returns-in-188 c = rw (c.compare16-in-188.ensures, c.in-188.is)
 
 pub returns-in_default : goal.returns-in_default
-unfolding entry_of row_of
-returns-in_default c = empty Eleven (0xB ∷ 0xA ∷ 0x9 ∷ 0x8 ∷ 0x3 ∷ []) c.args.code refl (omega arith) (search rules)
+unfolding entry_of
+returns-in_default c = elsewhere Eleven (0xBC ∷ 0xB3 ∷ 0xAC ∷ 0xA3 ∷ 0x9C ∷ 0x93 ∷ 0x8C ∷ 0x83 ∷ 0x3F ∷ []) c.args.code refl (omega arith) (search rules)
